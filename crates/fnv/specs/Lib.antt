@@ -1,0 +1,2 @@
+-- The checksum, FNV-1a 64.
+pub mod Fnv
