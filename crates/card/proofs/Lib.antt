@@ -1,0 +1,5 @@
+-- The laws of the card that those above cite.
+pub mod All
+pub mod Overlays
+pub mod Runs
+pub mod Cuts

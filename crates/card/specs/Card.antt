@@ -1,0 +1,63 @@
+-- "The card is two lent buffers: the settled bytes, N blocks; and the waiting writes, 34 places of 516 bytes, each a 4-byte
+-- address and a block, oldest first." The power count says how many orders still happen.
+use Prim.Native.Nat.{ℕ, _+_, _-_, _/_}
+use mathlib.Core.Bool.{cond}
+use mathlib.Core.List.{List, [], _∷_}
+use lib.Dec.{eqb}
+use lib.ListN.{length}
+use Rattle.cells.specs.Cell.{cell, setCell}
+use Rattle.cells.specs.Upto.{upTo}
+use Rattle.cells.specs.Entry.{blockBytes, Entry, entryAt, setEntry}
+use Rattle.card.specs.Disk.{Disk}
+
+-- the places of the queue
+abbrev pub places : ℕ
+places = 34
+
+pub record Card : Type 0 where
+  pub settled : List ℕ
+  pub waiting : List ℕ
+  pub count : ℕ
+  pub power : ℕ
+
+-- N: how many blocks the settled bytes hold
+abbrev pub blocksIn : List ℕ → ℕ
+blocksIn s = length s / blockBytes
+
+-- the block at an address
+abbrev pub blockAt : List ℕ → Disk
+blockAt s a = cell blockBytes s a
+
+-- the waiting writes, oldest first
+unfoldable pub queue : Card → List Entry
+queue c = upTo (entryAt (c .waiting)) (c .count)
+
+-- "Its orders: write adds one waiting write; flush settles all waiting writes, oldest first, and empties the queue."
+pub data Order : Type 0 where
+  write : Entry → Order
+  flush : Order
+
+-- settled bytes once the writes of a list have settled, in the list's order, whole
+unfoldable pub settle : List Entry → List ℕ → List ℕ
+settle [] s = s
+settle (e ∷ es) s = settle es (setCell blockBytes s (e .address) (e .block))
+
+-- an order that happens, "each taking 1" of the power. Waiting bytes beyond the count stay as they last were
+unfoldable pub order : Order → Card → Card
+order (write e) c = record { settled = c .settled; waiting = setEntry (c .waiting) (c .count) e; count = c .count + 1; power = c .power - 1 }
+order flush c = record { settled = settle (queue c) (c .settled); waiting = c .waiting; count = 0; power = c .power - 1 }
+
+-- orders given one after the other: "An order at count 0 doesn't happen"
+unfoldable pub run : List Order → Card → Card
+run [] c = c
+run (o ∷ os) c = cond (eqb (c .power) 0) c (run os (order o c))
+
+-- "one mark for each waiting write, 1 kept or 0 lost": the writes that are kept
+unfoldable pub kept : List ℕ → List Entry → List Entry
+kept [] es = []
+kept (m ∷ ms) [] = []
+kept (m ∷ ms) (e ∷ es) = cond (eqb m 1) (e ∷ kept ms es) (kept ms es)
+
+-- "Kept writes settle, oldest first, whole. The queue is emptied […] the power count stay[s]."
+unfoldable pub cut : List ℕ → Card → Card
+cut marks c = record { settled = settle (kept marks (queue c)) (c .settled); waiting = c .waiting; count = 0; power = c .power }
