@@ -1,0 +1,152 @@
+-- The laws of the descriptor's bytes, and of the log after an append.
+use Prim.Native.Nat.{ℕ, zero, suc, _+_, _*_, _-_, _≤_, _<_}
+use mathlib.Core.Path.{_≡_, refl, ap, ap₂, sym, _∙_}
+use mathlib.Core.List.{List, [], _∷_, _++_, append-assoc, append-nil}
+use native.Mathlib.Numerals.{add-one}
+use native.Mathlib.Omega.{arith}
+use lib.ListN.{length, getD, take, drop, replicate, length-append, length-drop, length-replicate}
+use lib.Seq.{sets, sets-eq, length-take-le, take-at, take-take, take-append-le, drop-drop, drop-append-le, drop-append-add, ext-getD}
+use Rattle.cells.specs.Cell.{cell}
+use Rattle.cells.specs.Cell.Laws.{cell-part, drop-take, sets-append}
+use Rattle.cells.specs.Little.{le, num}
+use Rattle.cells.specs.Little.Laws.{length-le, num-le}
+use Rattle.cells.specs.Upto.{upTo}
+use Rattle.cells.specs.Upto.Laws.{length-upTo, getD-upTo, ext-upTo}
+use Rattle.cells.specs.Entry.{blockBytes, Entry}
+use Rattle.cells.specs.Entry.Laws.{entry-eq}
+use Rattle.card.specs.Card.{blockAt}
+use Rattle.card.proofs.All.{All}
+use Rattle.card.proofs.Runs.{Short}
+use Rattle.journal.specs.Layout.{descriptorAt, slotAt}
+use Rattle.journal.specs.Log.{slotEntry, entries}
+use Rattle.journal.specs.Orders.{addressBytes, describe}
+use Rattle.journal.proofs.Logs.{slot-cells, entries-agree, entries-add}
+
+-- ---- addresses in a row
+
+pub length-addressBytes : (es : List Entry) → length (addressBytes es) ≡ 4 * length es
+unfolding addressBytes
+length-addressBytes [] = refl
+length-addressBytes (e ∷ es) = rw (length-append, length-le, length-addressBytes es) (omega arith)
+
+pub addressBytes-append : (a b : List Entry) → addressBytes (a ++ b) ≡ addressBytes a ++ addressBytes b
+unfolding addressBytes
+addressBytes-append [] b = refl
+addressBytes-append (e ∷ a) b =
+    ap (λ (l : List ℕ). le 4 (e .address) ++ l) (addressBytes-append a b) ∙ sym (append-assoc (le 4 (e .address)) (addressBytes a) (addressBytes b))
+
+-- one address more, stored behind i others
+pub addresses-more : (s : List ℕ) (at : ℕ) (f : ℕ → Entry) (i a : ℕ) → a ≡ f i .address
+    → sets (sets s at (addressBytes (upTo f i))) (at + 4 * i) (le 4 a) ≡ sets s at (addressBytes (upTo f (i + 1)))
+unfolding addressBytes
+addresses-more s at f i a e =
+    let size : length (addressBytes (upTo f i)) ≡ 4 * i = length-addressBytes (upTo f i) ∙ ap (λ (k : ℕ). 4 * k) (length-upTo f i) in
+    rw (add-one, addressBytes-append, append-nil, sets-append, size, e)
+
+pub length-describe : (old : List ℕ) (n : ℕ) (es : List Entry) → 4 * n ≤ length old → 4 * (n + length es) ≤ blockBytes
+    → length (describe old n es) ≡ blockBytes
+unfolding describe
+length-describe old n es h k =
+    rw (length-append, length-append, length-take-le (4 * n) old h, length-addressBytes, length-replicate) (omega arith)
+
+drop-zeros : (k n : ℕ) → drop k (replicate {A = ℕ} n 0) ≡ replicate (n - k) 0
+drop-zeros zero n = let e : n - 0 ≡ n = omega arith in rw e
+drop-zeros (suc k) zero = let e : 0 - suc k ≡ 0 = omega arith in rw e
+drop-zeros (suc k) (suc n) = let e : suc n - suc k ≡ n - k = omega arith in rw e (drop-zeros k n)
+
+-- the old addresses copied into zeros, and the new ones stored behind them
+pub described : (old z : List ℕ) (n : ℕ) (es : List Entry) → 4 * n ≤ length old → z ≡ replicate blockBytes 0 → 4 * (n + length es) ≤ blockBytes
+    → sets (take (4 * n) old ++ drop (4 * n) z) (4 * n) (addressBytes es) ≡ describe old n es
+unfolding describe
+described old z n es h zeros k =
+    rw (sets-eq (addressBytes es) (take (4 * n) old ++ drop (4 * n) z) (4 * n) room, take-at (take (4 * n) old) (drop (4 * n) z) (4 * n) front, append-assoc, new)
+    (ap (λ (r : List ℕ). take (4 * n) old ++ (addressBytes es ++ r)) behind)
+  where
+    front : length (take (4 * n) old) ≡ 4 * n
+    front = length-take-le (4 * n) old h
+
+    new : length (addressBytes es) ≡ 4 * length es
+    new = length-addressBytes es
+
+    room : 4 * n + length (addressBytes es) ≤ length (take (4 * n) old ++ drop (4 * n) z)
+    room = let size : length z ≡ blockBytes = ap length zeros in rw (length-append, length-drop, front, new) (omega arith)
+
+    behind : drop (4 * n + 4 * length es) (take (4 * n) old ++ drop (4 * n) z) ≡ replicate (blockBytes - 4 * (n + length es)) 0
+    behind =
+        let sum : 4 * n + 4 * length es ≡ 4 * (n + length es) = omega arith in
+        ap (λ (i : ℕ). drop (i + 4 * length es) (take (4 * n) old ++ drop (4 * n) z)) (sym front)
+        ∙ drop-append-add (take (4 * n) old) (drop (4 * n) z) (4 * length es)
+        ∙ drop-drop (4 * length es) (4 * n) z
+        ∙ rw (zeros, sum, drop-zeros)
+
+-- ---- read back
+
+-- the addresses of the old list stand as they did
+pub describe-old : (old : List ℕ) (n : ℕ) (es : List Entry) (i : ℕ) → 4 * n ≤ length old → i < n → cell 4 (describe old n es) i ≡ cell 4 old i
+unfolding describe
+describe-old old n es i h k =
+    let front : length (take (4 * n) old) ≡ 4 * n = length-take-le (4 * n) old h in
+    let split : 4 * i + (4 * n - 4 * i) ≡ 4 * n = omega arith in
+    let parts : drop (4 * i) (take (4 * n) old) ≡ take (4 * n - 4 * i) (drop (4 * i) old) =
+    ap (λ (x : ℕ). drop (4 * i) (take x old)) (sym split) ∙ drop-take (4 * i) (4 * n - 4 * i) old in
+    let room : 4 ≤ length (drop (4 * i) (take (4 * n) old)) = rw (length-drop) (omega arith) in
+    cell-part 4 (describe old n es) i
+    ∙ ap (take 4) (drop-append-le (4 * i) (take (4 * n) old) (addressBytes es ++ replicate (blockBytes - 4 * (n + length es)) 0) (omega arith))
+    ∙ take-append-le 4 (drop (4 * i) (take (4 * n) old)) (addressBytes es ++ replicate (blockBytes - 4 * (n + length es)) 0) room
+    ∙ ap (take 4) parts
+    ∙ take-take 4 (4 * n - 4 * i) (drop (4 * i) old) (omega arith)
+    ∙ sym (cell-part 4 old i)
+
+address-at : (es : List Entry) (i : ℕ) (d : Entry) (rest : List ℕ) → i < length es
+    → take 4 (drop (4 * i) (addressBytes es ++ rest)) ≡ le 4 (getD es i d .address)
+unfolding addressBytes
+address-at (e ∷ es) zero d rest h =
+    rw (append-assoc (le 4 (e .address)) (addressBytes es) rest) (take-at (le 4 (e .address)) (addressBytes es ++ rest) 4 (length-le 4 (e .address)))
+address-at (e ∷ es) (suc i) d rest h =
+    let four : 4 * suc i ≡ 4 + 4 * i = omega arith in
+    rw (four, append-assoc (le 4 (e .address)) (addressBytes es) rest)
+    (ap (take 4) (ap (λ (k : ℕ). drop (k + 4 * i) (le 4 (e .address) ++ (addressBytes es ++ rest))) (sym (length-le 4 (e .address))) ∙ drop-append-add (le 4 (e .address)) (addressBytes es ++ rest) (4 * i))
+    ∙ address-at es i d rest (omega arith))
+
+-- and the new ones behind them
+pub describe-new : (old : List ℕ) (n : ℕ) (es : List Entry) (i : ℕ) (d : Entry) → 4 * n ≤ length old → i < length es
+    → cell 4 (describe old n es) (n + i) ≡ le 4 (getD es i d .address)
+unfolding describe
+describe-new old n es i d h k =
+    let rest : List ℕ = replicate (blockBytes - 4 * (n + length es)) 0 in
+    let front : length (take (4 * n) old) ≡ 4 * n = length-take-le (4 * n) old h in
+    let place : 4 * (n + i) ≡ length (take (4 * n) old) + 4 * i = omega arith in
+    cell-part 4 (describe old n es) (n + i)
+    ∙ ap (λ (x : ℕ). take 4 (drop x (describe old n es))) place
+    ∙ ap (take 4) (drop-append-add (take (4 * n) old) (addressBytes es ++ rest) (4 * i))
+    ∙ address-at es i d rest k
+
+-- ---- the log after an append
+
+all-getD : (P : Entry → Type 0) (es : List Entry) (i : ℕ) (d : Entry) → All P es → i < length es → P (getD es i d)
+all-getD P (e ∷ es) zero d h k = h .0
+all-getD P (e ∷ es) (suc i) d h k = all-getD P es i d (h .1) (omega arith)
+
+upTo-getD : (es : List Entry) (d : Entry) → upTo (λ i. getD es i d) (length es) ≡ es
+upTo-getD es d =
+    let size : length (upTo (λ i. getD es i d) (length es)) ≡ length es = length-upTo (λ i. getD es i d) (length es) in
+    ext-getD d (upTo (λ i. getD es i d) (length es)) es size (λ i p. getD-upTo (λ i. getD es i d) (length es) i d (omega arith))
+
+-- on a card t that has the new descriptor, the old slots of s and the new blocks, the log is that of s, then es
+pub entries-append : (s t : List ℕ) (n : ℕ) (es : List Entry) (d : Entry) → 4 * n ≤ length (blockAt s descriptorAt) → All Short es
+    → blockAt t descriptorAt ≡ describe (blockAt s descriptorAt) n es
+    → ((i : ℕ) → i < n → blockAt t (slotAt i) ≡ blockAt s (slotAt i))
+    → ((i : ℕ) → i < length es → blockAt t (slotAt (n + i)) ≡ getD es i d .block)
+    → entries t (n + length es) ≡ entries s n ++ es
+entries-append s t n es d h short told old new =
+    entries-add t n (length es)
+    ∙ ap₂ (λ (a b : List Entry). a ++ b)
+    (entries-agree t s n (λ i p. ap (λ (b : List ℕ). cell 4 b i) told ∙ describe-old (blockAt s descriptorAt) n es i h p) old)
+    (ext-upTo (λ i. slotEntry t (n + i)) (λ i. getD es i d) (length es) each ∙ upTo-getD es d)
+  where
+    each : (i : ℕ) → i < length es → slotEntry t (n + i) ≡ getD es i d
+    each i p =
+        slot-cells t (n + i)
+        ∙ entry-eq
+        (ap (λ (b : List ℕ). num (cell 4 b (n + i))) told ∙ ap num (describe-new (blockAt s descriptorAt) n es i d h p) ∙ num-le 4 (getD es i d .address) (all-getD Short es i d short p))
+        (new i p)

@@ -1,0 +1,127 @@
+-- The laws of the header's bytes.
+use Prim.Native.Nat.{ℕ, zero, suc, _+_, _^_, _≤_, _<_}
+use mathlib.Core.Path.{_≡_, ap, sym, _∙_}
+use mathlib.Core.List.{List, [], _∷_, _++_, append-assoc}
+use lib.Dec.{lit<, lit≤}
+use lib.ListN.{length, take, drop, replicate, length-append, length-replicate}
+use lib.Seq.{sets, sets-eq, take-at, drop-append-add}
+use Rattle.cells.specs.Cell.Laws.{sets-append}
+use Rattle.cells.specs.Little.{le, num, Bytes}
+use Rattle.cells.specs.Little.Laws.{length-le, num-le, bytes-le}
+use Rattle.cells.specs.Entry.{blockBytes}
+use Rattle.journal.specs.declared.header.Header.{Header}
+use Rattle.journal.specs.Header.{encode, decode, header}
+
+pub length-encode : (h : Header) → length (encode h) ≡ blockBytes
+unfolding encode
+length-encode h = simp (length-append, length-le, length-replicate)
+
+-- ---- what is written is read
+
+-- the number that stands in front
+front : (w v : ℕ) (rest : List ℕ) → v < 256 ^ w → num (take w (le w v ++ rest)) ≡ v
+front w v rest h = ap num (take-at (le w v) rest w (length-le w v)) ∙ num-le w v h
+
+-- what lies behind it
+behind : (w v : ℕ) (rest : List ℕ) (at : ℕ) → drop (w + at) (le w v ++ rest) ≡ drop at rest
+behind w v rest at = ap (λ (k : ℕ). drop (k + at) (le w v ++ rest)) (sym (length-le w v)) ∙ drop-append-add (le w v) rest at
+
+-- the numbers of a header fit their bytes
+pub record Fitting (h : Header) : Type 0 where
+  pub format : h .format < 2 ^ 32
+  pub blocks : h .blocks < 2 ^ 32
+  pub previous : h .previous < 2 ^ 32
+  pub count : h .count < 2 ^ 32
+  pub presum : h .presum < 2 ^ 64
+  pub sum : h .sum < 2 ^ 64
+
+pub fitting : (N p ps n ns : ℕ) → N < 2 ^ 32 → p < 2 ^ 32 → ps < 2 ^ 64 → n < 2 ^ 32 → ns < 2 ^ 64 → Fitting (header N p ps n ns)
+fitting N p ps n ns a b c d e = record { format = lit< tt; blocks = a; previous = b; count = d; presum = c; sum = e }
+
+-- the number behind four more bytes
+next : (v at w : ℕ) (rest : List ℕ) {x : ℕ} → num (take w (drop at rest)) ≡ x → num (take w (drop (4 + at) (le 4 v ++ rest))) ≡ x
+next v at w rest e = ap (λ (l : List ℕ). num (take w l)) (behind 4 v rest at) ∙ e
+
+pub decode-encode : (h : Header) → Fitting h → decode (encode h) ≡ h
+unfolding decode encode
+decode-encode h f = λ j. record {
+  format = format j;
+  blocks = blocks j;
+  previous = previous j;
+  count = count j;
+  presum = presum j;
+  sum = sum j;
+}
+  where
+    format : num (take 4 (encode h)) ≡ h .format
+    format = front 4 (h .format) _ (f .format)
+
+    blocks : num (take 4 (drop 4 (encode h))) ≡ h .blocks
+    blocks = next (h .format) 0 4 _ (front 4 (h .blocks) _ (f .blocks))
+
+    previous : num (take 4 (drop 8 (encode h))) ≡ h .previous
+    previous = next (h .format) 4 4 _ (next (h .blocks) 0 4 _ (front 4 (h .previous) _ (f .previous)))
+
+    count : num (take 4 (drop 12 (encode h))) ≡ h .count
+    count = next (h .format) 8 4 _ (next (h .blocks) 4 4 _ (next (h .previous) 0 4 _ (front 4 (h .count) _ (f .count))))
+
+    presum : num (take 8 (drop 16 (encode h))) ≡ h .presum
+    presum = next (h .format) 12 8 _ (next (h .blocks) 8 8 _ (next (h .previous) 4 8 _ (next (h .count) 0 8 _ (front 8 (h .presum) _ (f .presum)))))
+
+    sum : num (take 8 (drop 24 (encode h))) ≡ h .sum
+    sum =
+        next (h .format) 20 8 _ (next (h .blocks) 16 8 _ (next (h .previous) 12 8 _ (next (h .count) 8 8 _
+        (ap (λ (l : List ℕ). num (take 8 l)) (behind 8 (h .presum) _ 0) ∙ front 8 (h .sum) _ (f .sum)))))
+
+-- ---- stored number by number, in a block of zeros
+
+regroup : (a b c d e f g : List ℕ) → (a ++ (b ++ (c ++ (d ++ (e ++ f))))) ++ g ≡ a ++ (b ++ (c ++ (d ++ (e ++ (f ++ g)))))
+regroup a b c d e f g = simp append-assoc
+
+pub filled : (h : Header) (z : List ℕ) → length z ≡ blockBytes → drop 32 z ≡ replicate 480 0
+    → sets (sets (sets (sets (sets (sets z 0 (le 4 (h .format))) 4 (le 4 (h .blocks))) 8 (le 4 (h .previous))) 12 (le 4 (h .count))) 16 (le 8 (h .presum))) 24 (le 8 (h .sum))
+    ≡ encode h
+unfolding encode
+filled h z l e =
+    sym in-turn ∙ sets-eq numbers z 0 room ∙ ap (λ (k : ℕ). numbers ++ drop (0 + k) z) size ∙ ap (λ (r : List ℕ). numbers ++ r) e
+    ∙ regroup (le 4 (h .format)) (le 4 (h .blocks)) (le 4 (h .previous)) (le 4 (h .count)) (le 8 (h .presum)) (le 8 (h .sum)) (replicate 480 0)
+  where
+    numbers : List ℕ
+    numbers = le 4 (h .format) ++ (le 4 (h .blocks) ++ (le 4 (h .previous) ++ (le 4 (h .count) ++ (le 8 (h .presum) ++ le 8 (h .sum)))))
+
+    size : length numbers ≡ 32
+    size = simp (length-append, length-le)
+
+    room : 0 + length numbers ≤ length z
+    room = rw (size, l) (lit≤ tt)
+
+    in-turn : sets z 0 numbers
+        ≡ sets (sets (sets (sets (sets (sets z 0 (le 4 (h .format))) 4 (le 4 (h .blocks))) 8 (le 4 (h .previous))) 12 (le 4 (h .count))) 16 (le 8 (h .presum))) 24 (le 8 (h .sum))
+    in-turn = simp (sets-append, length-le)
+
+-- ---- bytes
+
+bytes-append : (a b : List ℕ) → Bytes a → Bytes b → Bytes (a ++ b)
+bytes-append [] b p q i = q i
+bytes-append (x ∷ a) b p q zero = p zero
+bytes-append (x ∷ a) b p q (suc i) = bytes-append a b (λ j. p (suc j)) q i
+
+bytes-zeros : (n : ℕ) → Bytes (replicate n 0)
+bytes-zeros zero i = lit< tt
+bytes-zeros (suc n) zero = lit< tt
+bytes-zeros (suc n) (suc i) = bytes-zeros n i
+
+bytes-number : (w v : ℕ) (rest : List ℕ) → Bytes rest → Bytes (le w v ++ rest)
+bytes-number w v rest h = bytes-append (le w v) rest (bytes-le w v) h
+
+pub bytes-encode : (h : Header) → Bytes (encode h)
+unfolding encode
+bytes-encode h =
+    let z : List ℕ = replicate 480 0 in
+    let n : List ℕ = le 8 (h .sum) ++ z in
+    let p : List ℕ = le 8 (h .presum) ++ n in
+    let c : List ℕ = le 4 (h .count) ++ p in
+    let d : List ℕ = le 4 (h .previous) ++ c in
+    let b : List ℕ = le 4 (h .blocks) ++ d in
+    bytes-number 4 (h .format) b (bytes-number 4 (h .blocks) d (bytes-number 4 (h .previous) c
+    (bytes-number 4 (h .count) p (bytes-number 8 (h .presum) n (bytes-number 8 (h .sum) z (bytes-zeros 480))))))

@@ -1,0 +1,9 @@
+-- The laws of the journal that those above cite.
+pub mod Headers
+pub mod Logs
+pub mod Lookups
+pub mod Descriptors
+pub mod OrderLists
+pub mod Choices
+pub mod Phases
+pub mod Cases

@@ -1,0 +1,186 @@
+-- The laws of the log's entries, their sum and the tests on them.
+use Prim.Native.Nat.{ℕ, zero, suc, _+_, _*_, _-_, _^_, _≤_, _<_}
+use mathlib.Core.Path.{_≡_, refl, ap, sym, _∙_}
+use mathlib.Core.Bool.{Bool, true, false, _&&_, and-true, and-false, false≢true}
+use mathlib.Core.Logic.{_≢_}
+use mathlib.Core.List.{List, [], _∷_, _++_, append-nil}
+use native.Mathlib.Numerals.{add-one}
+use native.Mathlib.Omega.{arith}
+use borrow.Author.Tests.{eq-eqb, ne-eqb, eqb-true, le-leb, leb-true, lt-ltb, ltb-true}
+use denote.Ref.{RefT}
+use lib.Dec.{eqb}
+use lib.ListN.{length, drop-of-length-le}
+use lib.Seq.{sets, sets-eq}
+use Rattle.cells.specs.Cell.{cell}
+use Rattle.cells.specs.Cell.Laws.{cell-part, length-cell, bytes-cell}
+use Rattle.cells.specs.Little.{le, num, Bytes}
+use Rattle.cells.specs.Little.Laws.{num-lt}
+use Rattle.cells.specs.Upto.{upTo}
+use Rattle.cells.specs.Upto.Laws.{length-upTo, ext-upTo, upTo-add}
+use Rattle.cells.specs.Entry.{blockBytes, entryBytes, Entry, toBytes, flat, entryAt}
+use Rattle.cells.specs.Entry.Laws.{entry-eq, length-block, block-part, flat-nil, flat-one, flat-append}
+use Rattle.cells.specs.Part.{View, viewOf, partOf}
+use Rattle.fnv.specs.Fnv.{start, sumFrom}
+use Rattle.fnv.proofs.Laws.{sumFrom-nil, sumFrom-append, sumFrom-lt}
+use Rattle.card.specs.Card.{blockAt, blocksIn}
+use Rattle.card.proofs.All.{All, all-upTo}
+use Rattle.card.proofs.Runs.{Whole, Short}
+use Rattle.journal.specs.Layout.{slotAt, descriptorAt, firstData, slots, isData}
+use Rattle.journal.specs.Log.{slotAddress, slotEntry, entries, entriesFrom, sumOf, allData, good}
+
+-- ---- tests
+
+pub both : (a b : Bool) → a && b ≡ true → (a ≡ true) × (b ≡ true)
+both true true e = (refl, refl)
+both true false e = (refl, e)
+both false b e = absurd (false≢true e)
+
+-- ---- blocks
+
+pub length-blockAt : (s : List ℕ) (a : ℕ) → a < blocksIn s → length (blockAt s a) ≡ blockBytes
+length-blockAt s a h = length-cell blockBytes s a (omega arith)
+
+-- a block that is read where it lies
+pub block-read : (r s : RefT (List ℕ)) (a : ℕ) → viewOf r ≡ partOf s (blockBytes * a) blockBytes → r .now ≡ blockAt (s .now) a
+block-read r s a e = ap (λ (v : View). v .bytes) e ∙ sym (cell-part blockBytes (s .now) a)
+
+-- the block of an entry, read where it lies
+pub listed-block : (r s : RefT (List ℕ)) (i : ℕ) → viewOf r ≡ partOf s (entryBytes * i + 4) blockBytes → r .now ≡ entryAt (s .now) i .block
+listed-block r s i e = ap (λ (v : View). v .bytes) e ∙ sym (block-part (s .now) i)
+
+-- m entries in memory that there is room for are whole
+pub length-from : (work : List ℕ) (from m : ℕ) → length (entriesFrom work from m) ≡ m
+length-from work from m = length-upTo (λ i. entryAt work (from + i)) m
+
+pub from-whole : (work : List ℕ) (from m : ℕ) → entryBytes * (from + m) ≤ length work → All Whole (entriesFrom work from m)
+from-whole work from m h = all-upTo Whole (λ i. entryAt work (from + i)) m (λ i p. length-block work (from + i) (omega arith))
+
+-- bytes stored over all of a run
+pub sets-whole : (v l : List ℕ) → length v ≡ length l → sets l 0 v ≡ v
+sets-whole v l e =
+    let past : length l ≤ 0 + length v = omega arith in
+    sets-eq v l 0 (omega arith) ∙ ap (λ (r : List ℕ). v ++ r) (drop-of-length-le l past) ∙ append-nil v
+
+-- ---- sums
+
+pub sumOf-nil : (h : ℕ) → sumOf h [] ≡ h
+sumOf-nil h = rw (flat-nil) (sumFrom-nil h)
+
+pub sumOf-append : (h : ℕ) (a b : List Entry) → sumOf h (a ++ b) ≡ sumOf (sumOf h a) b
+sumOf-append h a b = rw (flat-append) (sumFrom-append h (flat a) (flat b))
+
+pub sumOf-one : (h : ℕ) (e : Entry) → sumOf h (e ∷ []) ≡ sumFrom (sumFrom h (le 4 (e .address))) (e .block)
+unfolding toBytes
+sumOf-one h e = rw (flat-one) (sumFrom-append h (le 4 (e .address)) (e .block))
+
+pub sumOf-lt : (h : ℕ) (es : List Entry) → h < 2 ^ 64 → sumOf h es < 2 ^ 64
+sumOf-lt h es l = sumFrom-lt h (flat es) l
+
+-- ---- a list of data blocks
+
+pub data-bounds : (N a : ℕ) → isData N a ≡ true → (firstData ≤ a) × (a < N)
+data-bounds N a e = let p = both _ _ e in (leb-true firstData a (p .0), ltb-true a N (p .1))
+
+pub bounds-data : (N a : ℕ) → firstData ≤ a → a < N → isData N a ≡ true
+bounds-data N a h k = rw (le-leb firstData a h, lt-ltb a N k)
+
+pub allData-all : (N : ℕ) (es : List Entry) → allData N es ≡ true → All (λ e. isData N (e .address) ≡ true) es
+unfolding allData
+allData-all N [] h = tt
+allData-all N (e ∷ es) h = let p = both _ _ h in (p .0, allData-all N es (p .1))
+
+pub all-allData : (N : ℕ) (es : List Entry) → All (λ e. isData N (e .address) ≡ true) es → allData N es ≡ true
+unfolding allData
+all-allData N [] h = refl
+all-allData N (e ∷ es) h = rw (h .0, all-allData N es (h .1))
+
+-- what makes a list good
+pub good-sum : (N : ℕ) (es : List Entry) (sum : ℕ) → good N es sum ≡ true → sumOf start es ≡ sum
+good-sum N es sum h = eqb-true _ _ (both (eqb (sumOf start es) sum) (allData N es) h .0)
+
+pub good-data : (N : ℕ) (es : List Entry) (sum : ℕ) → good N es sum ≡ true → allData N es ≡ true
+good-data N es sum h = both (eqb (sumOf start es) sum) (allData N es) h .1
+
+pub sum-good : (N : ℕ) (es : List Entry) (sum : ℕ) → sumOf start es ≡ sum → allData N es ≡ true → good N es sum ≡ true
+sum-good N es sum p q = rw (eq-eqb (sumOf start es) sum p, q)
+
+-- another sum
+pub sum-bad : (N : ℕ) (es : List Entry) (sum : ℕ) → sumOf start es ≢ sum → good N es sum ≡ false
+sum-bad N es sum p = rw (ne-eqb (sumOf start es) sum p)
+
+pub allData-append : (N : ℕ) (a b : List Entry) → allData N (a ++ b) ≡ allData N a && allData N b
+unfolding allData
+allData-append N [] b = refl
+allData-append N (e ∷ a) b = go (isData N (e .address)) (allData-append N a b)
+  where
+    go : (t : Bool) → allData N (a ++ b) ≡ allData N a && allData N b → t && allData N (a ++ b) ≡ (t && allData N a) && allData N b
+    go true k = k
+    go false k = refl
+
+-- ---- entry by entry
+
+-- an entry with the slot's address and its block
+pub slot-entry : (s : List ℕ) (i : ℕ) (e : Entry) → e .address ≡ slotAddress s i → e .block ≡ blockAt s (slotAt i) → e ≡ slotEntry s i
+unfolding slotEntry
+slot-entry s i e p q = entry-eq p q
+
+pub slot-cells : (s : List ℕ) (i : ℕ) → slotEntry s i ≡ record { address = num (cell 4 (blockAt s descriptorAt) i); block = blockAt s (slotAt i) }
+unfolding slotEntry slotAddress
+slot-cells s i = refl
+
+-- cards that agree on n addresses and n slots have the same first n entries
+pub entries-agree : (s t : List ℕ) (n : ℕ)
+    → ((i : ℕ) → i < n → cell 4 (blockAt s descriptorAt) i ≡ cell 4 (blockAt t descriptorAt) i)
+    → ((i : ℕ) → i < n → blockAt s (slotAt i) ≡ blockAt t (slotAt i))
+    → entries s n ≡ entries t n
+unfolding slotEntry slotAddress
+entries-agree s t n p q = ext-upTo (slotEntry s) (slotEntry t) n (λ i h. entry-eq (ap num (p i h)) (q i h))
+
+-- one list of entries: the first n, then m more
+pub entries-add : (s : List ℕ) (n m : ℕ) → entries s (n + m) ≡ entries s n ++ upTo (λ i. slotEntry s (n + i)) m
+entries-add s n m = upTo-add (slotEntry s) n m
+
+pub length-entries : (s : List ℕ) (n : ℕ) → length (entries s n) ≡ n
+length-entries s n = length-upTo (slotEntry s) n
+
+-- the sum goes on over the next entry
+pub sum-more : (f : ℕ → Entry) (h i g : ℕ) (e : Entry) → g ≡ sumOf h (upTo f i) → e ≡ f i → sumOf g (e ∷ []) ≡ sumOf h (upTo f (i + 1))
+sum-more f h i g e p q = rw (add-one, p, q) (sym (sumOf-append h (upTo f i) (f i ∷ [])))
+
+-- the last of n addresses, then those before it
+data-down : (N : ℕ) (s : List ℕ) (n : ℕ) → 0 < n → allData N (entries s n) ≡ allData N (entries s (n - 1)) && isData N (slotAddress s (n - 1))
+unfolding allData slotEntry
+data-down N s zero h = absurd (omega arith)
+data-down N s (suc n) h =
+    let e : suc n - 1 ≡ n = omega arith in
+    rw e
+    (allData-append N (entries s n) (slotEntry s n ∷ [])
+    ∙ ap (λ (t : Bool). allData N (entries s n) && t) (and-true (isData N (slotAddress s n))))
+
+pub data-stop : (N : ℕ) (s : List ℕ) (n : ℕ) → 0 < n → isData N (slotAddress s (n - 1)) ≡ false → allData N (entries s n) ≡ false
+data-stop N s n h e = data-down N s n h ∙ rw (e, and-false)
+
+pub data-on : (N : ℕ) (s : List ℕ) (n : ℕ) → 0 < n → isData N (slotAddress s (n - 1)) ≡ true → allData N (entries s n) ≡ allData N (entries s (n - 1))
+data-on N s n h e = data-down N s n h ∙ rw (e, and-true)
+
+-- ---- what the log holds is whole, and its addresses fit four bytes
+
+pub entries-whole : (s : List ℕ) (n : ℕ) → firstData < blocksIn s → n ≤ slots → All Whole (entries s n)
+unfolding slotEntry
+entries-whole s n h k = all-upTo Whole (slotEntry s) n (λ i p. length-blockAt s (slotAt i) (omega arith))
+
+pub slotAddress-lt : (s : List ℕ) (i : ℕ) → Bytes s → firstData < blocksIn s → i < slots → slotAddress s i < 2 ^ 32
+unfolding slotAddress
+slotAddress-lt s i b h k =
+    let whole : length (blockAt s descriptorAt) ≡ blockBytes = length-blockAt s descriptorAt (omega arith) in
+    let four : length (cell 4 (blockAt s descriptorAt) i) ≡ 4 = length-cell 4 (blockAt s descriptorAt) i (omega arith) in
+    let small : num (cell 4 (blockAt s descriptorAt) i) < 256 ^ length (cell 4 (blockAt s descriptorAt) i) =
+    num-lt (cell 4 (blockAt s descriptorAt) i) (bytes-cell 4 (blockAt s descriptorAt) i (bytes-cell blockBytes s descriptorAt b)) in
+    rw four at small
+
+pub entries-below : (X : ℕ) (s : List ℕ) (n : ℕ) → ((i : ℕ) → i < n → slotAddress s i < X) → All (λ e. e .address < X) (entries s n)
+unfolding slotEntry
+entries-below X s n h = all-upTo (λ e. e .address < X) (slotEntry s) n h
+
+pub entries-short : (s : List ℕ) (n : ℕ) → Bytes s → firstData < blocksIn s → n ≤ slots → All Short (entries s n)
+entries-short s n b h k = entries-below (2 ^ 32) s n (λ i p. slotAddress-lt s i b h (omega arith))

@@ -1,0 +1,24 @@
+-- `journal::choice::is_foreign` meets its contract.
+use mathlib.Core.Path.{sym}
+use borrow.Author.Tests.{eq-eqb, ne-eqb, le-leb, lt-leb}
+use Rattle.journal.proofs.Choices.{not-leb}
+use Rattle.journal.proofs.choice.is_foreign.Statement.{statement}
+use Rattle.journal.proofs.choice.is_foreign.Tie as tie
+
+returns : tie.Need-returns
+returns c = rw (ne-eqb _ _ (c .if1 .taken))
+
+returns-2 : tie.Need-returns-2
+returns-2 c = rw (eq-eqb _ _ (c .before .before .if1 .left), ne-eqb _ _ (c .if2 .taken))
+
+returns-3 : tie.Need-returns-3
+returns-3 c = rw (eq-eqb _ _ (c .before .before .before .before .if1 .left), eq-eqb _ _ (c .before .before .if2 .left), lt-leb _ _ (c .if3 .taken))
+
+returns-4 : tie.Need-returns-4
+returns-4 c =
+    let h = c .before .before .before .before .before .before .before .args .h in
+    rw (eq-eqb _ _ (c .before .before .before .before .before .if1 .left), eq-eqb _ _ (c .before .before .before .if2 .left), le-leb _ _ (c .before .if3 .left))
+    (sym (not-leb (h .previous) (h .count)))
+
+pub is-foreign-spec : {M : Type 1} → statement M
+is-foreign-spec = tie.close (tie.spec returns returns-2 returns-3 returns-4)

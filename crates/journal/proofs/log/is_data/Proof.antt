@@ -1,0 +1,13 @@
+-- `journal::log::is_data` meets its contract.
+use borrow.Author.Tests.{le-leb, lt-leb}
+use Rattle.journal.proofs.log.is_data.Statement.{statement}
+use Rattle.journal.proofs.log.is_data.Tie as tie
+
+returns : tie.Need-returns
+returns c = rw (le-leb _ _ (c .if1 .taken))
+
+returns-2 : tie.Need-returns-2
+returns-2 c = rw (lt-leb _ _ (c .if1 .left))
+
+pub is-data-spec : {M : Type 1} → statement M
+is-data-spec = tie.close (tie.spec returns returns-2)

@@ -1,0 +1,30 @@
+-- "Layout": the numbers of the geometry, each named here and nowhere else.
+use Prim.Native.Nat.{ℕ, _+_, _*_}
+use mathlib.Core.Bool.{Bool, _&&_}
+use lib.Dec.{leb, ltb}
+use Rattle.cells.specs.Entry.{blockBytes}
+
+-- "Block 0 is the header […] Block 1 is the descriptor: slot i (0 to 31)"
+abbrev pub headerAt : ℕ
+headerAt = 0
+
+abbrev pub descriptorAt : ℕ
+descriptorAt = 1
+
+abbrev pub slots : ℕ
+slots = 32
+
+-- "Block 2+i holds slot i's block."
+abbrev pub slotAt : ℕ → ℕ
+slotAt i = 2 + i
+
+-- "Data blocks are addresses 34 to N−1."
+abbrev pub firstData : ℕ
+firstData = slotAt slots
+
+abbrev pub isData : ℕ → ℕ → Bool
+isData N a = leb firstData a && ltb a N
+
+-- where a block starts, in bytes
+abbrev pub placeOf : ℕ → ℕ
+placeOf a = blockBytes * a

@@ -1,0 +1,8 @@
+-- The journal: layout, header, log, the orders that write it, the choice of recovery.
+pub mod Layout
+pub mod Header
+pub mod Log
+pub mod Orders
+pub mod Lookup
+pub mod Choice
+pub mod Cases

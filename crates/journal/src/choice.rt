@@ -1,0 +1,54 @@
+// The choice of recovery, and of whoever reads a card as recover does.
+use crate::HEADER_AT;
+use crate::SLOTS;
+use crate::header::FORMAT;
+use crate::header::Header;
+use crate::log::good;
+use card::settled::read;
+ghost use mathlib.Core.Path.{_≡_};
+ghost use Prim.Native.Nat.{_<_};
+ghost use Rattle.card.specs.Card.{blocksIn};
+ghost use Rattle.journal.specs.Layout.{firstData};
+ghost use Rattle.journal.specs.Choice as Spec;
+
+// The list that a recovery takes: its count and its sum.
+pub enum Choice {
+    Whole(u32, u64),
+    Fallback(u32, u64),
+    Foreign,
+    Neither,
+}
+
+// Whether a header is of another format or another card, or its counts are out of bounds.
+pub fn is_foreign(h: Header, blocks: u32) -> bool
+    ensures { λ r. ⌜ r ≡ Spec.foreign blocks h ⌝ }
+{
+    if h.format != FORMAT {
+        return true;
+    }
+    if h.blocks != blocks {
+        return true;
+    }
+    if SLOTS < h.count {
+        return true;
+    }
+    h.count < h.previous
+}
+
+// The first n entries if they are good, else the first p if they are. Each list is checked whole before it is taken.
+pub fn choose(settled: &[u8], blocks: u32) -> Choice
+    requires { ⌜ firstData < blocksIn (now settled) ⌝ }
+    ensures { λ r. ⌜ r ≡ Spec.choose blocks (now (settled .entry)) ⌝ }
+{
+    let h = Header::read(read(settled, HEADER_AT));
+    if is_foreign(h, blocks) {
+        return Choice::Foreign;
+    }
+    if good(settled, blocks, h.count, h.sum) {
+        return Choice::Whole(h.count, h.sum);
+    }
+    if good(settled, blocks, h.previous, h.presum) {
+        return Choice::Fallback(h.previous, h.presum);
+    }
+    Choice::Neither
+}

@@ -1,0 +1,19 @@
+// The checksummed write-ahead log on the card.
+pub mod append;
+pub mod checkpoint;
+pub mod choice;
+pub mod header;
+pub mod log;
+pub mod lookup;
+
+// Block 0 is the header, block 1 the descriptor, block 2 + i holds slot i's block.
+pub const HEADER_AT: u32 = 0;
+
+pub const DESCRIPTOR_AT: u32 = 1;
+
+pub const FIRST_SLOT: u32 = 2;
+
+pub const SLOTS: u32 = 32;
+
+// Data blocks start behind the slots.
+pub const FIRST_DATA: u32 = 34;
