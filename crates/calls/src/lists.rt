@@ -1,0 +1,40 @@
+// Cause 2, read when open: listed addresses, and an address twice. An entry that was never written has address 0.
+use crate::say;
+use store::record::Record;
+
+fn open_at(name: &[u8], address: u8, r: Record) {
+    let s = [0u8; 35840];
+    let w = [0u8; 17544];
+    let mut k = [0u8; 33024];
+    k[0] = address;
+    say::power(name, r, &s, &w, &k);
+}
+
+pub fn strays() {
+    open_at(b"open 33", 33, say::made(1, 70, 1, 0, 0, 0));
+    open_at(b"open 34", 34, say::made(1, 70, 1, 0, 0, 0));
+    open_at(b"open 69", 69, say::made(1, 70, 1, 0, 0, 0));
+    open_at(b"open 70", 70, say::made(1, 70, 1, 0, 0, 0));
+    open_at(b"open 34 and 0", 34, say::made(1, 70, 2, 0, 0, 0));
+    open_at(b"open 0 closed", 0, say::made(0, 70, 1, 0, 0, 0));
+    open_at(b"open 0 down", 0, say::made(2, 70, 1, 0, 0, 0));
+    open_at(b"group 0", 0, say::made(1, 70, 0, 1, 0, 0));
+    open_at(b"log 0", 0, say::made(1, 70, 0, 0, 1, 0));
+}
+
+// In open, in group, in the log.
+pub fn twice() {
+    let mut s = [0u8; 35840];
+    let w = [0u8; 17544];
+    let mut k = [0u8; 33024];
+    s[512] = 35;
+    s[516] = 35;
+    k[0] = 35;
+    k[516] = 35;
+    k[16512] = 34;
+    k[17028] = 34;
+    say::power(b"once in each", say::made(1, 70, 1, 1, 1, 0), &s, &w, &k);
+    say::power(b"twice in open", say::made(1, 70, 2, 1, 0, 0), &s, &w, &k);
+    say::power(b"twice in group", say::made(1, 70, 1, 2, 0, 0), &s, &w, &k);
+    say::power(b"twice in log", say::made(1, 70, 1, 1, 2, 0), &s, &w, &k);
+}

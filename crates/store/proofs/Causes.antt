@@ -1,0 +1,244 @@
+-- The laws of the table of causes.
+use Prim.Native.Nat.{ℕ, zero, suc, _*_, _-_, _%_, _≤_, _<_}
+use mathlib.Core.Path.{_≡_, refl, ap, sym, _∙_}
+use mathlib.Core.Bool.{Bool, true, false, cond, not, _&&_, _||_, or-true, or-false, true≢false, false≢true}
+use mathlib.Core.Logic.{_≢_}
+use native.Mathlib.Omega.{arith}
+use native.Mathlib.Decide.{ℕ-discrete}
+use borrow.Author.Tests.{eq-eqb, ne-eqb, eqb-true, ltb-true, ltb-false, not-false}
+use lib.Dec.{eqb, ltb}
+use lib.ListN.{length, drop}
+use Rattle.cells.specs.Entry.{blockBytes, entryAt}
+use Rattle.card.specs.Card.{places, blocksIn}
+use Rattle.card.specs.Held.{Below}
+use Rattle.journal.specs.Layout.{slots, isData}
+use Rattle.journal.specs.Log.{slotAddress}
+use Rattle.store.specs.State.{State, closed, opened, down}
+use Rattle.store.specs.Lists.{openFrom, groupFrom, listed, find}
+use Rattle.store.specs.Request.{Request, power, abandon}
+use Rattle.store.specs.Causes.{leastBlocks, mostBlocks, waitingBytes, workBytes, wrongSizes, wrongBlock, some, wrongCounts, wrongWaiting, isFound, wrongLists, wrongRecord, readsRecord, needsOpen, isRecover, strayAddress, full, unsound, wrongMarks, table, first, cause}
+
+-- ---- a search of n places from the last one down, i of them left
+
+-- the next one has it
+pub search-hit : (f : ℕ → Bool) (i n : ℕ) → some f i ≡ some f n → 0 < i → f (i - 1) ≡ true → true ≡ some f n
+unfolding some
+search-hit f zero n rest h e = absurd (omega arith)
+search-hit f (suc i) n rest h e =
+    let p : suc i - 1 ≡ i = omega arith in
+    let q : f i ≡ true = rw p at e in
+    sym (or-true (some f i)) ∙ ap (λ (b : Bool). some f i || b) (sym q) ∙ rest
+
+-- the next one does not
+pub search-on : (f : ℕ → Bool) (i n : ℕ) → some f i ≡ some f n → 0 < i → f (i - 1) ≡ false → some f (i - 1) ≡ some f n
+unfolding some
+search-on f zero n rest h e = absurd (omega arith)
+search-on f (suc i) n rest h e =
+    let p : suc i - 1 ≡ i = omega arith in
+    let q : f i ≡ false = rw p at e in
+    rw p (sym (or-false (some f i)) ∙ ap (λ (b : Bool). some f i || b) (sym q) ∙ rest)
+
+-- none is left
+pub search-over : (f : ℕ → Bool) (i n : ℕ) → some f i ≡ some f n → i ≡ 0 → false ≡ some f n
+unfolding some
+search-over f i n rest e = ap (some f) (sym e) ∙ rest
+
+-- ---- tests that fail, as plain facts
+
+pub neither : (a b : Bool) → a || b ≡ false → (a ≡ false) × (b ≡ false)
+neither true b e = absurd (true≢false e)
+neither false b e = (refl, e)
+
+-- of two tests that do not both pass, one passes
+other : (a b : Bool) → a && b ≡ false → a ≡ true → b ≡ false
+other true b e p = e
+other false b e p = absurd (false≢true p)
+
+-- no number below n passes
+pub some-none : (f : ℕ → Bool) (n : ℕ) → some f n ≡ false → (i : ℕ) → i < n → f i ≡ false
+unfolding some
+some-none f (suc n) e i h = go (ℕ-discrete i n) (λ q. some-none f n (neither _ _ e .0) i q)
+  where
+    go : Dec (i ≡ n) → (i < n → f i ≡ false) → f i ≡ false
+    go (yes p) below = rw p (neither (some f n) (f n) e .1)
+    go (no p) below = below (omega arith)
+
+-- row 1
+pub record SizeFacts (st : State) : Type 0 where
+  pub settled : length (st .settled) ≡ blockBytes * blocksIn (st .settled)
+  pub least : leastBlocks ≤ blocksIn (st .settled)
+  pub most : blocksIn (st .settled) ≤ mostBlocks
+  pub waiting : length (st .waiting) ≡ waitingBytes
+  pub work : length (st .work) ≡ workBytes
+
+pub sizes-facts : (st : State) → wrongSizes st ≡ false → SizeFacts st
+unfolding wrongSizes
+sizes-facts st e =
+    let a = neither _ _ e in
+    let b = neither _ _ (a .0) in
+    let c = neither _ _ (b .0) in
+    let d = neither _ _ (c .0) in
+    let whole : length (st .settled) % blockBytes ≡ 0 = eqb-true _ _ (not-false _ (d .0)) in
+    record {
+      settled = omega arith;
+      least = ltb-false _ _ (d .1);
+      most = ltb-false _ _ (c .1);
+      waiting = eqb-true _ _ (not-false _ (b .1));
+      work = eqb-true _ _ (not-false _ (a .1));
+    }
+
+-- row 2: mode, counts and N
+pub record CountFacts (st : State) : Type 0 where
+  pub mode : st .rec .mode ≤ down
+  pub open-count : st .rec .opened ≤ slots
+  pub group-count : st .rec .grouped ≤ slots
+  pub log-count : st .rec .logged ≤ slots
+  pub waiting-count : st .rec .waiting ≤ places
+  pub waiting-down : st .rec .waiting ≢ 0 → st .rec .mode ≡ down
+  pub blocks : st .rec .blocks ≡ blocksIn (st .settled)
+
+pub counts-facts : (st : State) → wrongCounts st ≡ false → CountFacts st
+unfolding wrongCounts
+counts-facts st e =
+    let a = neither _ _ e in
+    let b = neither _ _ (a .0) in
+    let c = neither _ _ (b .0) in
+    let d = neither _ _ (c .0) in
+    let f = neither _ _ (d .0) in
+    let g = neither _ _ (f .0) in
+    record {
+      mode = ltb-false _ _ (g .0);
+      open-count = ltb-false _ _ (g .1);
+      group-count = ltb-false _ _ (f .1);
+      log-count = ltb-false _ _ (d .1);
+      waiting-count = ltb-false _ _ (c .1);
+      waiting-down = λ p. eqb-true _ _ (not-false _ (other _ _ (b .1) (ap not (ne-eqb _ _ p))));
+      blocks = eqb-true _ _ (not-false _ (a .1));
+    }
+
+-- row 2: the lists, "read when open"
+pub record ListFacts (st : State) : Type 0 where
+  pub open-data : (i : ℕ) → i < st .rec .opened → isData (st .rec .blocks) (listed (st .work) openFrom i .address) ≡ true
+  pub group-data : (i : ℕ) → i < st .rec .grouped → isData (st .rec .blocks) (listed (st .work) groupFrom i .address) ≡ true
+  pub log-data : (i : ℕ) → i < st .rec .logged → isData (st .rec .blocks) (slotAddress (st .settled) i) ≡ true
+  pub open-once : (i : ℕ) → i < st .rec .opened → isFound (find (st .work) openFrom i (listed (st .work) openFrom i .address)) ≡ false
+  pub group-once : (i : ℕ) → i < st .rec .grouped → isFound (find (st .work) groupFrom i (listed (st .work) groupFrom i .address)) ≡ false
+
+pub lists-facts : (st : State) → wrongLists st ≡ false → ListFacts st
+unfolding wrongLists
+lists-facts st e =
+    let a = neither _ _ e in
+    let b = neither _ _ (a .0) in
+    let c = neither _ _ (b .0) in
+    let d = neither _ _ (c .0) in
+    record {
+      open-data = λ i h. not-false _ (some-none (λ j. not (isData (st .rec .blocks) (listed (st .work) openFrom j .address))) (st .rec .opened) (d .0) i h);
+      group-data = λ i h. not-false _ (some-none (λ j. not (isData (st .rec .blocks) (listed (st .work) groupFrom j .address))) (st .rec .grouped) (d .1) i h);
+      log-data = λ i h. not-false _ (some-none (λ j. not (isData (st .rec .blocks) (slotAddress (st .settled) j))) (st .rec .logged) (c .1) i h);
+      open-once = some-none (λ j. isFound (find (st .work) openFrom j (listed (st .work) openFrom j .address))) (st .rec .opened) (b .1);
+      group-once = some-none (λ j. isFound (find (st .work) groupFrom j (listed (st .work) groupFrom j .address))) (st .rec .grouped) (a .1);
+    }
+
+pub waiting-facts : (st : State) → wrongWaiting st ≡ false → Below (st .rec .blocks) (st .waiting) (st .rec .waiting)
+unfolding wrongWaiting
+waiting-facts st e i h = ltb-true _ _ (not-false _ (some-none (λ j. not (ltb (entryAt (st .waiting) j .address) (st .rec .blocks))) (st .rec .waiting) e i h))
+
+-- rows 1 and 2: what a call that reads the record may count on
+pub record Sound (st : State) : Type 0 where
+  pub sizes : SizeFacts st
+  pub counts : CountFacts st
+  pub waiting-below : Below (st .rec .blocks) (st .waiting) (st .rec .waiting)
+  pub lists : st .rec .mode ≡ opened → ListFacts st
+
+pub sound : (st : State) → wrongSizes st ≡ false → wrongRecord st ≡ false → Sound st
+sound st s r =
+    let l = neither _ _ r in
+    let c = neither _ _ (l .0) in
+    record {
+      sizes = sizes-facts st s;
+      counts = counts-facts st (c .0);
+      waiting-below = waiting-facts st (c .1);
+      lists = λ o. lists-facts st (other _ _ (l .1) (eq-eqb _ _ o));
+    }
+
+-- ---- a call that no row refuses
+
+pub record Passes (q : Request) (st : State) : Type 0 where
+  pub sizes : wrongSizes st ≡ false
+  pub block : wrongBlock q ≡ false
+  pub counts : readsRecord q && wrongRecord st ≡ false
+  pub not-closed : needsOpen q && eqb (st .rec .mode) closed ≡ false
+  pub not-down : (needsOpen q || isRecover q) && eqb (st .rec .mode) down ≡ false
+  pub not-open : isRecover q && eqb (st .rec .mode) opened ≡ false
+  pub address : strayAddress q st ≡ false
+  pub room : full q st ≡ false
+  pub ours : unsound 8 q st ≡ false
+  pub good : unsound 9 q st ≡ false
+  pub marks : wrongMarks q st ≡ false
+
+-- a row that does not apply
+passed : (t : Bool) (k rest : ℕ) → cond t (suc k) rest ≡ 0 → (t ≡ false) × (rest ≡ 0)
+passed true k rest e = absurd (omega arith)
+passed false k rest e = (refl, e)
+
+-- n being the number that was computed
+pub cause-passes : (q : Request) (st : State) (n : ℕ) → n ≡ cause q st → n ≡ 0 → Passes q st
+cause-passes q st n e z =
+    let a = passed _ 0 _ (sym e ∙ z) in
+    let b = passed _ 1 _ (a .1) in
+    let c = passed _ 2 _ (b .1) in
+    let d = passed _ 3 _ (c .1) in
+    let f = passed _ 4 _ (d .1) in
+    let g = passed _ 5 _ (f .1) in
+    let h = passed _ 6 _ (g .1) in
+    let i = passed _ 7 _ (h .1) in
+    let j = passed _ 8 _ (i .1) in
+    let k = passed _ 9 _ (j .1) in
+    let l = neither _ _ (a .0) in
+    record {
+      sizes = l .0;
+      block = l .1;
+      counts = b .0;
+      not-closed = c .0;
+      not-down = d .0;
+      not-open = f .0;
+      address = g .0;
+      room = h .0;
+      ours = i .0;
+      good = j .0;
+      marks = k .0;
+    }
+
+-- a call that reads the record and passes finds it sound
+pub passes-sound : (q : Request) (st : State) (n : ℕ) → readsRecord q ≡ true → n ≡ cause q st → n ≡ 0 → Sound st
+passes-sound q st n r e z = let p = cause-passes q st n e z in sound st (p .sizes) (other _ _ (p .counts) r)
+
+-- ---- the first rows, shared by the calls
+
+-- a put's block of a wrong length is 1
+pub cause-block : (q : Request) (st : State) → wrongBlock q ≡ true → cause q st ≡ 1
+cause-block q st b = rw (b, or-true)
+
+-- rows 1 and 2, and the rest
+rows-2 : (a b : Bool) (n rest : ℕ) → n ≡ cond a 1 (cond b 2 0) → cond a 1 (cond b 2 rest) ≡ cond (eqb n 0) rest n
+rows-2 true b n rest e = rw e
+rows-2 false true n rest e = rw e
+rows-2 false false n rest e = rw e
+
+-- rows 1 to 4, and the rest
+rows-4 : (a b c d : Bool) (n rest : ℕ) → n ≡ cond a 1 (cond b 2 (cond c 3 (cond d 4 0)))
+    → cond a 1 (cond b 2 (cond c 3 (cond d 4 rest))) ≡ cond (eqb n 0) rest n
+rows-4 true b c d n rest e = rw e
+rows-4 false true c d n rest e = rw e
+rows-4 false false true d n rest e = rw e
+rows-4 false false false true n rest e = rw e
+rows-4 false false false false n rest e = rw e
+
+module _ (q : Request) (st : State) (n : ℕ) (block : wrongBlock q ≡ false) (reads : readsRecord q ≡ true) where
+  -- power has rows 1 and 2 alone. n is what they come to: a call that reads the record gives it, or what its later rows come to
+  pub cause-2 : n ≡ cause (power 0) st → cause q st ≡ cond (eqb n 0) (first (drop 2 table) q st) n
+  cause-2 e = rw (block, reads) (rows-2 (wrongSizes st || false) (wrongRecord st) n _ e)
+
+  -- abandon has rows 1 to 4 alone: likewise for a call that needs an open record
+  pub cause-4 : needsOpen q ≡ true → n ≡ cause abandon st → cause q st ≡ cond (eqb n 0) (first (drop 4 table) q st) n
+  cause-4 o e = rw (block, reads, o) (rows-4 (wrongSizes st || false) (wrongRecord st) (eqb (st .rec .mode) closed) (eqb (st .rec .mode) down) n _ e)

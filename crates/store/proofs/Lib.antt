@@ -1,0 +1,6 @@
+-- The laws of the store that those above cite.
+pub mod Calls
+pub mod Causes
+pub mod Commits
+pub mod Lookups
+pub mod Places

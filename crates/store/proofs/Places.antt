@@ -1,0 +1,54 @@
+-- The place of a get holds a whole block.
+use Prim.Native.Nat.{ℕ, _<_}
+use mathlib.Core.Path.{_≡_, refl, sym}
+use mathlib.Core.Bool.{Bool, true, false, cond}
+use native.Mathlib.Omega.{arith}
+use borrow.Author.Tests.{eqb-true, ltb-true, not-false}
+use lib.Dec.{eqb, leb, ltb}
+use Rattle.journal.specs.declared.lookup.Found.{Found}
+use Rattle.journal.specs.declared.lookup.Found.the-variants.{At, Absent}
+use Rattle.journal.specs.Layout.{isData, firstData}
+use Rattle.journal.specs.Log.{slotAddress}
+use Rattle.journal.specs.Lookup.{lastSlot}
+use Rattle.journal.proofs.Choices.{both}
+use Rattle.store.specs.declared.place.Place.the-variants.{Nowhere}
+use Rattle.store.specs.State.{State}
+use Rattle.store.specs.Held.{Within}
+use Rattle.store.specs.Lists.{openFrom, groupFrom, find}
+use Rattle.store.specs.Request.{get}
+use Rattle.store.specs.Causes.{cause}
+use Rattle.store.specs.Get.{logPlace, groupPlace, openPlace, newest, getPlace}
+use Rattle.store.proofs.Causes.{Sound, cause-passes, passes-sound}
+use Rattle.store.proofs.Lookups.{last-at, find-at}
+
+-- the address of a data block is below N
+pub data-lt : (N a : ℕ) → isData N a ≡ true → a < N
+data-lt N a d = ltb-true a N (both (leb firstData a) (ltb a N) d .1)
+
+pub newest-within : (a : ℕ) (st : State) → Sound st → isData (st .rec .blocks) a ≡ true → Within (newest a st) (st .settled) (st .work)
+unfolding newest
+newest-within a st s d = in-open (find (st .work) openFrom (st .rec .opened) a) refl
+  where
+    in-log : (f : Found) → lastSlot (st .settled) a (st .rec .logged) ≡ f → Within (logPlace a f) (st .settled) (st .work)
+    in-log (At k) e = let inside = last-at (slotAddress (st .settled)) a (st .rec .logged) k e in omega arith
+    in-log Absent e = let inside = data-lt (st .rec .blocks) a d in omega arith
+
+    in-group : (f : Found) → find (st .work) groupFrom (st .rec .grouped) a ≡ f
+        → Within (groupPlace f (logPlace a (lastSlot (st .settled) a (st .rec .logged)))) (st .settled) (st .work)
+    in-group (At j) e = let inside = find-at (st .work) groupFrom (st .rec .grouped) a j e in omega arith
+    in-group Absent e = in-log (lastSlot (st .settled) a (st .rec .logged)) refl
+
+    in-open : (f : Found) → find (st .work) openFrom (st .rec .opened) a ≡ f
+        → Within (openPlace f (groupPlace (find (st .work) groupFrom (st .rec .grouped) a) (logPlace a (lastSlot (st .settled) a (st .rec .logged))))) (st .settled) (st .work)
+    in-open (At i) e = let inside = find-at (st .work) openFrom (st .rec .opened) a i e in omega arith
+    in-open Absent e = in-group (find (st .work) groupFrom (st .rec .grouped) a) refl
+
+pub get-within : (a : ℕ) (st : State) → Within (getPlace a st) (st .settled) (st .work)
+unfolding getPlace
+get-within a st = go (eqb (cause (get a) st) 0) refl
+  where
+    go : (t : Bool) → eqb (cause (get a) st) 0 ≡ t → Within (cond t (newest a st) Nowhere) (st .settled) (st .work)
+    go true e =
+        let z : cause (get a) st ≡ 0 = eqb-true _ _ e in
+        newest-within a st (passes-sound (get a) st 0 refl (sym z) refl) (not-false _ (cause-passes (get a) st 0 (sym z) refl .address))
+    go false e = tt

@@ -1,0 +1,74 @@
+-- `store::check::strays` meets its contract.
+use Prim.Native.Nat.{ℕ, _≤_}
+use mathlib.Core.Path.{_≡_, refl}
+use mathlib.Core.Bool.{Bool, not}
+use mathlib.Core.List.{List}
+use native.Mathlib.Omega.{arith}
+use borrow.Author.Needs.{needs}
+use Rattle.journal.specs.Layout.{isData}
+use Rattle.store.specs.Lists.{listed}
+use Rattle.store.specs.Causes.{strays}
+use Rattle.store.proofs.Causes.{search-hit, search-on, search-over}
+use Rattle.store.proofs.check.strays.Statement.{statement}
+use Rattle.store.proofs.check.strays.Tie as tie
+
+abbrev stray : List ℕ → ℕ → ℕ → ℕ → Bool
+stray work N from i = not (isData N (listed work from i .address))
+
+abbrev Inv-loop : tie.InvT-loop
+Inv-loop work blocks from n i₀ i = (i ≤ n) × (strays work blocks from i ≡ strays work blocks from n)
+
+abbrev μ-loop : tie.MeasureT-loop
+μ-loop work blocks from n i₀ i = i
+
+loop-holds : tie.Need-loop-holds Inv-loop μ-loop
+loop-holds c = (omega arith, refl)
+
+sub-i : tie.Need-sub-i Inv-loop μ-loop
+sub-i c = omega arith
+
+address-requires : tie.Need-address-requires Inv-loop μ-loop
+address-requires c κs = search needs
+
+is-data-requires : tie.Need-is-data-requires Inv-loop μ-loop
+is-data-requires c κs = search needs
+
+returns : tie.Need-returns Inv-loop μ-loop
+returns c =
+    let l = c .before .before .before .before .loop in
+    let a = c .before .before .before .before .before .before .args in
+    search-hit (stray (a .work .now) (a .blocks) (a .from)) (l .i) (a .n) (l .inv .1) (omega arith)
+    (rw (← c .before .before .address .ensures, ← c .before .is-data .ensures) (c .if1 .taken))
+
+loop-less : tie.Need-loop-less Inv-loop μ-loop
+loop-less c = omega arith
+
+loop-again : tie.Need-loop-again Inv-loop μ-loop
+loop-again c =
+    let l = c .before .before .before .before .loop in
+    let a = c .before .before .before .before .before .before .args in (
+      omega arith,
+      search-on (stray (a .work .now) (a .blocks) (a .from)) (l .i) (a .n) (l .inv .1) (omega arith)
+          (rw (← c .before .before .address .ensures, ← c .before .is-data .ensures) (c .if1 .left)),
+    )
+
+returns-2 : tie.Need-returns-2 Inv-loop μ-loop
+returns-2 c =
+    let l = c .before .loop in
+    let a = c .before .before .before .args in
+    search-over (stray (a .work .now) (a .blocks) (a .from)) (l .i) (a .n) (l .inv .1) (omega arith)
+
+pub strays-spec : {M : Type 1} → statement M
+strays-spec =
+    tie.close
+    (tie.spec
+    Inv-loop
+    μ-loop
+    loop-holds
+    sub-i
+    address-requires
+    is-data-requires
+    returns
+    loop-less
+    loop-again
+    returns-2)

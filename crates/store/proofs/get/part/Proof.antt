@@ -1,0 +1,77 @@
+-- `store::get::part` meets its contract.
+use Prim.Native.Nat.{_+_, _*_, _/_}
+use mathlib.Core.Path.{_≡_, _∙_}
+use native.Mathlib.Omega.{arith}
+use Rattle.store.specs.declared.place.Place.the-variants.{Settled, Work}
+use Rattle.store.specs.Held.{Within}
+use borrow.Author.Needs.{needs}
+use Rattle.store.proofs.get.part.Statement.{statement}
+use Rattle.store.proofs.get.part.Tie as tie
+
+-- what is required of each place
+in-settled : (c : tie.After-place) → let a = c .before .before .before .before .args in Within (Settled (c .place .given .0 .0)) (a .settled .now) (a .work .now)
+in-settled c = rw (c .place .given .1) at (c .before .before .before .before .pre)
+
+in-work : (c : tie.After-place2) → let a = c .before .before .before .before .args in Within (Work (c .place2 .given .0 .0)) (a .settled .now) (a .work .now)
+in-work c = rw (c .place2 .given .1) at (c .before .before .before .before .pre)
+
+enum-known-place : tie.Need-enum-known-place
+enum-known-place c = search needs
+
+cast-read : tie.Need-cast-read
+cast-read c = let w = in-settled (c .before) in omega arith
+
+read-requires : tie.Need-read-requires
+read-requires c κs = let w = in-settled (c .before) in omega arith
+
+enum-known-place-2 : tie.Need-enum-known-place-2
+enum-known-place-2 c = search needs
+
+block-requires : tie.Need-block-requires
+block-requires c κs = let w = in-work (c .before) in omega arith
+
+enum-told : tie.Need-enum-told
+enum-told c = search needs
+
+sub-result : tie.Need-sub-result
+sub-result c = search needs
+
+part-result-start : tie.Need-part-result-start
+part-result-start c = search needs
+
+part-result-end : tie.Need-part-result-end
+part-result-end c = search needs
+
+returns : tie.Need-returns
+returns c =
+    let at = c .before .before .place .given .0 .0 in
+    let w = in-settled (c .before .before) in
+    let whole : 512 * (at / 512) ≡ at = omega arith in
+    rw (c .before .before .place .given .1) (c .read .ensures ∙ rw whole)
+
+returns-2 : tie.Need-returns-2
+returns-2 c =
+    let at = c .before .before .place2 .given .0 .0 in
+    let w = in-work (c .before .before) in
+    let whole : 516 * (at / 516) + 4 ≡ at = omega arith in
+    rw (c .before .before .place2 .given .1) (c .block .ensures ∙ rw whole)
+
+returns-3 : tie.Need-returns-3
+returns-3 c = rw (c .before .enum-told .given .1)
+
+pub part-spec : {M : Type 1} → statement M
+part-spec =
+    tie.close
+    (tie.spec
+    enum-known-place
+    cast-read
+    read-requires
+    enum-known-place-2
+    block-requires
+    enum-told
+    sub-result
+    part-result-start
+    part-result-end
+    returns
+    returns-2
+    returns-3)

@@ -1,0 +1,39 @@
+-- `store::record::Record::not_open` meets its contract.
+use mathlib.Core.Path.{_≡_, refl}
+use mathlib.Core.Bool.{cond}
+use borrow.Author.Tests.{eq-eqb, ne-eqb}
+use lib.Dec.{eqb}
+use lib.ListN.{drop}
+use Rattle.store.specs.State.{State}
+use Rattle.store.specs.Held.{stateOf}
+use Rattle.store.specs.Request.{abandon}
+use Rattle.store.specs.Causes.{table, first, cause}
+use Rattle.store.proofs.Causes.{cause-2}
+use borrow.Author.Needs.{needs}
+use Rattle.store.proofs.record.Record.not_open.Statement.{statement}
+use Rattle.store.proofs.record.Record.not_open.Tie as tie
+
+abbrev given : tie.Start → State
+given c = stateOf (c .args .self) (c .args .settled .now) (c .args .waiting .now) (c .args .work .now)
+
+-- the table once rows 1 and 2 are known
+table-of : (c : tie.After-bad-record) → cause abandon (given (c .before .before .before .before)) ≡ cond (eqb (c .bad-record .result) 0) (first (drop 2 table) abandon (given (c .before .before .before .before))) (c .bad-record .result)
+table-of c = cause-2 abandon (given (c .before .before .before .before)) (c .bad-record .result) refl refl (c .bad-record .ensures)
+
+bad-record-requires : tie.Need-bad-record-requires
+bad-record-requires c κs = search needs
+
+returns : tie.Need-returns
+returns c = rw (table-of (c .before), ne-eqb _ _ (c .if1 .taken))
+
+returns-2 : tie.Need-returns-2
+returns-2 c = rw (table-of (c .before .before .before), eq-eqb _ _ (c .before .before .if1 .left), eq-eqb _ _ (c .if2 .taken))
+
+returns-3 : tie.Need-returns-3
+returns-3 c = rw (table-of (c .before .before .before .before .before), eq-eqb _ _ (c .before .before .before .before .if1 .left), ne-eqb _ _ (c .before .before .if2 .left), eq-eqb _ _ (c .if3 .taken))
+
+returns-4 : tie.Need-returns-4
+returns-4 c = rw (table-of (c .before .before .before .before .before), eq-eqb _ _ (c .before .before .before .before .if1 .left), ne-eqb _ _ (c .before .before .if2 .left), ne-eqb _ _ (c .if3 .left))
+
+pub not-open-spec : {M : Type 1} → statement M
+not-open-spec = tie.close (tie.spec bad-record-requires returns returns-2 returns-3 returns-4)

@@ -1,0 +1,55 @@
+-- `store::record::Record::wrong_lists` meets its contract.
+use Rattle.store.specs.Causes.{wrongLists}
+use borrow.Author.Needs.{needs}
+use Rattle.store.proofs.record.Record.wrong_lists.Statement.{statement}
+use Rattle.store.proofs.record.Record.wrong_lists.Tie as tie
+
+strays-requires : tie.Need-strays-requires
+strays-requires c κs = search needs
+
+returns : tie.Need-returns
+unfolding wrongLists
+returns c = λ w. rw (← c .before .strays .ensures, c .if1 .taken)
+
+strays-requires-2 : tie.Need-strays-requires-2
+strays-requires-2 c κs = search needs
+
+returns-2 : tie.Need-returns-2
+unfolding wrongLists
+returns-2 c = λ w. rw (← c .before .before .before .strays .ensures, c .before .before .if1 .left, ← c .before .strays2 .ensures, c .if2 .taken)
+
+stray-slots-requires : tie.Need-stray-slots-requires
+stray-slots-requires c κs = search needs
+
+returns-3 : tie.Need-returns-3
+unfolding wrongLists
+returns-3 c = λ w. rw (← c .before .before .before .before .before .strays .ensures, c .before .before .before .before .if1 .left, ← c .before .before .before .strays2 .ensures, c .before .before .if2 .left, ← c .before .stray-slots .ensures, c .if3 .taken)
+
+twice-requires : tie.Need-twice-requires
+twice-requires c κs = search needs
+
+returns-4 : tie.Need-returns-4
+unfolding wrongLists
+returns-4 c = λ w. rw (← c .before .before .before .before .before .before .before .strays .ensures, c .before .before .before .before .before .before .if1 .left, ← c .before .before .before .before .before .strays2 .ensures, c .before .before .before .before .if2 .left, ← c .before .before .before .stray-slots .ensures, c .before .before .if3 .left, ← c .before .twice .ensures, c .if4 .taken)
+
+twice-requires-2 : tie.Need-twice-requires-2
+twice-requires-2 c κs = search needs
+
+returns-5 : tie.Need-returns-5
+unfolding wrongLists
+returns-5 c = λ w. rw (← c .before .before .before .before .before .before .before .before .strays .ensures, c .before .before .before .before .before .before .before .if1 .left, ← c .before .before .before .before .before .before .strays2 .ensures, c .before .before .before .before .before .if2 .left, ← c .before .before .before .before .stray-slots .ensures, c .before .before .before .if3 .left, ← c .before .before .twice .ensures, c .before .if4 .left) (c .twice2 .ensures)
+
+pub wrong-lists-spec : {M : Type 1} → statement M
+wrong-lists-spec =
+    tie.close
+    (tie.spec
+    strays-requires
+    returns
+    strays-requires-2
+    returns-2
+    stray-slots-requires
+    returns-3
+    twice-requires
+    returns-4
+    twice-requires-2
+    returns-5)

@@ -1,0 +1,59 @@
+-- "get: the newest of open, group, log (its last slot with that address), home block. It is handed out as a part of work memory
+-- or of the card, never a copy. A refused get hands out a part of no bytes; its number comes from a question with the same inputs."
+use Prim.Native.Nat.{ℕ, _+_, _*_}
+use mathlib.Core.Bool.{cond}
+use mathlib.Core.List.{List, []}
+use denote.Ref.{RefT}
+use lib.Dec.{eqb}
+use lib.ListN.{take, drop}
+use Rattle.cells.specs.Entry.{blockBytes, entryBytes}
+use Rattle.cells.specs.Part.{View, partOf}
+use Rattle.journal.specs.declared.lookup.Found.{Found}
+use Rattle.journal.specs.declared.lookup.Found.the-variants.{At, Absent}
+use Rattle.journal.specs.Layout.{slotAt, placeOf}
+use Rattle.journal.specs.Lookup.{lastSlot}
+use Rattle.store.specs.declared.place.Place.{Place}
+use Rattle.store.specs.declared.place.Place.the-variants.{Settled, Work, Nowhere}
+use Rattle.store.specs.State.{State}
+use Rattle.store.specs.Lists.{openFrom, groupFrom, find}
+use Rattle.store.specs.Request.{get}
+use Rattle.store.specs.Causes.{cause}
+
+-- where the block of a listed entry starts in work memory
+abbrev pub listedPlace : ℕ → ℕ → ℕ
+listedPlace from i = entryBytes * (from + i) + 4
+
+-- in the log's last slot with that address, else at home
+abbrev pub logPlace : ℕ → Found → Place
+logPlace a (At i) = Settled (placeOf (slotAt i))
+logPlace a Absent = Settled (placeOf a)
+
+abbrev pub groupPlace : Found → Place → Place
+groupPlace (At i) older = Work (listedPlace groupFrom i)
+groupPlace Absent older = older
+
+abbrev pub openPlace : Found → Place → Place
+openPlace (At i) older = Work (listedPlace openFrom i)
+openPlace Absent older = older
+
+-- the newest
+unfoldable pub newest : ℕ → State → Place
+newest a st =
+    openPlace (find (st .work) openFrom (st .rec .opened) a)
+    (groupPlace (find (st .work) groupFrom (st .rec .grouped) a)
+    (logPlace a (lastSlot (st .settled) a (st .rec .logged))))
+
+unfoldable pub getPlace : ℕ → State → Place
+getPlace a st = cond (eqb (cause (get a) st) 0) (newest a st) Nowhere
+
+-- the bytes at a place
+abbrev pub bytesAt : Place → State → List ℕ
+bytesAt (Settled o) st = take blockBytes (drop o (st .settled))
+bytesAt (Work o) st = take blockBytes (drop o (st .work))
+bytesAt Nowhere st = []
+
+-- the part handed out: of the settled bytes, of work memory, or no bytes at the start of the settled ones
+abbrev pub partAt : Place → RefT (List ℕ) → RefT (List ℕ) → View
+partAt (Settled o) settled work = partOf settled o blockBytes
+partAt (Work o) settled work = partOf work o blockBytes
+partAt Nowhere settled work = partOf settled 0 0

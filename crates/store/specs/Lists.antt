@@ -1,0 +1,27 @@
+-- Open and group: lists of entries in work memory.
+use Prim.Native.Nat.{ℕ, _+_}
+use mathlib.Core.List.{List}
+use Rattle.cells.specs.Upto.{upTo}
+use Rattle.cells.specs.Entry.{Entry, entryAt}
+use Rattle.journal.specs.declared.lookup.Found.{Found}
+use Rattle.journal.specs.Layout.{slots}
+use Rattle.journal.specs.Lookup.{lastOf}
+
+-- a list starts at an entry of work memory: open at the first, group after the 32 of open
+abbrev pub openFrom : ℕ
+openFrom = 0
+
+abbrev pub groupFrom : ℕ
+groupFrom = slots
+
+-- the i-th entry of the list that starts at from
+abbrev pub listed : List ℕ → ℕ → ℕ → Entry
+listed work from i = entryAt work (from + i)
+
+-- its first n entries
+abbrev pub listOf : List ℕ → ℕ → ℕ → List Entry
+listOf work from n = upTo (listed work from) n
+
+-- its entry with an address
+abbrev pub find : List ℕ → ℕ → ℕ → ℕ → Found
+find work from n a = lastOf (λ i. listed work from i .address) a n

@@ -1,0 +1,88 @@
+-- The calls that give orders: sync, apply, recover; and the cut.
+use Prim.Native.Nat.{ℕ, _+_, min}
+use mathlib.Core.Bool.{Bool, cond, not, _&&_}
+use mathlib.Core.List.{List, []}
+use lib.Dec.{eqb, leb}
+use lib.ListN.{length}
+use Rattle.cells.specs.Entry.{Entry}
+use Rattle.fnv.specs.Fnv.{start}
+use Rattle.card.specs.Card as Card
+use Rattle.card.specs.Card.{Order, run}
+use Rattle.journal.specs.declared.choice.Choice.{Choice}
+use Rattle.journal.specs.Layout.{slots}
+use Rattle.journal.specs.Log.{entries, sumOf}
+use Rattle.journal.specs.Orders.{checkpointOrders, applyOrders, syncOrders}
+use Rattle.journal.specs.Choice.{choose, takenCount, takenSum, recoverOrders}
+use Rattle.store.specs.declared.record.Record.{Record}
+use Rattle.store.specs.State.{State, Outcome, closed, opened, down, withMode, withOpened, withGrouped, withLog, withQueue, withRecord, cardIn, withCard}
+use Rattle.store.specs.Lists.{groupFrom, listOf}
+use Rattle.store.specs.Request.{sync, apply, recover, cut}
+use Rattle.store.specs.Causes.{cause}
+use Rattle.store.specs.Simple.{finished, unless}
+
+-- a call that gives the orders os: done with the record `done`, or "the call ends with 4 and the record is down", with `gone`
+unfoldable pub carried : List Order → Record → Record → State → Outcome
+carried os done gone st =
+    let whole = leb (length os) (st .rec .power) in
+    record {
+      answer = cond whole 0 4;
+      orders = min (length os) (st .rec .power);
+      state = withCard (run os (cardIn st)) (withRecord (cond whole done (withMode down gone)) st);
+    }
+
+-- ---- sync
+
+abbrev pub groupOf : State → List Entry
+groupOf st = listOf (st .work) groupFrom (st .rec .grouped)
+
+-- "If n+m > 32, apply runs first"
+abbrev pub applies : State → Bool
+applies st = not (eqb (st .rec .grouped) 0) && not (leb (st .rec .logged + st .rec .grouped) slots)
+
+-- the record's n and sum as the sync's own part meets them
+abbrev pub synced : State → Record
+synced st = cond (applies st) (withLog 0 start (st .rec)) (st .rec)
+
+-- the orders of the apply inside
+abbrev pub innerOrders : State → List Order
+innerOrders st = cond (applies st) (checkpointOrders (st .rec .blocks) (entries (st .settled) (st .rec .logged))) []
+
+-- "The group becomes empty; open stays. Sums continue from the record's." Cut short, the record keeps n and sum "as before the
+-- call, or as a sync's apply left them if all that apply's orders happened"
+unfoldable pub syncCall : State → Outcome
+syncCall st =
+    let r = synced st in
+    unless (cause sync st) st
+    (carried (syncOrders (st .rec .blocks) (st .settled) (st .rec .logged) (st .rec .sum) (groupOf st))
+    (withGrouped 0 (withLog (r .logged + st .rec .grouped) (sumOf (r .sum) (groupOf st)) r))
+    (cond (leb (length (innerOrders st)) (st .rec .power)) r (st .rec))
+    st)
+
+-- ---- apply
+
+unfoldable pub applyCall : State → Outcome
+applyCall st =
+    unless (cause apply st) st
+    (carried (applyOrders (st .rec .blocks) (st .settled) (st .rec .logged))
+    (cond (eqb (st .rec .logged) 0) (st .rec) (withLog 0 start (st .rec)))
+    (st .rec)
+    st)
+
+-- ---- recover: "Done, the mode is open, open and group are empty, n and sum those of the list taken."
+
+unfoldable pub recoverCall : State → Outcome
+recoverCall st =
+    let c = choose (st .rec .blocks) (st .settled) in
+    unless (cause recover st) st
+    (carried (recoverOrders (st .rec .blocks) c)
+    (withMode opened (withOpened 0 (withGrouped 0 (withLog (takenCount c) (takenSum c) (st .rec)))))
+    (st .rec)
+    st)
+
+-- ---- cut: "The queue is emptied, the record closed, its open, group and log counts 0, its sum the empty list's. N and the power
+-- count stay."
+
+unfoldable pub cutCall : List ℕ → State → Outcome
+cutCall marks st =
+    unless (cause (cut marks) st) st
+    (finished (withCard (Card.cut marks (cardIn st)) (withRecord (withMode closed (withOpened 0 (withGrouped 0 (withLog 0 start (st .rec))))) st)))

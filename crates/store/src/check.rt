@@ -1,0 +1,204 @@
+// The table of causes: rows 1 to 4, shared by the calls.
+use crate::lists::GROUP;
+use crate::lists::OPEN;
+use crate::lists::address;
+use crate::lists::holds;
+use crate::record::CLOSED;
+use crate::record::DOWN;
+use crate::record::OPENED;
+use crate::record::Record;
+use card::PLACES;
+use cells::BLOCK;
+use cells::entry;
+use journal::SLOTS;
+use journal::log::is_data;
+use journal::log::slot_address;
+ghost use mathlib.Core.Path.{_≡_};
+ghost use mathlib.Core.List.{List};
+ghost use Prim.Native.Nat.{ℕ, _+_, _*_, _≤_, _<_};
+ghost use lib.ListN.{length};
+ghost use Rattle.cells.specs.Entry.{entryBytes};
+ghost use Rattle.card.specs.Card.{blocksIn};
+ghost use Rattle.journal.specs.Layout.{slots, firstData};
+ghost use Rattle.store.specs.declared.record.Record as Declared;
+ghost use Rattle.store.specs.Held.{stateOf};
+ghost use Rattle.store.specs.Request as Request;
+ghost use Rattle.store.specs.Causes as Causes;
+ghost use Rattle.store.specs.Causes.{cause, workBytes};
+
+// The bounds of N, and the lengths of the waiting bytes and of work memory.
+const LEAST: usize = 35;
+
+const MOST: usize = 65536;
+
+const WAITING_BYTES: usize = 17544;
+
+const WORK_BYTES: usize = 33024;
+
+// Row 1: the lengths of the lent buffers and N.
+pub(crate) fn wrong_sizes(settled: &[u8], waiting: &[u8], work: &[u8]) -> bool
+    ensures { λ r. ⌜ ((q : Declared.Record) → r ≡ Causes.wrongSizes (stateOf q (now (settled .entry)) (now (waiting .entry)) (now (work .entry)))) ⌝ }
+{
+    if settled.len() % BLOCK != 0 {
+        return true;
+    }
+    if settled.len() / BLOCK < LEAST {
+        return true;
+    }
+    if MOST < settled.len() / BLOCK {
+        return true;
+    }
+    if waiting.len() != WAITING_BYTES {
+        return true;
+    }
+    work.len() != WORK_BYTES
+}
+
+// Row 2, a list in work memory: an address that is not that of a data block.
+fn strays(work: &[u8], blocks: u32, from: usize, n: u32) -> bool
+    requires { ⌜ entryBytes * (from + n) ≤ length (now work) ⌝ }
+    ensures { λ r. ⌜ r ≡ Causes.strays (now (work .entry)) blocks from n ⌝ }
+{
+    let mut i = n;
+    while 0 < i {
+        i -= 1;
+        if !is_data(blocks, address(work, from, i)) {
+            return true;
+        }
+    }
+    false
+}
+
+// Row 2, the log: likewise.
+fn stray_slots(settled: &[u8], blocks: u32, n: u32) -> bool
+    requires { ⌜ firstData < blocksIn (now settled) ⌝ }
+    requires { ⌜ n ≤ slots ⌝ }
+    ensures { λ r. ⌜ r ≡ Causes.straySlots (now (settled .entry)) blocks n ⌝ }
+{
+    let mut i = n;
+    while 0 < i {
+        i -= 1;
+        if !is_data(blocks, slot_address(settled, i)) {
+            return true;
+        }
+    }
+    false
+}
+
+// Row 2, a list in work memory: an address twice.
+fn twice(work: &[u8], from: usize, n: u32) -> bool
+    requires { ⌜ entryBytes * (from + n) ≤ length (now work) ⌝ }
+    ensures { λ r. ⌜ r ≡ Causes.twice (now (work .entry)) from n ⌝ }
+{
+    let mut i = n;
+    while 0 < i {
+        i -= 1;
+        if holds(work, from, i, address(work, from, i)) {
+            return true;
+        }
+    }
+    false
+}
+
+impl Record {
+    // Row 2: the mode, the counts, and N.
+    fn wrong_counts(self, settled: &[u8]) -> bool
+        ensures { λ r. ⌜ ((w k : List ℕ) → r ≡ Causes.wrongCounts (stateOf self (now (settled .entry)) w k)) ⌝ }
+    {
+        if DOWN < self.mode {
+            return true;
+        }
+        if SLOTS < self.opened {
+            return true;
+        }
+        if SLOTS < self.grouped {
+            return true;
+        }
+        if SLOTS < self.logged {
+            return true;
+        }
+        if PLACES < self.waiting as usize {
+            return true;
+        }
+        if self.waiting != 0 && self.mode != DOWN {
+            return true;
+        }
+        self.blocks as usize != settled.len() / BLOCK
+    }
+
+    // Row 2: a waiting address not below N. It is the one place of this crate that reads waiting bytes, and it reads addresses.
+    fn wrong_waiting(self, waiting: &[u8]) -> bool
+        requires { ⌜ entryBytes * self .waiting ≤ length (now waiting) ⌝ }
+        ensures { λ r. ⌜ ((s k : List ℕ) → r ≡ Causes.wrongWaiting (stateOf self s (now (waiting .entry)) k)) ⌝ }
+    {
+        let mut i = self.waiting as usize;
+        while 0 < i {
+            i -= 1;
+            if self.blocks <= entry::address(waiting, i) {
+                return true;
+            }
+        }
+        false
+    }
+
+    // Row 2: open, group and log, read when open.
+    fn wrong_lists(self, settled: &[u8], work: &[u8]) -> bool
+        requires { ⌜ firstData < blocksIn (now settled) ⌝ }
+        requires { ⌜ workBytes ≤ length (now work) ⌝ }
+        requires { ⌜ (self .opened ≤ slots) × (self .grouped ≤ slots) × (self .logged ≤ slots) ⌝ }
+        ensures { λ r. ⌜ ((w : List ℕ) → r ≡ Causes.wrongLists (stateOf self (now (settled .entry)) w (now (work .entry)))) ⌝ }
+    {
+        if strays(work, self.blocks, OPEN, self.opened) {
+            return true;
+        }
+        if strays(work, self.blocks, GROUP, self.grouped) {
+            return true;
+        }
+        if stray_slots(settled, self.blocks, self.logged) {
+            return true;
+        }
+        if twice(work, OPEN, self.opened) {
+            return true;
+        }
+        twice(work, GROUP, self.grouped)
+    }
+
+    // Rows 1 and 2, which are all that power has.
+    pub(crate) fn bad_record(self, settled: &[u8], waiting: &[u8], work: &[u8]) -> u32
+        ensures { λ r. ⌜ r ≡ cause (Request.power 0) (stateOf self (now (settled .entry)) (now (waiting .entry)) (now (work .entry))) ⌝ }
+    {
+        if wrong_sizes(settled, waiting, work) {
+            return 1;
+        }
+        if self.wrong_counts(settled) {
+            return 2;
+        }
+        if self.wrong_waiting(waiting) {
+            return 2;
+        }
+        if self.mode != OPENED {
+            return 0;
+        }
+        if self.wrong_lists(settled, work) {
+            return 2;
+        }
+        0
+    }
+
+    // Rows 1 to 4, which are all that abandon has.
+    pub(crate) fn not_open(self, settled: &[u8], waiting: &[u8], work: &[u8]) -> u32
+        ensures { λ r. ⌜ r ≡ cause Request.abandon (stateOf self (now (settled .entry)) (now (waiting .entry)) (now (work .entry))) ⌝ }
+    {
+        let number = self.bad_record(settled, waiting, work);
+        if number != 0 {
+            return number;
+        }
+        if self.mode == CLOSED {
+            return 3;
+        }
+        if self.mode == DOWN {
+            return 4;
+        }
+        0
+    }
+}

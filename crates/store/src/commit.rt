@@ -1,0 +1,101 @@
+// commit: each open entry, in turn, replaces or joins the group; open becomes empty.
+use crate::lists::GROUP;
+use crate::lists::OPEN;
+use crate::lists::address;
+use crate::lists::copy_entry;
+use crate::lists::find;
+use crate::lists::holds;
+use crate::record::Answer;
+use crate::record::Record;
+use journal::SLOTS;
+use journal::lookup::Found;
+ghost use mathlib.Core.Path.{_≡_};
+ghost use Prim.Native.Nat.{_+_, _≤_, _<_};
+ghost use lib.ListN.{length};
+ghost use Rattle.journal.specs.Layout.{slots};
+ghost use Rattle.journal.specs.declared.lookup.Found.the-variants.{Absent};
+ghost use Rattle.store.specs.Held.{stateOf, outcomeOf};
+ghost use Rattle.store.specs.Lists as Lists;
+ghost use Rattle.store.specs.Lists.{openFrom, groupFrom, listed};
+ghost use Rattle.store.specs.Request as Request;
+ghost use Rattle.store.specs.Causes as Causes;
+ghost use Rattle.store.specs.Causes.{cause, workBytes};
+ghost use Rattle.store.specs.Commit as Commit;
+ghost use Rattle.store.specs.Commit.{joined, commitCall};
+
+impl Record {
+    pub fn commit(self, settled: &[u8], waiting: &[u8], work: &mut [u8]) -> Answer
+        ensures { λ r. ⌜ outcomeOf (r .number) 0 (r .rec) (now (settled .entry)) (now (waiting .entry)) (now (work .exit)) ≡ commitCall (stateOf self (now (settled .entry)) (now (waiting .entry)) (now (work .entry))) ⌝ }
+    {
+        let number = self.commit_number(settled, waiting, work);
+        if number != 0 {
+            return self.answer(number);
+        }
+        let grouped = join_all(work, self.grouped, self.opened);
+        self.with_grouped(grouped).with_opened(0).answer(0)
+    }
+
+    // Its cause. Row 7 is counted before anything is copied.
+    fn commit_number(self, settled: &[u8], waiting: &[u8], work: &[u8]) -> u32
+        ensures { λ r. ⌜ r ≡ cause Request.commit (stateOf self (now (settled .entry)) (now (waiting .entry)) (now (work .entry))) ⌝ }
+    {
+        let number = self.not_open(settled, waiting, work);
+        if number != 0 {
+            return number;
+        }
+        let new = newcomers(work, self.grouped, self.opened);
+        if SLOTS < self.grouped + new {
+            return 7;
+        }
+        0
+    }
+}
+
+// How many of the first n open entries have an address that a group of g lacks.
+fn newcomers(work: &[u8], g: u32, n: u32) -> u32
+    requires { ⌜ workBytes ≤ length (now work) ⌝ }
+    requires { ⌜ (g ≤ slots) × (n ≤ slots) ⌝ }
+    ensures { λ r. ⌜ (r ≡ Causes.newcomers (now (work .entry)) g n) × (r ≤ n) ⌝ }
+{
+    let mut count = 0;
+    let mut i = 0;
+    while i < n {
+        if !holds(work, GROUP, g, address(work, OPEN, i)) {
+            count += 1;
+        }
+        i += 1;
+    }
+    count
+}
+
+// The first n open entries, in turn, replace or join a group of g; its new count.
+fn join_all(work: &mut [u8], g: u32, n: u32) -> u32
+    requires { ⌜ workBytes ≤ length (now work) ⌝ }
+    requires { ⌜ (g ≤ slots) × (n ≤ slots) × (g + Causes.newcomers (now work) g n ≤ slots) ⌝ }
+    ensures { λ r. ⌜ _≡_ {A = Commit.Group} (record { work = now (work .exit); count = r }) (joined n (record { work = now (work .entry); count = g })) ⌝ }
+{
+    let mut count = g;
+    let mut i = 0;
+    while i < n {
+        count = join(work, count, i);
+        i += 1;
+    }
+    count
+}
+
+// The i-th open entry replaces the entry of its address in a group of g, or joins at the end; the group's new count.
+fn join(work: &mut [u8], g: u32, i: u32) -> u32
+    requires { ⌜ workBytes ≤ length (now work) ⌝ }
+    requires { ⌜ (g ≤ slots) × (i < slots) ⌝ }
+    requires { ⌜ (Lists.find (now work) groupFrom g (listed (now work) openFrom i .address) ≡ Absent → g < slots) ⌝ }
+    ensures { λ r. ⌜ _≡_ {A = Commit.Group} (record { work = now (work .exit); count = r }) (Commit.join (listed (now (work .entry)) openFrom i) (record { work = now (work .entry); count = g })) ⌝ }
+{
+    let a = address(work, OPEN, i);
+    let from = OPEN + (i as usize);
+    let Found::At(j) = find(work, GROUP, g, a) else {
+        copy_entry(work, from, GROUP + (g as usize));
+        return g + 1;
+    };
+    copy_entry(work, from, GROUP + (j as usize));
+    g
+}

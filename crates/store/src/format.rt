@@ -1,0 +1,45 @@
+// format: an empty store on a card of any content.
+use crate::check::wrong_sizes;
+use crate::record::Answer;
+use crate::record::Record;
+use card::settled::settle;
+use card::settled::wipe;
+use cells::BLOCK;
+use cells::bytes::zero;
+use journal::HEADER_AT;
+use journal::header::Header;
+ghost use mathlib.Core.Path.{_≡_};
+ghost use Prim.Native.Nat.{_<_};
+ghost use Rattle.cells.specs.Cell.{setCell};
+ghost use Rattle.cells.specs.Entry.{blockBytes};
+ghost use Rattle.card.specs.Card.{blocksIn};
+ghost use Rattle.journal.specs.Layout.{headerAt};
+ghost use Rattle.journal.specs.Header.{encode, emptyHeader};
+ghost use Rattle.store.specs.Held.{stateOf, outcomeOf};
+ghost use Rattle.store.specs.Simple.{formatCall};
+
+impl Record {
+    // format: zeros everywhere, an empty log's header, and a fresh record. What the old record holds plays no part.
+    pub fn format(self, settled: &mut [u8], waiting: &mut [u8], work: &mut [u8]) -> Answer
+        ensures { λ r. ⌜ outcomeOf (r .number) 0 (r .rec) (now (settled .exit)) (now (waiting .exit)) (now (work .exit)) ≡ formatCall (stateOf self (now (settled .entry)) (now (waiting .entry)) (now (work .entry))) ⌝ }
+    {
+        if wrong_sizes(settled, waiting, work) {
+            return self.answer(1);
+        }
+        let blocks = (settled.len() / BLOCK) as u32;
+        wipe(settled, waiting);
+        settle_header(settled, blocks);
+        zero(work);
+        Record::fresh(blocks).answer(0)
+    }
+}
+
+// Settles the header of an empty log.
+fn settle_header(settled: &mut [u8], blocks: u32)
+    requires { ⌜ headerAt < blocksIn (now settled) ⌝ }
+    ensures { λ _. ⌜ now (settled .exit) ≡ setCell blockBytes (now (settled .entry)) headerAt (encode (emptyHeader blocks)) ⌝ }
+{
+    let mut block = [0u8; 512];
+    Header::empty(blocks).fill(&mut block);
+    settle(settled, HEADER_AT, &block);
+}

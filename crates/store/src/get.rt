@@ -1,0 +1,101 @@
+// get: the newest of open, group, log, home block, handed out where it lies.
+use crate::lists::GROUP;
+use crate::lists::OPEN;
+use crate::lists::find;
+use crate::lists::place_of;
+use crate::place::Place;
+use crate::record::Record;
+use card::settled::read;
+use cells::BLOCK;
+use cells::ENTRY;
+use cells::entry;
+use journal::FIRST_SLOT;
+use journal::log::is_data;
+use journal::lookup::Found;
+use journal::lookup::last_slot;
+ghost use mathlib.Core.Path.{_≡_};
+ghost use mathlib.Core.List.{List};
+ghost use Prim.Native.Nat.{ℕ, _≤_, _<_};
+ghost use lib.ListN.{length};
+ghost use Rattle.cells.specs.Part.{viewOf};
+ghost use Rattle.card.specs.Card.{blocksIn};
+ghost use Rattle.journal.specs.Layout.{slots, firstData};
+ghost use Rattle.store.specs.Held.{stateOf, Within};
+ghost use Rattle.store.specs.Request as Request;
+ghost use Rattle.store.specs.Causes.{cause, workBytes};
+ghost use Rattle.store.specs.Get as Get;
+ghost use Rattle.store.specs.Get.{getPlace, partAt};
+
+impl Record {
+    // The number of a get with the same inputs.
+    pub fn get_number(self, settled: &[u8], waiting: &[u8], work: &[u8], address: u32) -> u32
+        ensures { λ r. ⌜ r ≡ cause (Request.get address) (stateOf self (now (settled .entry)) (now (waiting .entry)) (now (work .entry))) ⌝ }
+    {
+        let number = self.not_open(settled, waiting, work);
+        if number != 0 {
+            return number;
+        }
+        if is_data(self.blocks, address) {
+            return 0;
+        }
+        6
+    }
+
+    // Where a get finds its block.
+    pub fn get_place(self, settled: &[u8], waiting: &[u8], work: &[u8], address: u32) -> Place
+        ensures { λ r. ⌜ r ≡ getPlace address (stateOf self (now (settled .entry)) (now (waiting .entry)) (now (work .entry))) ⌝ }
+    {
+        if self.get_number(settled, waiting, work, address) != 0 {
+            return Place::Nowhere;
+        }
+        self.newest(settled, work, address)
+    }
+
+    // get: the block, or a part of no bytes where it is refused.
+    pub fn get<'a>(
+        self,
+        settled: &'a [u8],
+        waiting: &[u8],
+        work: &'a [u8],
+        address: u32,
+    ) -> &'a [u8]
+        ensures { λ r. ⌜ viewOf r ≡ partAt (getPlace address (stateOf self (now (settled .entry)) (now (waiting .entry)) (now (work .entry)))) (settled .entry) (work .entry) ⌝ }
+    {
+        part(
+            self.get_place(settled, waiting, work, address),
+            settled,
+            work,
+        )
+    }
+
+    // The newest: in open, in the group, in the log's last slot with that address, at home.
+    fn newest(self, settled: &[u8], work: &[u8], address: u32) -> Place
+        requires { ⌜ firstData < blocksIn (now settled) ⌝ }
+        requires { ⌜ workBytes ≤ length (now work) ⌝ }
+        requires { ⌜ (self .opened ≤ slots) × (self .grouped ≤ slots) × (self .logged ≤ slots) ⌝ }
+        ensures { λ r. ⌜ ((w : List ℕ) → r ≡ Get.newest address (stateOf self (now (settled .entry)) w (now (work .entry)))) ⌝ }
+    {
+        let Found::At(i) = find(work, OPEN, self.opened, address) else {
+            let Found::At(j) = find(work, GROUP, self.grouped, address) else {
+                let Found::At(k) = last_slot(settled, address, self.logged) else {
+                    return Place::Settled(BLOCK * (address as usize));
+                };
+                return Place::Settled(BLOCK * ((FIRST_SLOT + k) as usize));
+            };
+            return Place::Work(place_of(GROUP, j));
+        };
+        Place::Work(place_of(OPEN, i))
+    }
+}
+
+// The block at a place: through the card, or an entry's. Nowhere is the front of the settled bytes, none of them.
+fn part<'a>(place: Place, settled: &'a [u8], work: &'a [u8]) -> &'a [u8]
+    requires { ⌜ Within place (now settled) (now work) ⌝ }
+    ensures { λ r. ⌜ viewOf r ≡ partAt place (settled .entry) (work .entry) ⌝ }
+{
+    match place {
+        Place::Settled(at) => read(settled, (at / BLOCK) as u32),
+        Place::Work(at) => entry::block(work, at / ENTRY),
+        Place::Nowhere => &settled[0..0],
+    }
+}

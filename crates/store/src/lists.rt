@@ -1,0 +1,73 @@
+// The lists in work memory: open, and group behind it.
+use cells::ENTRY;
+use cells::bytes::copy;
+use cells::entry;
+use journal::lookup::Found;
+ghost use mathlib.Core.Path.{_≡_};
+ghost use Prim.Native.Nat.{_+_, _*_, _≤_, _<_};
+ghost use lib.ListN.{length};
+ghost use Rattle.cells.specs.Entry.{entryBytes, entryAt, setEntry};
+ghost use Rattle.journal.specs.Layout.{slots};
+ghost use Rattle.store.specs.Lists as Lists;
+ghost use Rattle.store.specs.Lists.{listed};
+ghost use Rattle.store.specs.Causes.{isFound};
+ghost use Rattle.store.specs.Get.{listedPlace};
+
+// The entry at which each starts.
+pub const OPEN: usize = 0;
+
+pub const GROUP: usize = 32;
+
+// The address of the i-th entry of the list that starts at from.
+pub(crate) fn address(work: &[u8], from: usize, i: u32) -> u32
+    requires { ⌜ entryBytes * (from + i) + entryBytes ≤ length (now work) ⌝ }
+    ensures { λ r. ⌜ r ≡ listed (now (work .entry)) from i .address ⌝ }
+{
+    entry::address(work, from + (i as usize))
+}
+
+// The byte at which its block starts.
+pub(crate) fn place_of(from: usize, i: u32) -> usize
+    requires { ⌜ from + i < slots + slots ⌝ }
+    ensures { λ r. ⌜ r ≡ listedPlace from i ⌝ }
+{
+    ENTRY * (from + (i as usize)) + 4
+}
+
+// The entry with the address a among its first n.
+pub(crate) fn find(work: &[u8], from: usize, n: u32, a: u32) -> Found
+    requires { ⌜ entryBytes * (from + n) ≤ length (now work) ⌝ }
+    ensures { λ r. ⌜ r ≡ Lists.find (now (work .entry)) from n a ⌝ }
+{
+    let mut i = n;
+    while 0 < i {
+        i -= 1;
+        if address(work, from, i) == a {
+            return Found::At(i);
+        }
+    }
+    Found::Absent
+}
+
+// Whether its first n have the address a.
+pub(crate) fn holds(work: &[u8], from: usize, n: u32, a: u32) -> bool
+    requires { ⌜ entryBytes * (from + n) ≤ length (now work) ⌝ }
+    ensures { λ r. ⌜ r ≡ isFound (Lists.find (now (work .entry)) from n a) ⌝ }
+{
+    let Found::At(_) = find(work, from, n, a) else {
+        return false;
+    };
+    true
+}
+
+// Copies one entry of work memory over another.
+pub(crate) fn copy_entry(work: &mut [u8], from: usize, to: usize)
+    requires { ⌜ entryBytes * from + entryBytes ≤ length (now work) ⌝ }
+    requires { ⌜ entryBytes * to + entryBytes ≤ length (now work) ⌝ }
+    ensures { λ _. ⌜ now (work .exit) ≡ setEntry (now (work .entry)) to (entryAt (now (work .entry)) from) ⌝ }
+{
+    let mut block = [0u8; 512];
+    copy(&mut block, entry::block(work, from));
+    let a = entry::address(work, from);
+    entry::set(work, to, a, &block);
+}
