@@ -4,3 +4,4 @@ pub mod Causes
 pub mod Commits
 pub mod Lookups
 pub mod Places
+pub mod Saves

@@ -8,3 +8,4 @@ pub mod Simple
 pub mod Get
 pub mod Commit
 pub mod Saves
+pub mod Steps

@@ -8,13 +8,12 @@ use Rattle.cells.specs.Entry.{Entry}
 use Rattle.fnv.specs.Fnv.{start}
 use Rattle.card.specs.Card as Card
 use Rattle.card.specs.Card.{Order, run}
-use Rattle.journal.specs.declared.choice.Choice.{Choice}
 use Rattle.journal.specs.Layout.{slots}
 use Rattle.journal.specs.Log.{entries, sumOf}
 use Rattle.journal.specs.Orders.{checkpointOrders, applyOrders, syncOrders}
 use Rattle.journal.specs.Choice.{choose, takenCount, takenSum, recoverOrders}
 use Rattle.store.specs.declared.record.Record.{Record}
-use Rattle.store.specs.State.{State, Outcome, closed, opened, down, withMode, withOpened, withGrouped, withLog, withQueue, withRecord, cardIn, withCard}
+use Rattle.store.specs.State.{State, Outcome, closed, opened, down, withMode, withOpened, withGrouped, withLog, withRecord, cardIn, withCard}
 use Rattle.store.specs.Lists.{groupFrom, listOf}
 use Rattle.store.specs.Request.{sync, apply, recover, cut}
 use Rattle.store.specs.Causes.{cause}
@@ -49,14 +48,16 @@ innerOrders st = cond (applies st) (checkpointOrders (st .rec .blocks) (entries 
 
 -- "The group becomes empty; open stays. Sums continue from the record's." Cut short, the record keeps n and sum "as before the
 -- call, or as a sync's apply left them if all that apply's orders happened"
-unfoldable pub syncCall : State → Outcome
-syncCall st =
+abbrev pub syncing : State → Outcome
+syncing st =
     let r = synced st in
-    unless (cause sync st) st
-    (carried (syncOrders (st .rec .blocks) (st .settled) (st .rec .logged) (st .rec .sum) (groupOf st))
+    carried (syncOrders (st .rec .blocks) (st .settled) (st .rec .logged) (st .rec .sum) (groupOf st))
     (withGrouped 0 (withLog (r .logged + st .rec .grouped) (sumOf (r .sum) (groupOf st)) r))
     (cond (leb (length (innerOrders st)) (st .rec .power)) r (st .rec))
-    st)
+    st
+
+unfoldable pub syncCall : State → Outcome
+syncCall st = unless (cause sync st) st (syncing st)
 
 -- ---- apply
 
@@ -68,16 +69,17 @@ applyCall st =
     (st .rec)
     st)
 
--- ---- recover: "Done, the mode is open, open and group are empty, n and sum those of the list taken."
+-- ---- recover
+
+-- "Done, the mode is open, open and group are empty, n and sum those of the list taken."
+abbrev pub reopened : ℕ → ℕ → Record → Record
+reopened n sum r = withMode opened (withOpened 0 (withGrouped 0 (withLog n sum r)))
 
 unfoldable pub recoverCall : State → Outcome
 recoverCall st =
     let c = choose (st .rec .blocks) (st .settled) in
     unless (cause recover st) st
-    (carried (recoverOrders (st .rec .blocks) c)
-    (withMode opened (withOpened 0 (withGrouped 0 (withLog (takenCount c) (takenSum c) (st .rec)))))
-    (st .rec)
-    st)
+    (carried (recoverOrders (st .rec .blocks) c) (reopened (takenCount c) (takenSum c) (st .rec)) (st .rec) st)
 
 -- ---- cut: "The queue is emptied, the record closed, its open, group and log counts 0, its sum the empty list's. N and the power
 -- count stay."

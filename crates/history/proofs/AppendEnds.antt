@@ -1,0 +1,131 @@
+-- An append from a card on which nothing waits, by the power there is: what it leaves done, and what every cut of it leads to.
+use Prim.Native.Nat.{ℕ, _+_, _*_, _-_, _^_, _≤_, _<_}
+use mathlib.Core.Path.{_≡_, refl, ap, sym, _∙_}
+use mathlib.Core.Bool.{Bool, true, false, cond}
+use mathlib.Core.List.{List, [], _++_}
+use native.Mathlib.Omega.{arith}
+use lib.Dec.{eqb}
+use lib.ListN.{length, getD, take, length-take, length-append}
+use lib.Seq.{take-all}
+use Rattle.cells.specs.Upto.Laws.{length-upTo}
+use Rattle.cells.specs.Entry.{Entry}
+use Rattle.fnv.specs.Fnv.{start}
+use Rattle.card.specs.Disk.{Disk, overlay}
+use Rattle.card.specs.Card.{Card, run, kept, cut, settle, blockAt, blocksIn}
+use Rattle.card.proofs.All.{All, all-append, all-take}
+use Rattle.card.proofs.Runs.{Whole, Short}
+use Rattle.card.proofs.Cuts.{kept-all}
+use Rattle.journal.specs.Layout.{slots, firstData, descriptorAt}
+use Rattle.journal.specs.Header.{header}
+use Rattle.journal.specs.Log.{headerOf, entries, sumOf, allData}
+use Rattle.journal.specs.Orders.{appendOrders}
+use Rattle.journal.proofs.Logs.{sumOf-append, length-blockAt}
+use Rattle.journal.proofs.OrderLists.{appendWrites, slotBlocks, slots-below}
+use Rattle.history.specs.Plain.{ownVerdict}
+use Rattle.history.specs.Ledger.{sameLog}
+use Rattle.history.proofs.Disks.{slotE, logD, entries-disk, WholeCard, append-head}
+use Rattle.history.proofs.Batches.{Left, left-then, append-fit, append-short, append-done, length-append-writes, Fit}
+use Rattle.history.proofs.Leads.{Leads, foundIn, read-head, on-card, append-all, append-whole}
+use Rattle.history.proofs.Crashes.{all-appended}
+use Rattle.history.proofs.CallCuts.{cut-laid, settled-laid, append-cuts, append-cuts-top}
+
+-- the writes of an append are addressed below N
+writes-low : (N : ℕ) (s : List ℕ) (n h : ℕ) (G : List Entry) → firstData < N → n + length G ≤ slots → All (λ e. e .address < N) (appendWrites N s n h G)
+writes-low N s n h G big room =
+    all-append (λ e. e .address < N) (slotBlocks n G) _ (slots-below N n G (omega arith)) (omega arith, (omega arith, tt))
+
+-- the group G is appended to n entries with the sum h on s; v is their list, S the disk; the card c has power p left of what c₀ had
+pub record AppendBase (N : ℕ) (s : List ℕ) (n h : ℕ) (G v : List Entry) (S : Disk) (c₀ c : Card) (p : ℕ) : Type 0 where
+  pub big : firstData < N
+  pub small : N < 2 ^ 32
+  pub size : N ≡ blocksIn s
+  pub room : n + length G ≤ slots
+  pub sum : h ≡ sumOf start (logD (blockAt s) n)
+  pub card : WholeCard N (blockAt s) v S n
+  pub whole : All Whole G
+  pub low : All Short G
+  pub homely : allData N G ≡ true
+  pub left : Left c₀ c s [] p
+  pub places : length (c₀ .waiting) ≡ 17544
+
+module _ {N : ℕ} {s : List ℕ} {n h : ℕ} {G v : List Entry} {S : Disk} {c₀ c : Card} {p : ℕ} (x : AppendBase N s n h G v S c₀ c p) where
+  abbrev W : List Entry
+  W = appendWrites N s n h G
+
+  pub wide : 4 * n ≤ length (blockAt s descriptorAt)
+  wide = rw (length-blockAt s descriptorAt (omega (arith, x .big, x .size))) (omega (arith, x .room))
+
+  fit : Fit c W
+  fit = append-fit c N s n h G wide (x .left .count, rw (x .left .room) (omega (arith, x .places, x .room)), x .room, x .whole)
+
+  pub writes-whole : All Whole W
+  writes-whole = fit .whole
+
+  -- cut short
+  pub short-left : p ≤ length G + 2 → Left c₀ (run (appendOrders N s n h G) c) s (take p W) 0
+  short-left l =
+      let f = append-short c N s n h G fit (rw (x .left .power) l) in
+      left-then (x .left) f (x .left .settled) (ap (λ (k : ℕ). take k W) (x .left .power)) refl
+
+  pub short-before : (r : Card) → Left c₀ r s (take p W) 0 → p ≤ length G + 1 → (ms : List ℕ) → Leads N (cut ms r .settled) v S n false
+  short-before r f l ms = append-cuts N s n h G v S (x .big) (x .small) (x .size) (x .room) (x .sum) (x .card) writes-whole (x .homely) c₀ r p f ms l
+
+  pub short-top : (r : Card) → Left c₀ r s (take p W) 0 → p ≡ length G + 2 → (ms : List ℕ) → length ms ≡ length G + 2
+      → (t u : Bool) → eqb (getD ms (length G + 1) 0) 1 ≡ t → sameLog (foundIn (cut ms r .settled)) (cond t (logD (blockAt s) n ++ G) v) ≡ u
+      → Leads N (cut ms r .settled) (cond t (logD (blockAt s) n ++ G) v) (cond (ownVerdict n (length G) t u .laid) (overlay G S) S) (ownVerdict n (length G) t u .n) (ownVerdict n (length G) t u .F)
+  short-top r f e ms l = append-cuts-top N s n h G v S (x .big) (x .small) (x .size) (x .room) (x .sum) (x .card) writes-whole (x .homely) c₀ r p f ms e (length-append-writes N s n h G) l
+
+  pub short-few : p ≤ length G + 2 → length (take p W) ≡ p
+  short-few l = let e : length W ≡ length G + 2 = length-append-writes N s n h G in length-take p W ∙ (omega arith)
+
+  pub short-low : All (λ e. e .address < N) (take p W)
+  short-low = all-take (λ e. e .address < N) p W (writes-low N s n h G (x .big) (x .room))
+
+  -- done
+  pub done-left : length G + 3 ≤ p → Left c₀ (run (appendOrders N s n h G) c) (settle W s) [] (p - (length G + 3))
+  done-left l =
+      let f = append-done c N s n h G fit (rw (x .left .power) l) in
+      left-then (x .left) f (ap (settle W) (x .left .settled)) refl (ap (λ (k : ℕ). k - (length G + 3)) (x .left .power))
+
+  pub done-card : WholeCard N (blockAt (settle W s)) (logD (blockAt s) n ++ G) (overlay G S) (n + length G)
+  done-card =
+      append-all N s n h G v S (x .big) (x .small) (x .size) (x .room) (x .sum) (x .card) (settle W s) (x .low) (x .homely)
+      (λ a l. settled-laid W s (settle W s) a refl (omega (arith, x .size)) writes-whole)
+
+  pub done-sum : sumOf h G ≡ sumOf start (logD (blockAt (settle W s)) (n + length G))
+  done-sum = ap (λ (k : ℕ). sumOf k G) (x .sum) ∙ sym (sumOf-append start (logD (blockAt s) n) G) ∙ ap (sumOf start) (done-card .same)
+
+  -- the header on the card then
+  pub done-head : headerOf (settle W s) ≡ header N n h (n + length G) (sumOf h G)
+  done-head =
+      let laid : (a : ℕ) → a < N → blockAt (settle W s) a ≡ overlay W (blockAt s) a = λ a l. settled-laid W s (settle W s) a refl (omega (arith, x .size)) writes-whole in
+      read-head (settle W s) N n h (n + length G) (sumOf h G) (x .small)
+      (append-head N (blockAt s) (blockAt (settle W s)) v S n h G (x .card)
+      (on-card N s n h G v S (x .big) (x .small) (x .size) (x .room) (x .sum) (x .card) (settle W s) W laid (all-appended N s n h G (x .room) wide (x .sum))))
+
+  size-log : length (logD (blockAt s) n) ≡ n
+  size-log = length-upTo (slotE (blockAt s)) n
+
+  size-list : length (logD (blockAt s) n ++ G) ≡ n + length G
+  size-list = length-append (logD (blockAt s) n) G ∙ ap (λ (k : ℕ). k + length G) size-log
+
+  -- by the list L before it: p and n are the lengths, the sums those of L and of L and G
+  pub done-logged : (L : List Entry) → L ≡ logD (blockAt s) n
+      → (headerOf (settle W s) ≡ header N (length L) (sumOf start L) (length (L ++ G)) (sumOf start (L ++ G))) × (entries (settle W s) (length (L ++ G)) ≡ L ++ G)
+  done-logged L e =
+      rw e (
+        done-head
+            ∙ (λ i. header N (sym size-log i) (x .sum i) (sym size-list i) ((ap (λ (k : ℕ). sumOf k G) (x .sum) ∙ sym (sumOf-append start (logD (blockAt s) n) G)) i)),
+        ap (entries (settle W s)) size-list ∙ entries-disk (settle W s) (n + length G) ∙ sym (done-card .same),
+      )
+
+  -- cut short behind its header, with every write kept: the log found is the log written
+  pub whole-found : (r : Card) → Left c₀ r s (take p W) 0 → p ≡ length G + 2 → (ms : List ℕ) → length ms ≡ length G + 2 → All (λ k. k ≡ 1) ms
+      → sameLog (foundIn (cut ms r .settled)) (logD (blockAt s) n ++ G) ≡ true
+  whole-found r f e ms l ones =
+      append-whole N s n h G v S (x .big) (x .small) (x .size) (x .room) (x .sum) (x .card) (cut ms r .settled) (x .low)
+      (λ a q.
+      let z : length W ≡ length G + 2 = length-append-writes N s n h G in
+      cut-laid c₀ r s (take p W) 0 ms a f (omega (arith, x .size)) (all-take Whole p W writes-whole)
+      ∙ ap (λ (y : List Entry). overlay (kept ms y) (blockAt s) a) (take-all p W (omega arith))
+      ∙ ap (λ (y : List Entry). overlay y (blockAt s) a) (kept-all ms W (omega arith) ones))

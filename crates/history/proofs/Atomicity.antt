@@ -1,0 +1,297 @@
+-- Crash atomicity, from the fate of the sync that was cut short.
+use Prim.Native.Nat.{ℕ, _+_, _≤_}
+use mathlib.Core.Path.{_≡_, refl, ap, ap₂, sym, _∙_}
+use mathlib.Core.Logic.{_≢_, _⊎_}
+use mathlib.Core.Bool.{Bool, true, false, true≢false, cond, not}
+use mathlib.Core.List.{List, [], _∷_}
+use native.Mathlib.Omega.{arith}
+use native.Mathlib.Decide.{ℕ-discrete, decLe}
+use borrow.Author.Tests.{eq-eqb, ne-eqb, eqb-true, not-true}
+use lib.Dec.{eqb}
+use Rattle.card.specs.Disk.{Disk, overlay}
+use Rattle.card.specs.Card.{blocksIn}
+use Rattle.card.proofs.Overlays.{overlay-nil}
+use Rattle.journal.specs.Layout.{isData}
+use Rattle.journal.proofs.Choices.{both}
+use Rattle.store.specs.State.{State, Outcome, opened}
+use Rattle.store.specs.Causes.{cause}
+use Rattle.store.specs.Simple.{formatted, formatCall}
+use Rattle.history.specs.Call.{Call, power, put, get, commit, abandon, sync, apply, recover, cut}
+use Rattle.history.specs.Plain.{Plain, Done, fresh, refusal, served, plainStep, plainSync, plainApply, plainRecover, plainCut, plainGet}
+use Rattle.history.specs.Dispatch.{dispatch}
+use Rattle.history.specs.History.{World, begun, next, after, storeNext, ledgerNext, foundWritten}
+use Rattle.history.specs.Statements as S
+use Rattle.history.specs.Statements.{requestOf, quiet, fate, shortSync, countShort, noneFinished, EndsFinished, CrashAtomicity}
+use Rattle.history.proofs.PlainLaws as PlainLaws
+use Rattle.history.proofs.Steps.{plainNext, WorldSim, same-cause, dispatch-refused, plain-refused, plain-served}
+use Rattle.history.proofs.CutStep as CutStep
+use Rattle.history.proofs.Induct.{step, next-sim, after-sim, after-append, clean-before, clean-first, begun-sim, formatted-now}
+use Rattle.history.proofs.Served.{sync-cases}
+use Rattle.history.proofs.ReadsBack.{found-closed, plain-same, recovered-sim, recovered-mode, power-served}
+use Rattle.history.proofs.Fates.{Watch, open-now, other-watch, watch-list, short-plain}
+
+-- ---- N never changes
+
+sync-N : (d : Plain) → plainSync d .plain .N ≡ d .N
+sync-N d =
+    sync-cases (λ o. o .plain .N ≡ d .N) d
+    (λ z. ap (λ (o : Done). o .plain .N) (PlainLaws.sync-nothing d z))
+    (λ z p. ap (λ (o : Done). o .plain .N) (PlainLaws.sync-finished d z p))
+    (λ z p. ap (λ (o : Done). o .plain .N) (PlainLaws.sync-short d z p))
+
+apply-N : (d : Plain) → plainApply d .plain .N ≡ d .N
+apply-N d = go (ℕ-discrete (d .n) 0) (decLe (d .n + 3) (d .power))
+  where
+    go : Dec (d .n ≡ 0) → Dec (d .n + 3 ≤ d .power) → plainApply d .plain .N ≡ d .N
+    go (yes z) q = ap (λ (o : Done). o .plain .N) (PlainLaws.apply-nothing d z)
+    go (no z) (yes q) = ap (λ (o : Done). o .plain .N) (PlainLaws.apply-finished d z q)
+    go (no z) (no q) = ap (λ (o : Done). o .plain .N) (PlainLaws.apply-short d z (omega arith))
+
+recover-N : (d : Plain) → plainRecover d .plain .N ≡ d .N
+recover-N d = go (d .F) refl (decLe 2 (d .power))
+  where
+    go : (t : Bool) → d .F ≡ t → Dec (2 ≤ d .power) → plainRecover d .plain .N ≡ d .N
+    go false f q = ap (λ (o : Done). o .plain .N) (PlainLaws.recover-whole d f)
+    go true f (yes q) = ap (λ (o : Done). o .plain .N) (PlainLaws.recover-fallback d f q)
+    go true f (no q) = ap (λ (o : Done). o .plain .N) (PlainLaws.recover-short d f (omega arith))
+
+served-N : (c : Call) (f : Bool) (d : Plain) → served c f d .plain .N ≡ d .N
+unfolding plainCut
+served-N (power k) f d = refl
+served-N (put a b) f d = refl
+served-N (get a) f d = refl
+served-N commit f d = refl
+served-N abandon f d = refl
+served-N sync f d = sync-N d
+served-N apply f d = apply-N d
+served-N recover f d = recover-N d
+served-N (cut ms) f d = refl
+
+step-N : (c : Call) (f : Bool) (d : Plain) → plainStep c f d .plain .N ≡ d .N
+step-N c f d = go (ℕ-discrete (refusal c d) 0)
+  where
+    go : Dec (refusal c d ≡ 0) → plainStep c f d .plain .N ≡ d .N
+    go (yes h) = ap (λ (o : Done). o .plain .N) (plain-served c f d h) ∙ served-N c f d
+    go (no h) = ap (λ (o : Done). o .plain .N) (plain-refused c f d h)
+
+after-N : (cs : List Call) (w : World) → after cs w .plain .N ≡ w .plain .N
+unfolding after next
+after-N [] w = refl
+after-N (c ∷ cs) w = after-N cs (next c w) ∙ step-N c (foundWritten c w) (w .plain)
+
+-- ---- after a finished sync or recovery the record is open
+
+served-of : (c : Call) (w : World) → WorldSim w → dispatch c (w .store) .answer ≡ 0 → refusal c (w .plain) ≡ 0
+served-of c w m h = go (ℕ-discrete (refusal c (w .plain)) 0)
+  where
+    go : Dec (refusal c (w .plain) ≡ 0) → refusal c (w .plain) ≡ 0
+    go (yes e) = e
+    go (no e) =
+        let k : cause (requestOf c) (w .store) ≢ 0 = λ q. e (sym (same-cause (w .store) (w .ledger) (w .plain) m c) ∙ q) in
+        absurd (k (sym (ap (λ (o : Outcome). o .answer) (dispatch-refused c (w .store) k)) ∙ h))
+
+sync-opens : (w : World) → WorldSim w → dispatch sync (w .store) .answer ≡ 0 → storeNext sync w .rec .mode ≡ opened
+sync-opens w m h =
+    let r = served-of sync w m h in
+    let o = open-now sync w m refl r in
+    let P = plain-served sync (foundWritten sync w) (w .plain) r in
+    let d : w .plain .mode ≡ 1 = m .basics .mirrors .mode ∙ o .mode in
+    step sync w m .agrees .mode
+    ∙ ap (λ (x : Done). x .plain .mode) P
+    ∙ sync-cases (λ x. x .plain .mode ≡ 1) (w .plain)
+    (λ z. ap (λ (x : Done). x .plain .mode) (PlainLaws.sync-nothing (w .plain) z) ∙ d)
+    (λ z p. ap (λ (x : Done). x .plain .mode) (PlainLaws.sync-finished (w .plain) z p) ∙ d)
+    (λ z p. absurd (let k : _≡_ {A = ℕ} 4 0 = sym (ap (λ (x : Done). x .answer) (P ∙ PlainLaws.sync-short (w .plain) z p)) ∙ sym (step sync w m .agrees .answer) ∙ h in omega arith))
+
+finished-opens : (c : Call) (w : World) → WorldSim w → S.finished c w ≡ true → storeNext c w .rec .mode ≡ opened
+unfolding S.finished
+finished-opens (power k) w m h = absurd (mathlib.Core.Bool.false≢true h)
+finished-opens (put a b) w m h = absurd (mathlib.Core.Bool.false≢true h)
+finished-opens (get a) w m h = absurd (mathlib.Core.Bool.false≢true h)
+finished-opens commit w m h = absurd (mathlib.Core.Bool.false≢true h)
+finished-opens abandon w m h = absurd (mathlib.Core.Bool.false≢true h)
+finished-opens sync w m h = sync-opens w m (eqb-true _ _ h)
+finished-opens apply w m h = absurd (mathlib.Core.Bool.false≢true h)
+finished-opens recover w m h = recovered-mode w m (eqb-true _ _ h)
+finished-opens (cut ms) w m h = absurd (mathlib.Core.Bool.false≢true h)
+
+begun-open : (st : State) → formatCall st .answer ≡ 0 → begun st .store .rec .mode ≡ opened
+unfolding begun formatted
+begun-open st h = ap (λ (s : State). s .rec .mode) (formatted-now st h)
+
+ends-open : (st : State) → formatCall st .answer ≡ 0 → (a : List Call) → EndsFinished a (begun st) → after a (begun st) .excepted ≡ false → after a (begun st) .store .rec .mode ≡ opened
+unfolding after next
+ends-open st f a (_⊎_.inl e) x = ap (λ (l : List Call). after l (begun st) .store .rec .mode) e ∙ begun-open st f
+ends-open st f a (_⊎_.inr e) x =
+    let b = e .0 in
+    let c = e .1 in
+    let same : after a (begun st) ≡ next c (after b (begun st)) = ap (λ (l : List Call). after l (begun st)) (e .2) ∙ after-append b (c ∷ []) (begun st) in
+    let clean : after b (begun st) .excepted ≡ false = clean-before (c ∷ []) (after b (begun st)) (ap (λ (w : World). w .excepted) (sym same) ∙ x) in
+    ap (λ (w : World). w .store .rec .mode) same ∙ finished-opens c (after b (begun st)) (after-sim b (begun st) (begun-sim st f) clean) (e .3)
+
+-- ---- at most one sync is cut short
+
+-- a record that is not open is opened by a finished recovery alone
+shut-recover : (w : World) → WorldSim w → refusal recover (w .plain) ≡ 0 → S.finished recover w ≡ false → storeNext recover w .rec .mode ≢ opened
+unfolding S.finished
+shut-recover w m h nf e = go (w .plain .F) refl (decLe 2 (w .plain .power))
+  where
+    P : plainStep recover (foundWritten recover w) (w .plain) ≡ plainRecover (w .plain)
+    P = plain-served recover (foundWritten recover w) (w .plain) h
+
+    not-zero : plainRecover (w .plain) .answer ≡ 0 → ⊥
+    not-zero q = true≢false (sym (eq-eqb _ 0 (step recover w m .agrees .answer ∙ ap (λ (d : Done). d .answer) P ∙ q)) ∙ nf)
+
+    go : (t : Bool) → w .plain .F ≡ t → Dec (2 ≤ w .plain .power) → ⊥
+    go false f q = not-zero (ap (λ (d : Done). d .answer) (PlainLaws.recover-whole (w .plain) f))
+    go true f (yes q) = not-zero (ap (λ (d : Done). d .answer) (PlainLaws.recover-fallback (w .plain) f q))
+    go true f (no q) =
+        let k : _≡_ {A = ℕ} 2 1 = sym (step recover w m .agrees .mode ∙ ap (λ (d : Done). d .plain .mode) (P ∙ PlainLaws.recover-short (w .plain) f (omega arith))) ∙ e in
+        omega arith
+
+served-shut : (c : Call) (w : World) → WorldSim w → w .store .rec .mode ≢ opened → S.finished c w ≡ false → refusal c (w .plain) ≡ 0 → storeNext c w .rec .mode ≢ opened
+served-shut (power k) w m z nf h e = z (sym (ap (λ (o : Outcome). o .state .rec .mode) (power-served k w m)) ∙ e)
+served-shut (put a b) w m z nf h e = z (open-now (put a b) w m refl h .mode)
+served-shut (get a) w m z nf h e = z (open-now (get a) w m refl h .mode)
+served-shut commit w m z nf h e = z (open-now commit w m refl h .mode)
+served-shut abandon w m z nf h e = z (open-now abandon w m refl h .mode)
+served-shut sync w m z nf h e = z (open-now sync w m refl h .mode)
+served-shut apply w m z nf h e = z (open-now apply w m refl h .mode)
+served-shut recover w m z nf h e = shut-recover w m h nf e
+served-shut (cut ms) w m z nf h e = let k : _≡_ {A = ℕ} 0 1 = sym (ap (λ (s : State). s .rec .mode) (CutStep.store-cut ms w m h)) ∙ e in omega arith
+
+stays-shut : (c : Call) (w : World) → WorldSim w → w .store .rec .mode ≢ opened → S.finished c w ≡ false → storeNext c w .rec .mode ≢ opened
+stays-shut c w m z nf = go (ℕ-discrete (refusal c (w .plain)) 0)
+  where
+    go : Dec (refusal c (w .plain) ≡ 0) → storeNext c w .rec .mode ≢ opened
+    go (yes h) = λ e. served-shut c w m z nf h e
+    go (no h) = λ e.
+        let k : cause (requestOf c) (w .store) ≢ 0 = λ q. h (sym (same-cause (w .store) (w .ledger) (w .plain) m c) ∙ q) in
+        z (sym (ap (λ (o : Outcome). o .state .rec .mode) (dispatch-refused c (w .store) k)) ∙ e)
+
+shut-short : (c : Call) (w : World) → w .store .rec .mode ≢ opened → shortSync c w ≡ false
+unfolding shortSync
+shut-short (power k) w z = refl
+shut-short (put a b) w z = refl
+shut-short (get a) w z = refl
+shut-short commit w z = refl
+shut-short abandon w z = refl
+shut-short sync w z = rw (ne-eqb _ _ z)
+shut-short apply w z = refl
+shut-short recover w z = refl
+shut-short (cut ms) w z = refl
+
+count-shut : (cs : List Call) (w : World) → WorldSim w → w .store .rec .mode ≢ opened → noneFinished cs w ≡ true → after cs w .excepted ≡ false → countShort cs w ≡ 0
+unfolding after next noneFinished countShort
+count-shut [] w m z n e = refl
+count-shut (c ∷ cs) w m z n e =
+    let p = both (not (S.finished c w)) (noneFinished cs (next c w)) n in
+    let r = count-shut cs (next c w) (next-sim c w m (clean-first c cs w e)) (stays-shut c w m z (not-true _ (p .0))) (p .1) e in
+    ap₂ (λ (t : Bool) (k : ℕ). cond t 1 0 + k) (shut-short c w z) r
+
+-- on an open record a sync is never refused
+open-serves : (w : World) → WorldSim w → w .store .rec .mode ≡ opened → refusal sync (w .plain) ≡ 0
+unfolding refusal
+open-serves w m o =
+    let d : w .plain .mode ≡ 1 = m .basics .mirrors .mode ∙ o in
+    rw (ne-eqb (w .plain .mode) 0 (λ z. omega arith), ne-eqb (w .plain .mode) 2 (λ z. omega arith))
+
+-- a sync that is cut short leaves the record down
+short-down : (c : Call) (w : World) → WorldSim w → S.finished c w ≡ false → shortSync c w ≡ true → storeNext c w .rec .mode ≢ opened
+unfolding shortSync
+short-down (power k) w m nf h e = absurd (mathlib.Core.Bool.false≢true h)
+short-down (put a b) w m nf h e = absurd (mathlib.Core.Bool.false≢true h)
+short-down (get a) w m nf h e = absurd (mathlib.Core.Bool.false≢true h)
+short-down commit w m nf h e = absurd (mathlib.Core.Bool.false≢true h)
+short-down abandon w m nf h e = absurd (mathlib.Core.Bool.false≢true h)
+short-down sync w m nf h e =
+    let o : w .store .rec .mode ≡ opened = eqb-true _ _ (both (eqb (w .store .rec .mode) opened) (eqb (dispatch sync (w .store) .answer) 4) h .0) in
+    let r : refusal sync (w .plain) ≡ 0 = open-serves w m o in
+    let k : _≡_ {A = ℕ} 2 1 = sym (step sync w m .agrees .mode ∙ ap (λ (x : Done). x .plain .mode) (short-plain (w .plain .S) w m r nf)) ∙ e in
+    omega arith
+short-down apply w m nf h e = absurd (mathlib.Core.Bool.false≢true h)
+short-down recover w m nf h e = absurd (mathlib.Core.Bool.false≢true h)
+short-down (cut ms) w m nf h e = absurd (mathlib.Core.Bool.false≢true h)
+
+count-one : (cs : List Call) (w : World) → WorldSim w → noneFinished cs w ≡ true → after cs w .excepted ≡ false → countShort cs w ≤ 1
+unfolding after next noneFinished countShort
+count-one [] w m n e = omega arith
+count-one (c ∷ cs) w m n e =
+    let p = both (not (S.finished c w)) (noneFinished cs (next c w)) n in
+    let m′ = next-sim c w m (clean-first c cs w e) in
+    go (shortSync c w) refl (count-one cs (next c w) m′ (p .1) e) (λ s. count-shut cs (next c w) m′ (short-down c w m (not-true _ (p .0)) s) (p .1) e)
+  where
+    go : (t : Bool) → shortSync c w ≡ t → countShort cs (next c w) ≤ 1 → (shortSync c w ≡ true → countShort cs (next c w) ≡ 0) → cond (shortSync c w) 1 0 + countShort cs (next c w) ≤ 1
+    go true q a b = let z = b q in rw q (omega arith)
+    go false q a b = rw q (omega arith)
+
+-- ---- the disk found
+
+module _ (w : World) (m : WorldSim w) (h : dispatch recover (w .store) .answer ≡ 0) where
+  -- right after the recovery
+  abbrev v : World
+  v = record { store = storeNext recover w; ledger = ledgerNext recover w; plain = plainNext recover w; excepted = false }
+
+  sim : WorldSim v
+  sim = recovered-sim w m h
+
+  r : refusal recover (w .plain) ≡ 0
+  r = served-of recover w m h
+
+  plain-is : plainNext recover w ≡ plainRecover (w .plain) .plain
+  plain-is = ap (λ (o : Done). o .plain) (plain-served recover (foundWritten recover w) (w .plain) r)
+
+  mode-is : plainNext recover w .mode ≡ 1
+  mode-is = sim .basics .mirrors .mode ∙ recovered-mode w m h
+
+  get-served : (N x : ℕ) → N ≡ w .plain .N → isData N x ≡ true → refusal (get x) (plainNext recover w) ≡ 0
+  unfolding refusal
+  get-served N x e q =
+      let k : plainNext recover w .N ≡ N = step-N recover (foundWritten recover w) (w .plain) ∙ sym e in
+      let t : isData (plainNext recover w .N) x ≡ true = ap (λ (y : ℕ). isData y x) k ∙ q in
+      rw (ne-eqb (plainNext recover w .mode) 0 (λ z. omega (arith, mode-is)), ne-eqb (plainNext recover w .mode) 2 (λ z. omega (arith, mode-is)), t)
+
+  lists-empty : (plainRecover (w .plain) .plain .T ≡ w .plain .T) × (plainRecover (w .plain) .plain .G ≡ w .plain .G)
+  lists-empty = go (w .plain .F) refl (decLe 2 (w .plain .power))
+    where
+      go : (t : Bool) → w .plain .F ≡ t → Dec (2 ≤ w .plain .power) → (plainRecover (w .plain) .plain .T ≡ w .plain .T) × (plainRecover (w .plain) .plain .G ≡ w .plain .G)
+      go false f q = (ap (λ (o : Done). o .plain .T) (PlainLaws.recover-whole (w .plain) f), ap (λ (o : Done). o .plain .G) (PlainLaws.recover-whole (w .plain) f))
+      go true f (yes q) = (ap (λ (o : Done). o .plain .T) (PlainLaws.recover-fallback (w .plain) f q), ap (λ (o : Done). o .plain .G) (PlainLaws.recover-fallback (w .plain) f q))
+      go true f (no q) = (ap (λ (o : Done). o .plain .T) (PlainLaws.recover-short (w .plain) f (omega arith)), ap (λ (o : Done). o .plain .G) (PlainLaws.recover-short (w .plain) f (omega arith)))
+
+  plain-get : (x : ℕ) → plainGet x (plainNext recover w) ≡ w .plain .S x
+  unfolding plainGet
+  plain-get x =
+      let c = found-closed w m h in
+      let T : plainNext recover w .T ≡ [] = ap (λ (d : Plain). d .T) plain-is ∙ lists-empty .0 ∙ c .T in
+      let G : plainNext recover w .G ≡ [] = ap (λ (d : Plain). d .G) plain-is ∙ lists-empty .1 ∙ c .G in
+      let S′ : plainNext recover w .S ≡ w .plain .S = ap (λ (d : Plain). d .S) plain-is ∙ plain-same w m h in
+      (λ i. overlay (T i) (overlay (G i) (S′ i)) x)
+      ∙ ap (λ (f : Disk). f x) (overlay-nil (overlay [] (w .plain .S)) ∙ overlay-nil (w .plain .S))
+
+  pub found-is : (N : ℕ) (d : Disk) → N ≡ w .plain .N → w .plain .S ≡ d → S.FoundIs N (storeNext recover w) d
+  found-is N d e s x q =
+      let a = step (get x) v sim .agrees in
+      let z : dispatch (get x) (storeNext recover w) .answer ≡ 0 =
+      a .answer ∙ ap (λ (o : Done). o .answer) (plain-served (get x) (foundWritten (get x) v) (plainNext recover w) (get-served N x e q)) in
+      (z, a .block x refl z ∙ plain-get x ∙ ap (λ (f : Disk). f x) s)
+
+-- ---- the theorem
+
+pub crash-atomicity : CrashAtomicity
+unfolding begun fresh
+crash-atomicity st f cs a b c e ends none h x =
+    let w = after a (begun st) in
+    let clean : after a (begun st) .excepted ≡ false = clean-before b (after a (begun st)) x in
+    let m : WorldSim (after a (begun st)) = after-sim a (begun st) (begun-sim st f) clean in
+    let m′ : WorldSim (after b (after a (begun st))) = after-sim b (after a (begun st)) m x in
+    let start : Watch (after a (begun st) .plain .S) quiet (after a (begun st) .store) (after a (begun st) .ledger) (after a (begun st) .plain) =
+    _⊎_.inl (record { mode = ends-open st f a ends clean; S = refl }) in
+    let end = watch-list (after a (begun st) .plain .S) b (after a (begun st)) quiet m none x start in
+    let o = other-watch (after a (begun st) .plain .S) (fate b (after a (begun st)) quiet) (after b (after a (begun st)) .store) (after b (after a (begun st)) .ledger) (after b (after a (begun st)) .plain) end
+    (found-closed (after b (after a (begun st))) m′ h .mode) in
+    record {
+      one = count-one b (after a (begun st)) m none x;
+      found = found-is (after b (after a (begun st))) m′ h (blocksIn (st .settled)) _ (sym (after-N b (after a (begun st)) ∙ after-N a (begun st))) (o .S);
+      whole = o .whole;
+    }

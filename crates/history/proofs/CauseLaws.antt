@@ -1,0 +1,279 @@
+-- What checks 1 and 2 say in plain facts, and what `cause` comes to in a state that passes them.
+use Prim.Native.Nat.{ℕ, _%_, _^_, _≤_, _<_}
+use mathlib.Core.Path.{_≡_, refl, ap, sym}
+use mathlib.Core.Bool.{Bool, true, false, cond, not, _&&_, _||_, and-false, false≢true}
+use mathlib.Core.Logic.{_≢_}
+use mathlib.Core.List.{List, [], _∷_}
+use native.Mathlib.Omega.{arith}
+use borrow.Author.Tests.{eq-eqb, le-ltb, lt-ltb, eqb-true, eqb-false, ltb-false, leb-false, not-false}
+use lib.Dec.{eqb, ltb}
+use lib.ListN.{length, drop}
+use Rattle.cells.specs.Upto.Laws.{length-upTo}
+use Rattle.cells.specs.Entry.{blockBytes, entryAt}
+use Rattle.card.specs.Card.{places, blocksIn}
+use Rattle.card.specs.Held.{Below}
+use Rattle.card.proofs.All.{All}
+use Rattle.journal.specs.Layout.{slots}
+use Rattle.journal.specs.Log.{entries}
+use Rattle.journal.specs.Choice.{choose, choiceNumber}
+use Rattle.store.specs.State.{State, closed, opened, down}
+use Rattle.store.specs.Lists.{openFrom, groupFrom, listed, listOf, find}
+use Rattle.store.specs.Request as Request
+use Rattle.store.specs.Request.{Request}
+use Rattle.store.specs.Causes as Causes
+use Rattle.store.specs.Causes.{mostBlocks, wrongSizes, wrongCounts, wrongWaiting, wrongLists, wrongRecord, wrongBlock, some, readsRecord, needsOpen, isRecover, isFound, Row, table, first, cause}
+use Rattle.store.specs.Simple.{putAt}
+use Rattle.store.specs.Commit.{joined}
+use Rattle.store.proofs.Causes.{neither, SizeFacts, sizes-facts, counts-facts, waiting-facts, Passes, cause-passes as Causes·cause-passes}
+use Rattle.store.proofs.Places.{data-lt}
+use Rattle.history.specs.Call.{Call, power, put, get, commit, abandon, sync, apply, recover, cut}
+use Rattle.history.specs.Plain.{Plain, overOne, refusal}
+use Rattle.history.specs.Statements.{requestOf}
+use Rattle.history.proofs.WorkLists.{none-some, find-has, Distinct, twice-distinct, distinct-twice, Data, strays-all, all-strays, straySlots-all, all-straySlots, data-small, PutOpen, put-open, Merged, joined-group, newcomers-merge}
+
+-- ---- 1: the sizes
+
+pub facts-sizes : (st : State) → SizeFacts st → wrongSizes st ≡ false
+unfolding wrongSizes
+facts-sizes st f =
+    let whole : length (st .settled) % blockBytes ≡ 0 = omega arith in
+    rw (eq-eqb _ _ whole, le-ltb _ _ (f .least), le-ltb _ _ (f .most), eq-eqb _ _ (f .waiting), eq-eqb _ _ (f .work))
+
+-- ---- 2: the record
+
+-- "read when open"
+pub record ListFacts (st : State) : Type 0 where
+  pub open-data : All (Data (st .rec .blocks)) (listOf (st .work) openFrom (st .rec .opened))
+  pub group-data : All (Data (st .rec .blocks)) (listOf (st .work) groupFrom (st .rec .grouped))
+  pub log-data : All (Data (st .rec .blocks)) (entries (st .settled) (st .rec .logged))
+  pub open-distinct : Distinct (listOf (st .work) openFrom (st .rec .opened))
+  pub group-distinct : Distinct (listOf (st .work) groupFrom (st .rec .grouped))
+
+pub record RecordFacts (st : State) : Type 0 where
+  pub mode : st .rec .mode ≤ down
+  pub open-count : st .rec .opened ≤ slots
+  pub group-count : st .rec .grouped ≤ slots
+  pub log-count : st .rec .logged ≤ slots
+  pub waiting-count : st .rec .waiting ≤ places
+  pub waiting-down : st .rec .waiting ≢ 0 → st .rec .mode ≡ down
+  pub blocks : st .rec .blocks ≡ blocksIn (st .settled)
+  pub waiting-below : Below (st .rec .blocks) (st .waiting) (st .rec .waiting)
+  pub lists : st .rec .mode ≡ opened → ListFacts st
+
+-- two tests that do not both pass: where one does, the other fails
+other : (a b : Bool) → a && b ≡ false → a ≡ true → b ≡ false
+other true b e p = e
+other false b e p = absurd (false≢true p)
+
+pub lists-facts : (st : State) → wrongLists st ≡ false → ListFacts st
+unfolding wrongLists
+lists-facts st e =
+    let a = neither _ _ e in
+    let b = neither _ _ (a .0) in
+    let c = neither _ _ (b .0) in
+    let d = neither _ _ (c .0) in
+    record {
+      open-data = strays-all (st .work) (st .rec .blocks) openFrom (st .rec .opened) (d .0);
+      group-data = strays-all (st .work) (st .rec .blocks) groupFrom (st .rec .grouped) (d .1);
+      log-data = straySlots-all (st .settled) (st .rec .blocks) (st .rec .logged) (c .1);
+      open-distinct = twice-distinct (st .work) openFrom (st .rec .opened) (b .1);
+      group-distinct = twice-distinct (st .work) groupFrom (st .rec .grouped) (a .1);
+    }
+
+pub facts-lists : (st : State) → ListFacts st → wrongLists st ≡ false
+unfolding wrongLists
+facts-lists st f =
+    rw (
+      all-strays (st .work) (st .rec .blocks) openFrom (st .rec .opened) (f .open-data),
+      all-strays (st .work) (st .rec .blocks) groupFrom (st .rec .grouped) (f .group-data),
+      all-straySlots (st .settled) (st .rec .blocks) (st .rec .logged) (f .log-data),
+      distinct-twice (st .work) openFrom (st .rec .opened) (f .open-distinct),
+      distinct-twice (st .work) groupFrom (st .rec .grouped) (f .group-distinct),
+    )
+
+pub record-facts : (st : State) → wrongRecord st ≡ false → RecordFacts st
+record-facts st e =
+    let r = neither _ _ e in
+    let q = neither _ _ (r .0) in
+    let c = counts-facts st (q .0) in
+    record {
+      mode = c .mode;
+      open-count = c .open-count;
+      group-count = c .group-count;
+      log-count = c .log-count;
+      waiting-count = c .waiting-count;
+      waiting-down = c .waiting-down;
+      blocks = c .blocks;
+      waiting-below = waiting-facts st (q .1);
+      lists = λ p. lists-facts st (other _ _ (r .1) (eq-eqb _ _ p));
+    }
+
+pub facts-record : (st : State) → RecordFacts st → wrongRecord st ≡ false
+unfolding wrongCounts wrongWaiting
+facts-record st f =
+    rw (le-ltb _ _ (f .mode), le-ltb _ _ (f .open-count), le-ltb _ _ (f .group-count), le-ltb _ _ (f .log-count), le-ltb _ _ (f .waiting-count), waits, eq-eqb _ _ (f .blocks), addresses)
+    (go (eqb (st .rec .mode) opened) refl)
+  where
+    waits : not (eqb (st .rec .waiting) 0) && not (eqb (st .rec .mode) down) ≡ false
+    waits = at (eqb (st .rec .waiting) 0) refl
+      where
+        at : (t : Bool) → eqb (st .rec .waiting) 0 ≡ t → not t && not (eqb (st .rec .mode) down) ≡ false
+        at true p = refl
+        at false p = ap not (eq-eqb _ _ (f .waiting-down (eqb-false _ _ p)))
+
+    addresses : some (λ i. not (ltb (entryAt (st .waiting) i .address) (st .rec .blocks))) (st .rec .waiting) ≡ false
+    addresses =
+        none-some (λ i. not (ltb (entryAt (st .waiting) i .address) (st .rec .blocks))) (st .rec .waiting) (λ i p. ap not (lt-ltb _ _ (f .waiting-below i p)))
+
+    go : (t : Bool) → eqb (st .rec .mode) opened ≡ t → t && wrongLists st ≡ false
+    go true p = facts-lists st (f .lists (eqb-true _ _ p))
+    go false p = refl
+
+-- ---- both
+
+pub record SoundFacts (st : State) : Type 0 where
+  pub sizes : SizeFacts st
+  pub counts : RecordFacts st
+
+pub sound-facts : (st : State) → wrongSizes st ≡ false → wrongRecord st ≡ false → SoundFacts st
+sound-facts st s r = record { sizes = sizes-facts st s; counts = record-facts st r }
+
+pub facts-sound : (st : State) → SoundFacts st → (wrongSizes st ≡ false) × (wrongRecord st ≡ false)
+facts-sound st f = (facts-sizes st (f .sizes), facts-record st (f .counts))
+
+-- only a record that is down waits
+pub idle : (st : State) → RecordFacts st → st .rec .mode ≢ down → st .rec .waiting ≡ 0
+idle st f h = go (eqb (st .rec .waiting) 0) refl
+  where
+    go : (t : Bool) → eqb (st .rec .waiting) 0 ≡ t → st .rec .waiting ≡ 0
+    go true p = eqb-true _ _ p
+    go false p = absurd (h (f .waiting-down (eqb-false _ _ p)))
+
+-- ---- the plain disk's refusal
+
+-- Causes.antt and Plain.antt each define it, in one text
+pub overOne-same : (ms : List ℕ) → Causes.overOne ms ≡ overOne ms
+unfolding Causes.overOne overOne
+overOne-same [] = refl
+overOne-same (m ∷ ms) = ap (λ (t : Bool). ltb 1 m || t) (overOne-same ms)
+
+-- the plain disk has what a refusal reads
+pub record Mirrors (st : State) (d : Plain) : Type 0 where
+  pub mode : d .mode ≡ st .rec .mode
+  pub N : d .N ≡ st .rec .blocks
+  pub waiting : d .waiting ≡ st .rec .waiting
+  pub T : st .rec .mode ≡ opened → d .T ≡ listOf (st .work) openFrom (st .rec .opened)
+  pub G : st .rec .mode ≡ opened → d .G ≡ listOf (st .work) groupFrom (st .rec .grouped)
+
+-- tests behind the modes count when open
+when-open : (m x y : ℕ) → m ≤ down → (m ≡ opened → x ≡ y) → cond (eqb m closed) 3 (cond (eqb m down) 4 x) ≡ cond (eqb m closed) 3 (cond (eqb m down) 4 y)
+when-open m x y h e = go (eqb m closed) (eqb m down) refl refl
+  where
+    go : (s t : Bool) → eqb m closed ≡ s → eqb m down ≡ t → cond s 3 (cond t 4 x) ≡ cond s 3 (cond t 4 y)
+    go true t p q = refl
+    go false true p q = refl
+    go false false p q =
+        let a : m ≢ closed = eqb-false _ _ p in
+        let b : m ≢ down = eqb-false _ _ q in
+        e (omega arith)
+
+module _ (st : State) (d : Plain) (sizes : wrongSizes st ≡ false) (counts : wrongRecord st ≡ false) (m : Mirrors st d) where
+  pub cause-refusal : (c : Call) → (c ≡ recover → st .rec .mode ≡ closed → choiceNumber (choose (st .rec .blocks) (st .settled)) ≡ 0)
+      → cause (requestOf c) st ≡ refusal c d
+  unfolding refusal
+  cause-refusal (power k) h = rw (sizes, counts)
+  cause-refusal (put a b) h =
+      rw (sizes, counts, m .mode, m .N)
+      (ap (λ (k : ℕ). cond (not (eqb (length b) blockBytes)) 1 k)
+      (when-open (st .rec .mode) _ _ (record-facts st counts .mode)
+      (λ o. rw (find-has (st .work) openFrom (st .rec .opened) a, m .T o, length-upTo (listed (st .work) openFrom) (st .rec .opened)))))
+  cause-refusal (get a) h = rw (sizes, counts, m .mode, m .N)
+  cause-refusal commit h =
+      rw (sizes, counts, m .mode)
+      (when-open (st .rec .mode) _ _ (record-facts st counts .mode)
+      (λ o. rw (newcomers-merge (st .work) (st .rec .grouped) (st .rec .opened) (record-facts st counts .lists o .open-distinct), m .T o, m .G o)))
+  cause-refusal abandon h = rw (sizes, counts, m .mode)
+  cause-refusal sync h = rw (sizes, counts, m .mode)
+  cause-refusal apply h = rw (sizes, counts, m .mode)
+  cause-refusal recover h = rw (sizes, counts, m .mode) (go (eqb (st .rec .mode) down) (eqb (st .rec .mode) opened) refl refl)
+    where
+      choice : ℕ
+      choice = choiceNumber (choose (st .rec .blocks) (st .settled))
+
+      go : (s t : Bool) → eqb (st .rec .mode) down ≡ s → eqb (st .rec .mode) opened ≡ t
+          → _≡_ {A = ℕ} (cond s 4 (cond t 5 (cond (eqb choice 8) 8 (cond (eqb choice 9) 9 0)))) (cond s 4 (cond t 5 0))
+      go true t p q = refl
+      go false true p q = refl
+      go false false p q =
+          let a : st .rec .mode ≢ down = eqb-false _ _ p in
+          let b : st .rec .mode ≢ opened = eqb-false _ _ q in
+          let k : st .rec .mode ≤ down = record-facts st counts .mode in
+          rw (h refl (omega arith))
+  cause-refusal (cut ms) h = rw (sizes, counts, m .waiting, overOne-same)
+
+-- ---- numbers that are not given
+
+first-not : (rs : List Row) (k : ℕ) (q : Request) (st : State) → k ≢ 0 → All (λ r. r .number ≢ k) rs → first rs q st ≢ k
+first-not [] k q st z a e = z (sym e)
+first-not (r ∷ rs) k q st z a e = go (r .test q st) e (first-not rs k q st z (a .1))
+  where
+    go : (t : Bool) → cond t (r .number) (first rs q st) ≡ k → first rs q st ≢ k → ⊥
+    go true p f = a .0 p
+    go false p f = f p
+
+-- 1 is for the call's own block
+pub cause-one : (q : Request) (st : State) → wrongSizes st ≡ false → cause q st ≡ 1 → wrongBlock q ≡ true
+cause-one q st sizes e = go (wrongBlock q) refl
+  where
+    go : (t : Bool) → wrongBlock q ≡ t → t ≡ true
+    go true p = refl
+    go false p = absurd (first-not (drop 1 table) 1 q st (omega arith) (omega arith) (rw (sizes, p) at e))
+
+pub cause-two : (q : Request) (st : State) → wrongRecord st ≡ false → cause q st ≢ 2
+cause-two q st counts e = go (wrongSizes st || wrongBlock q) (rw (counts, and-false) at e)
+  where
+    go : (t : Bool) → cond t 1 (first (drop 2 table) q st) ≡ 2 → ⊥
+    go true p = omega arith
+    go false p = first-not (drop 2 table) 2 q st (omega arith) (omega arith) p
+
+-- ---- a call that no row of the table refuses
+
+pub cause-passes : (q : Request) (st : State) → cause q st ≡ 0 → Passes q st
+cause-passes q st e = Causes·cause-passes q st 0 (sym e) refl
+
+-- a call that needs an open store
+pub record IsOpen (st : State) : Type 0 where
+  pub facts : SoundFacts st
+  pub mode : st .rec .mode ≡ opened
+  pub lists : ListFacts st
+
+pub cause-opened : (q : Request) (st : State) → readsRecord q ≡ true → needsOpen q ≡ true → cause q st ≡ 0 → IsOpen st
+cause-opened q st reads needs e =
+    let p = cause-passes q st e in
+    let f = sound-facts st (p .sizes) (other _ _ (p .counts) reads) in
+    let a : st .rec .mode ≢ closed = eqb-false _ _ (other _ _ (p .not-closed) needs) in
+    let b : st .rec .mode ≢ down = eqb-false _ _ (other _ _ (p .not-down) (ap (λ (t : Bool). t || isRecover q) needs)) in
+    let few : st .rec .mode ≤ down = f .counts .mode in
+    let mode : st .rec .mode ≡ opened = omega arith in
+    record { facts = f; mode = mode; lists = f .counts .lists mode }
+
+-- a put that is done
+pub put-done : (a : ℕ) (b : List ℕ) (st : State) → cause (Request.put a b) st ≡ 0
+    → PutOpen (record { address = a; block = b }) st (putAt (find (st .work) openFrom (st .rec .opened) a) (record { address = a; block = b }) st)
+put-done a b st e =
+    let p = cause-passes (Request.put a b) st e in
+    let o = cause-opened (Request.put a b) st refl refl e in
+    let below : a < st .rec .blocks = data-lt (st .rec .blocks) a (not-false _ (p .address)) in
+    let small : a < 2 ^ 32 = omega (arith, o .facts .counts .blocks, o .facts .sizes .most) in
+    put-open (record { address = a; block = b }) st (o .facts .sizes .work) (o .facts .counts .open-count) (eqb-true _ _ (not-false _ (p .block))) small (o .lists .open-distinct)
+    (λ h. leb-false _ _ (other _ _ (p .room) (ap (λ f. not (isFound f)) h)))
+
+-- a commit that is done
+pub commit-done : (st : State) → cause Request.commit st ≡ 0
+    → Merged (st .work) (st .rec .grouped) (st .rec .opened) (joined (st .rec .opened) (record { work = st .work; count = st .rec .grouped }))
+commit-done st e =
+    let p = cause-passes Request.commit st e in
+    let o = cause-opened Request.commit st refl refl e in
+    let few : st .rec .blocks ≤ mostBlocks = omega (arith, o .facts .counts .blocks, o .facts .sizes .most) in
+    joined-group (st .work) (st .rec .grouped) (st .rec .opened) (o .facts .sizes .work) (o .facts .counts .open-count) (o .lists .open-distinct) (o .lists .group-distinct)
+    (data-small (st .rec .blocks) few (listOf (st .work) openFrom (st .rec .opened)) (o .lists .open-data)) (ltb-false _ _ (p .room))

@@ -1,0 +1,193 @@
+-- The cut: from every mode to what the plain disk chooses.
+use Prim.Native.Nat.{ℕ}
+use mathlib.Core.Path.{_≡_, refl, ap, sym, _∙_}
+use mathlib.Core.Logic.{_≢_, _⊎_}
+use mathlib.Core.Bool.{Bool, true, false, cond, not, _&&_, _||_}
+use mathlib.Core.List.{List, [], _∷_}
+use native.Mathlib.Omega.{arith}
+use native.Mathlib.Decide.{ℕ-discrete}
+use borrow.Author.Tests.{eq-eqb, eqb-true}
+use lib.Dec.{eqb}
+use lib.ListN.{length}
+use Rattle.cells.specs.Entry.{Entry}
+use Rattle.fnv.specs.Fnv.{start}
+use Rattle.card.specs.Disk.{Disk, overlay}
+use Rattle.card.specs.Card as Card
+use Rattle.card.specs.Card.{blockAt, kept, settle}
+use Rattle.card.proofs.Cuts.{cut-length}
+use Rattle.store.specs.Request as Request
+use Rattle.store.specs.State.{State, Outcome, closed, down, withMode, withOpened, withGrouped, withLog, withRecord, withCard, cardIn}
+use Rattle.store.specs.Causes.{cause}
+use Rattle.store.specs.Simple.{finished}
+use Rattle.store.specs.Saves.{cutCall}
+use Rattle.store.proofs.Causes.{sizes-facts}
+use Rattle.history.specs.Call.{get, cut}
+use Rattle.history.specs.Plain.{Plain, Done, plainStep, none, Verdict, refusal, plainCut, headerKept, overOne}
+use Rattle.history.specs.Dispatch.{dispatch}
+use Rattle.history.specs.Ledger.{Ledger, nothing, resolved, entered, logFound, sameLog, collides}
+use Rattle.history.specs.History.{World, storeNext, ledgerNext, foundWritten, acceptedCut, exception}
+use Rattle.history.proofs.Disks.{ClosedCard}
+use Rattle.history.proofs.Leads.{closed-leads, foundIn}
+use Rattle.history.proofs.CauseLaws.{facts-sizes, record-facts, facts-record, idle}
+use Rattle.history.proofs.Relation.{Basics, OpenSim, ClosedSim, DownSim, Sim, cutSettled, cutWritten, cutVerdict, CutLeads}
+use Rattle.history.proofs.PlainLaws.{choose-none}
+use Rattle.history.proofs.Steps.{WorldSim, StepOK, sim-at, same-cause, refused-step, plain-served}
+
+-- ---- every cut leads to what the plain disk chooses
+
+-- with nothing waiting a cut changes nothing
+pub cut-nothing : (ms : List ℕ) (st : State) → length ms ≡ 0 → cutSettled ms st ≡ st .settled
+unfolding Card.cut kept settle
+cut-nothing [] st h = refl
+cut-nothing (m ∷ ms) st h = absurd (omega arith)
+
+-- the card stands as it is, no header waits, no call was cut short
+still-leads : (ms : List ℕ) (st : State) (l : Ledger) (d : Plain) → length ms ≡ 0 → d .short ≡ none → l .pending ≡ nothing
+    → ClosedCard (st .rec .blocks) (blockAt (st .settled)) (l .written) (d .S) (d .n) (d .F) → CutLeads ms st l d
+unfolding resolved
+still-leads ms st l d h s p r =
+    rw (s, p, choose-none (d .n) (length (d .G)) (d .F) (headerKept ms (d .waiting)) (sameLog (foundIn (cutSettled ms st)) (l .written)), cut-nothing ms st h)
+    (closed-leads (st .rec .blocks) (st .settled) (l .written) (d .S) (d .n) (d .F) r)
+
+pub all-cuts : (ms : List ℕ) (st : State) (l : Ledger) (d : Plain) → Sim st l d → length ms ≡ st .rec .waiting → CutLeads ms st l d
+all-cuts ms st l d m h = go (m .phase)
+  where
+    quiet : st .rec .mode ≢ down → length ms ≡ 0
+    quiet z = h ∙ idle st (record-facts st (m .basics .counts)) z
+
+    go : OpenSim st l d ⊎ (ClosedSim st l d ⊎ DownSim st l d) → CutLeads ms st l d
+    go (_⊎_.inl o) =
+        still-leads ms st l d (quiet (λ z. omega (arith, o .mode))) (o .short) (o .pending)
+        (rw (o .n, o .F) (o .card))
+    go (_⊎_.inr (_⊎_.inl o)) = still-leads ms st l d (quiet (λ z. omega (arith, o .mode))) (o .short) (o .pending) (o .card)
+    go (_⊎_.inr (_⊎_.inr o)) = o .cuts ms h
+
+-- ---- the state after an accepted cut
+
+abbrev pub afterCut : List ℕ → State → State
+afterCut ms st = withCard (Card.cut ms (cardIn st)) (withRecord (withMode closed (withOpened 0 (withGrouped 0 (withLog 0 start (st .rec))))) st)
+
+pub cut-served : (ms : List ℕ) (st : State) → cause (Request.cut ms) st ≡ 0 → cutCall ms st ≡ finished (afterCut ms st)
+unfolding cutCall
+cut-served ms st h = rw (eq-eqb _ 0 h)
+
+abbrev pub writtenAt : List ℕ → Ledger → Ledger
+writtenAt ms l = record { written = cutWritten ms l; pending = nothing }
+
+pub cut-entered : (ms : List ℕ) (st : State) (l : Ledger) → cause (Request.cut ms) st ≡ 0 → entered (cut ms) st l ≡ writtenAt ms l
+unfolding entered
+cut-entered ms st l h = rw (cut-served ms st h)
+
+-- the plain disk after it
+abbrev pub plainAt : State → Plain → Disk → ℕ → Bool → Plain
+plainAt st d S n F = record { N = d .N; S = S; G = []; T = []; n = n; mode = 0; power = d .power; waiting = 0; short = none; F = F }
+
+pub cut-basics : (ms : List ℕ) (st : State) (d : Plain) (S : Disk) (n : ℕ) (F : Bool) → Basics st d → Basics (afterCut ms st) (plainAt st d S n F)
+unfolding Card.cut
+cut-basics ms st d S n F b =
+    let s = sizes-facts st (b .sizes) in
+    let r = record-facts st (b .counts) in
+    let e : length (Card.cut ms (cardIn st) .settled) ≡ length (st .settled) = cut-length ms (cardIn st) in
+    record {
+      sizes = facts-sizes (afterCut ms st) (record { settled = rw e (s .settled); least = rw e (s .least); most = rw e (s .most); waiting = s .waiting; work = s .work });
+      counts = facts-record (afterCut ms st)
+          (record {
+            mode = omega arith;
+            open-count = omega arith;
+            group-count = omega arith;
+            log-count = omega arith;
+            waiting-count = omega arith;
+            waiting-down = λ z. absurd (z refl);
+            blocks = rw e (r .blocks);
+            waiting-below = λ i z. absurd (omega arith);
+            lists = λ z. absurd (omega arith);
+          });
+      mirrors = record { mode = refl; N = b .mirrors .N; waiting = refl; T = λ z. absurd (omega arith); G = λ z. absurd (omega arith) };
+      power = b .power;
+    }
+
+pub cut-sim : (ms : List ℕ) (st : State) (d : Plain) (w : List Entry) (S : Disk) (n : ℕ) (F : Bool) → Basics st d
+    → ClosedCard (st .rec .blocks) (blockAt (cutSettled ms st)) w S n F
+    → Sim (afterCut ms st) (record { written = w; pending = nothing }) (plainAt st d S n F)
+cut-sim ms st d w S n F b r = record {
+  basics = cut-basics ms st d S n F b;
+  phase = _⊎_.inr (_⊎_.inl (record { mode = refl; T = refl; G = refl; short = refl; pending = refl; card = r }));
+}
+
+-- ---- the step
+
+-- a cut that is not refused has as many marks as there are waiting writes
+pub marks-fit : (ms : List ℕ) (d : Plain) → refusal (cut ms) d ≡ 0 → length ms ≡ d .waiting
+unfolding refusal
+marks-fit ms d h = go (not (eqb (length ms) (d .waiting))) (overOne ms) refl h
+  where
+    go : (s t : Bool) → not (eqb (length ms) (d .waiting)) ≡ s → _≡_ {A = ℕ} (cond (s || t) 10 0) 0 → length ms ≡ d .waiting
+    go true t p q = absurd (omega arith)
+    go false t p q = eqb-true _ _ (borrow.Author.Tests.not-false _ p)
+
+cut-no-get : (ms : List ℕ) (a : ℕ) → cut ms ≡ get a → ⊥
+cut-no-get ms a e = let z : _≡_ {A = ℕ} 0 1 = cc in omega arith
+
+module _ (ms : List ℕ) (w : World) (m : WorldSim w) (h : refusal (cut ms) (w .plain) ≡ 0) where
+  accepted : cause (Request.cut ms) (w .store) ≡ 0
+  accepted = same-cause (w .store) (w .ledger) (w .plain) m (cut ms) ∙ h
+
+  pub served-cut : dispatch (cut ms) (w .store) ≡ finished (afterCut ms (w .store))
+  served-cut = cut-served ms (w .store) accepted
+
+  pub store-cut : storeNext (cut ms) w ≡ afterCut ms (w .store)
+  store-cut = ap (λ (o : Outcome). o .state) served-cut
+
+  pub ledger-cut : ledgerNext (cut ms) w ≡ writtenAt ms (w .ledger)
+  ledger-cut = cut-entered ms (w .store) (w .ledger) accepted
+
+  -- what is found is what the relation speaks of
+  pub found-cut : foundWritten (cut ms) w ≡ sameLog (foundIn (cutSettled ms (w .store))) (cutWritten ms (w .ledger))
+  unfolding foundWritten logFound
+  found-cut = rw (store-cut, ledger-cut)
+
+  pub exception-cut : exception (cut ms) w ≡ collides (foundIn (cutSettled ms (w .store))) (cutWritten ms (w .ledger))
+  unfolding exception acceptedCut logFound
+  exception-cut =
+      ap (λ (o : Outcome). eqb (o .answer) 0 && collides (logFound (storeNext (cut ms) w)) (ledgerNext (cut ms) w .written)) served-cut
+      ∙ ap (λ (s : State). collides (logFound s) (ledgerNext (cut ms) w .written)) store-cut
+      ∙ ap (λ (l : Ledger). collides (foundIn (cutSettled ms (w .store))) (l .written)) ledger-cut
+
+  abbrev pub verdict-cut : Verdict
+  verdict-cut = cutVerdict ms (w .store) (w .ledger) (w .plain)
+
+  pub plain-cut : plainStep (cut ms) (foundWritten (cut ms) w) (w .plain)
+      ≡ record { answer = 0; orders = 0; plain = plainAt (w .store) (w .plain) (cond (verdict-cut .laid) (overlay (w .plain .G) (w .plain .S)) (w .plain .S)) (verdict-cut .n) (verdict-cut .F) }
+  unfolding plainCut
+  plain-cut = plain-served (cut ms) (foundWritten (cut ms) w) (w .plain) h ∙ ap (λ (t : Bool). plainCut ms t (w .plain)) found-cut
+
+  leads-cut : CutLeads ms (w .store) (w .ledger) (w .plain)
+  leads-cut = all-cuts ms (w .store) (w .ledger) (w .plain) m (marks-fit ms (w .plain) h ∙ m .basics .mirrors .waiting)
+
+  pub accepted-step : StepOK (cut ms) w
+  unfolding Card.cut
+  accepted-step =
+      let b = m .basics in
+      record {
+        agrees = record {
+          answer = ap (λ (o : Outcome). o .answer) served-cut ∙ sym (ap (λ (o : Done). o .answer) plain-cut);
+          orders = ap (λ (o : Outcome). o .orders) served-cut ∙ sym (ap (λ (o : Done). o .orders) plain-cut);
+          block = λ a e z. absurd (cut-no-get ms a e);
+          mode = ap (λ (s : State). s .rec .mode) store-cut ∙ sym (ap (λ (o : Done). o .plain .mode) plain-cut);
+          power = ap (λ (s : State). s .rec .power) store-cut ∙ sym (b .power) ∙ sym (ap (λ (o : Done). o .plain .power) plain-cut);
+          waiting = ap (λ (s : State). s .rec .waiting) store-cut ∙ sym (ap (λ (o : Done). o .plain .waiting) plain-cut);
+          n = λ z. absurd (omega (arith, sym (ap (λ (s : State). s .rec .mode) store-cut) ∙ z));
+        };
+        sim = λ e. sim-at store-cut ledger-cut (ap (λ (o : Done). o .plain) plain-cut) (cut-sim ms (w .store) (w .plain) _ _ _ _ b (leads-cut .clean (sym exception-cut ∙ e)));
+        safe =
+            let c = leads-cut .safe in
+            rw store-cut
+            (record { ledger = record { written = c .w; pending = nothing }; plain = plainAt (w .store) (w .plain) (c .S) (c .n) (c .F); sim = cut-sim ms (w .store) (w .plain) (c .w) (c .S) (c .n) (c .F) b (c .card) });
+      }
+
+pub cut-step : (ms : List ℕ) (w : World) → WorldSim w → StepOK (cut ms) w
+cut-step ms w m = go (ℕ-discrete (refusal (cut ms) (w .plain)) 0)
+  where
+    go : Dec (refusal (cut ms) (w .plain) ≡ 0) → StepOK (cut ms) w
+    go (no h) = refused-step (cut ms) w m h
+    go (yes h) = accepted-step ms w m h

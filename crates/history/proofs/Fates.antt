@@ -1,0 +1,500 @@
+-- What becomes of a sync that is cut short, from a finished sync or recovery to the next recovery.
+use Prim.Native.Nat.{ℕ, zero, suc, _+_, _≤_, _<_}
+use mathlib.Core.Path.{_≡_, refl, ap, ap₂, sym, _∙_}
+use mathlib.Core.Logic.{_≢_, _⊎_}
+use mathlib.Core.Bool.{Bool, true, false, true≢false, cond, not, _&&_}
+use mathlib.Core.List.{List, [], _∷_}
+use native.Mathlib.Omega.{arith}
+use native.Mathlib.Decide.{ℕ-discrete, decLe}
+use borrow.Author.Tests.{eq-eqb, ne-eqb, not-true}
+use lib.Dec.{eqb, leb}
+use lib.ListN.{length, getD}
+use Rattle.cells.specs.Entry.{Entry}
+use Rattle.card.specs.Disk.{Disk, overlay}
+use Rattle.card.specs.Card as Card
+use Rattle.card.specs.Card.{queue}
+use Rattle.journal.specs.Layout.{slots}
+use Rattle.journal.proofs.Choices.{both}
+use Rattle.store.specs.Request as Request
+use Rattle.store.specs.State.{State, Outcome, closed, opened, down, withQueue, withRecord}
+use Rattle.store.specs.Causes.{cause}
+use Rattle.store.specs.Saves.{groupOf}
+use Rattle.history.specs.Call.{Call, power, put, get, commit, abandon, sync, apply, recover, cut}
+use Rattle.history.specs.Plain as Plain
+use Rattle.history.specs.Plain.{Plain, Done, withPower, Short, ofSync, ofRecover, Verdict, verdict, applies, syncTakes, syncWaits, ownVerdict, unchanged, headerKept, refusal, plainStep, plainSync, plainApply, plainRecover}
+use Rattle.history.specs.Dispatch.{dispatch}
+use Rattle.history.specs.Ledger.{Ledger, entered, inner, sameLog}
+use Rattle.history.specs.History.{World, next, after, storeNext, ledgerNext, foundWritten, acceptedCut}
+use Rattle.history.specs.Statements as S
+use Rattle.history.specs.Statements.{requestOf, Fate, quiet, cutShort, decided, observe, fate, outcome, WholeIsNew, shortSync, noneFinished, allOnes, headed, atCut}
+use Rattle.history.proofs.Leads.{foundIn}
+use Rattle.history.proofs.CauseLaws.{cause-passes}
+use Rattle.history.proofs.Relation.{Basics, OpenSim, ClosedSim, DownSim, cutSettled, cutWritten}
+use Rattle.history.proofs.PlainLaws
+use Rattle.history.proofs.Steps.{plainNext, WorldSim, same-cause, dispatch-refused, entered-refused, plain-refused, plain-served}
+use Rattle.history.proofs.SimpleSteps.{is-open}
+use Rattle.history.proofs.OpenFacts as Facts
+use Rattle.history.proofs.ApplyStep.{apply-laid}
+use Rattle.history.proofs.CutStep as CutStep
+use Rattle.history.proofs.RecoverStep.{is-closed}
+use Rattle.history.proofs.SyncStep.{short-whole}
+use Rattle.history.proofs.Induct.{step, next-sim, clean-first}
+use Rattle.history.proofs.Served.{sync-cases}
+use Rattle.history.proofs.ReadsBack.{power-served, cut-accepted}
+
+-- ---- when a cut lays the group of a sync cut short
+
+own-laid : (n m : ℕ) (t u : Bool) → ownVerdict n m t u .laid ≡ t && u
+unfolding ownVerdict
+own-laid n m true true = refl
+own-laid n m true false = refl
+own-laid n m false u = refl
+
+abbrev innerOf : ℕ → ℕ → ℕ
+innerOf n m = cond (applies n m) (n + 3) 0
+
+pub sync-laid : (n m k : ℕ) (F found : Bool) (ms : List ℕ) → k < syncTakes n m
+    → verdict (ofSync k) n m F (headerKept ms (syncWaits n m k)) found .laid ≡ eqb k (innerOf n m + (m + 2)) && eqb (getD ms (m + 1) 0) 1 && found
+sync-laid n m k F found ms h = go (decLe (n + m) slots)
+  where
+    calm : n + m ≤ slots → Dec (k ≡ m + 2) → verdict (ofSync k) n m F (headerKept ms (syncWaits n m k)) found .laid ≡ eqb k (innerOf n m + (m + 2)) && eqb (getD ms (m + 1) 0) 1 && found
+    calm f (yes e) =
+        let w : syncWaits n m k ≡ suc (m + 1) = PlainLaws.sync-waits-plain n m k f ∙ e ∙ (omega arith) in
+        ap (λ (v : Verdict). v .laid) (PlainLaws.choose-sync-own k n m F (headerKept ms (syncWaits n m k)) found f e)
+        ∙ own-laid n m (headerKept ms (syncWaits n m k)) found
+        ∙ ap (λ (t : Bool). t && found) (PlainLaws.kept-mark ms (syncWaits n m k) (m + 1) w)
+        ∙ sym (ap (λ (t : Bool). t && eqb (getD ms (m + 1) 0) 1 && found) (eq-eqb k (innerOf n m + (m + 2)) (e ∙ zero-in f)))
+      where
+        zero-in : n + m ≤ slots → m + 2 ≡ innerOf n m + (m + 2)
+        zero-in f = let i : innerOf n m ≡ 0 = rw (PlainLaws.no-apply n m f) in omega arith
+    calm f (no e) =
+        let i : innerOf n m ≡ 0 = rw (PlainLaws.no-apply n m f) in
+        ap (λ (v : Verdict). v .laid) (PlainLaws.choose-sync-before k n m F (headerKept ms (syncWaits n m k)) found f e)
+        ∙ sym (ap (λ (t : Bool). t && eqb (getD ms (m + 1) 0) 1 && found) (ne-eqb k (innerOf n m + (m + 2)) (λ z. e (omega arith))))
+
+    over : slots < n + m → Dec (k ≡ n + 3 + (m + 2)) → verdict (ofSync k) n m F (headerKept ms (syncWaits n m k)) found .laid ≡ eqb k (innerOf n m + (m + 2)) && eqb (getD ms (m + 1) 0) 1 && found
+    over f (yes e) =
+        let i : innerOf n m ≡ n + 3 = rw (PlainLaws.do-apply n m f) in
+        let w : syncWaits n m k ≡ suc (m + 1) = PlainLaws.sync-waits-own n m k f (omega arith) ∙ (omega arith) in
+        ap (λ (v : Verdict). v .laid) (PlainLaws.choose-sync-last k n m F (headerKept ms (syncWaits n m k)) found f e)
+        ∙ own-laid 0 m (headerKept ms (syncWaits n m k)) found
+        ∙ ap (λ (t : Bool). t && found) (PlainLaws.kept-mark ms (syncWaits n m k) (m + 1) w)
+        ∙ sym (ap (λ (t : Bool). t && eqb (getD ms (m + 1) 0) 1 && found) (eq-eqb k (innerOf n m + (m + 2)) (omega arith)))
+    over f (no e) =
+        let i : innerOf n m ≡ n + 3 = rw (PlainLaws.do-apply n m f) in
+        ap (λ (v : Verdict). v .laid) (PlainLaws.choose-sync-apply k n m F (headerKept ms (syncWaits n m k)) found f e)
+        ∙ apply-laid k n F (headerKept ms (syncWaits n m k))
+        ∙ sym (ap (λ (t : Bool). t && eqb (getD ms (m + 1) 0) 1 && found) (ne-eqb k (innerOf n m + (m + 2)) (λ z. e (omega arith))))
+
+    go : Dec (n + m ≤ slots) → verdict (ofSync k) n m F (headerKept ms (syncWaits n m k)) found .laid ≡ eqb k (innerOf n m + (m + 2)) && eqb (getD ms (m + 1) 0) 1 && found
+    go (yes f) = calm f (ℕ-discrete k (m + 2))
+    go (no f) = over (omega arith) (ℕ-discrete k (n + 3 + (m + 2)))
+
+-- ---- phases
+
+abbrev pub planned : Plain → List ℕ → Bool → Verdict
+planned d ms found = verdict (d .short) (d .n) (length (d .G)) (d .F) (headerKept ms (d .waiting)) found
+
+-- open: nothing has happened to S
+pub record OpenPhase (old : Disk) (st : State) (d : Plain) : Type 0 where
+  pub mode : st .rec .mode ≡ opened
+  pub S : d .S ≡ old
+
+-- not open, and no cut lays anything
+pub record OtherPhase (old : Disk) (f : Fate) (st : State) (d : Plain) : Type 0 where
+  pub mode : st .rec .mode ≢ opened
+  pub S : d .S ≡ outcome f old
+  pub laid : (ms : List ℕ) (found : Bool) → planned d ms found .laid ≡ false
+  pub whole : WholeIsNew f
+
+-- down by a sync of the group G
+pub record ShortPhase (old : Disk) (G : List Entry) (place : ℕ) (made : Bool) (st : State) (l : Ledger) (d : Plain) : Type 0 where
+  pub mode : st .rec .mode ≡ down
+  pub S : d .S ≡ old
+  pub group : d .G ≡ G
+  pub laid : (ms : List ℕ) (found : Bool) → planned d ms found .laid ≡ made && eqb (getD ms place 0) 1 && found
+  pub whole : made ≡ true → (ms : List ℕ) → length ms ≡ st .rec .waiting → allOnes ms ≡ true → (eqb (getD ms place 0) 1 ≡ true) × (sameLog (foundIn (cutSettled ms st)) (cutWritten ms l) ≡ true)
+
+abbrev pub Watch : Disk → Fate → State → Ledger → Plain → Type 0
+Watch old quiet st l d = OpenPhase old st d ⊎ OtherPhase old quiet st d
+Watch old (cutShort G place made) st l d = ShortPhase old G place made st l d
+Watch old (decided G laid all) st l d = OtherPhase old (decided G laid all) st d
+
+-- ---- a refused call
+
+refused-short : (c : Call) (w : World) → refusal c (w .plain) ≢ 0 → WorldSim w → shortSync c w ≡ false
+unfolding shortSync refusal
+refused-short (power k) w h m = refl
+refused-short (put a b) w h m = refl
+refused-short (get a) w h m = refl
+refused-short commit w h m = refl
+refused-short abandon w h m = refl
+refused-short sync w h m = go (ℕ-discrete (w .store .rec .mode) opened)
+  where
+    go : Dec (w .store .rec .mode ≡ opened) → eqb (w .store .rec .mode) opened && eqb (dispatch sync (w .store) .answer) 4 ≡ false
+    go (yes e) =
+        let d : w .plain .mode ≡ 1 = m .basics .mirrors .mode ∙ e in
+        absurd (h (rw (ne-eqb (w .plain .mode) 0 (λ z. omega arith), ne-eqb (w .plain .mode) 2 (λ z. omega arith))))
+    go (no e) = rw (ne-eqb _ _ e)
+refused-short apply w h m = refl
+refused-short recover w h m = refl
+refused-short (cut ms) w h m = refl
+
+refused-cut : (ms : List ℕ) (w : World) → refusal (cut ms) (w .plain) ≢ 0 → WorldSim w → acceptedCut (cut ms) w ≡ false
+unfolding acceptedCut
+refused-cut ms w h m =
+    let k : cause (Request.cut ms) (w .store) ≢ 0 = λ e. h (sym (same-cause (w .store) (w .ledger) (w .plain) m (cut ms)) ∙ e) in
+    let e : dispatch (cut ms) (w .store) .answer ≡ cause (Request.cut ms) (w .store) = ap (λ (o : Outcome). o .answer) (dispatch-refused (cut ms) (w .store) k) in
+    rw e (ne-eqb _ 0 k)
+
+refused-at : (c : Call) (w : World) (G : List Entry) (place : ℕ) (made : Bool) → refusal c (w .plain) ≢ 0 → WorldSim w → atCut c w G place made ≡ cutShort G place made
+refused-at (power k) w G place made h m = refl
+refused-at (put a b) w G place made h m = refl
+refused-at (get a) w G place made h m = refl
+refused-at commit w G place made h m = refl
+refused-at abandon w G place made h m = refl
+refused-at sync w G place made h m = refl
+refused-at apply w G place made h m = refl
+refused-at recover w G place made h m = refl
+refused-at (cut ms) w G place made h m = rw (refused-cut ms w h m)
+
+observe-refused : (c : Call) (w : World) (f : Fate) → refusal c (w .plain) ≢ 0 → WorldSim w → observe c w f ≡ f
+unfolding observe
+observe-refused c w quiet h m = rw (refused-short c w h m)
+observe-refused c w (cutShort G place made) h m = refused-at c w G place made h m
+observe-refused c w (decided G laid all) h m = refl
+
+watch-at : (old : Disk) {f f′ : Fate} {st st′ : State} {l l′ : Ledger} {d d′ : Plain} → f′ ≡ f → st′ ≡ st → l′ ≡ l → d′ ≡ d → Watch old f st l d → Watch old f′ st′ l′ d′
+watch-at old a b c e x = rw (a, b, c, e) x
+
+watch-refused : (old : Disk) (c : Call) (w : World) (f : Fate) → refusal c (w .plain) ≢ 0 → WorldSim w → Watch old f (w .store) (w .ledger) (w .plain)
+    → Watch old (observe c w f) (storeNext c w) (ledgerNext c w) (plainNext c w)
+watch-refused old c w f h m x =
+    let k : cause (requestOf c) (w .store) ≢ 0 = λ e. h (sym (same-cause (w .store) (w .ledger) (w .plain) m c) ∙ e) in
+    watch-at old (observe-refused c w f h m) (ap (λ (o : Outcome). o .state) (dispatch-refused c (w .store) k)) (entered-refused c (w .store) (w .ledger) k)
+    (ap (λ (o : Done). o .plain) (plain-refused c (foundWritten c w) (w .plain) h)) x
+
+-- ---- a call that is served
+
+power-watch : (old : Disk) (k : ℕ) (f : Fate) (st : State) (l : Ledger) (d : Plain) → Watch old f st l d → Watch old f (withRecord (withQueue (st .rec .waiting) k (st .rec)) st) l (withPower k d)
+unfolding Card.cut queue
+power-watch old k quiet st l d (_⊎_.inl x) = _⊎_.inl (record { mode = x .mode; S = x .S })
+power-watch old k quiet st l d (_⊎_.inr x) = _⊎_.inr (record { mode = x .mode; S = x .S; laid = x .laid; whole = x .whole })
+power-watch old k (cutShort G place made) st l d x = record { mode = x .mode; S = x .S; group = x .group; laid = x .laid; whole = x .whole }
+power-watch old k (decided G laid all) st l d x = record { mode = x .mode; S = x .S; laid = x .laid; whole = x .whole }
+
+power-same : (k : ℕ) (w : World) (f : Fate) → observe (power k) w f ≡ f
+unfolding observe shortSync
+power-same k w quiet = refl
+power-same k w (cutShort G place made) = refl
+power-same k w (decided G laid all) = refl
+
+-- open: no sync was cut short yet
+open-watch : (old : Disk) (f : Fate) (st : State) (l : Ledger) (d : Plain) → Watch old f st l d → st .rec .mode ≡ opened → (f ≡ quiet) × (d .S ≡ old)
+open-watch old quiet st l d (_⊎_.inl x) e = (refl, x .S)
+open-watch old quiet st l d (_⊎_.inr x) e = absurd (x .mode e)
+open-watch old (cutShort G place made) st l d x e = absurd (omega (arith, x .mode))
+open-watch old (decided G laid all) st l d x e = absurd (x .mode e)
+
+-- closed: none is waiting for its cut
+pub other-watch : (old : Disk) (f : Fate) (st : State) (l : Ledger) (d : Plain) → Watch old f st l d → st .rec .mode ≡ closed → OtherPhase old f st d
+other-watch old quiet st l d (_⊎_.inl x) e = absurd (omega (arith, x .mode))
+other-watch old quiet st l d (_⊎_.inr x) e = x
+other-watch old (cutShort G place made) st l d x e = absurd (omega (arith, x .mode))
+other-watch old (decided G laid all) st l d x e = x
+
+to-watch : (old : Disk) (f : Fate) (st : State) (l : Ledger) (d : Plain) → ((G : List Entry) (place : ℕ) (made : Bool) → f ≡ cutShort G place made → ⊥) → OtherPhase old f st d → Watch old f st l d
+to-watch old quiet st l d n x = _⊎_.inr x
+to-watch old (cutShort G place made) st l d n x = absurd (n G place made refl)
+to-watch old (decided G laid all) st l d n x = x
+
+-- a call that needs an open record, keeps it open and leaves S
+open-kept : (old : Disk) (c : Call) (w : World) (f : Fate) → WorldSim w → w .store .rec .mode ≡ opened → Watch old f (w .store) (w .ledger) (w .plain)
+    → plainNext c w .mode ≡ w .plain .mode → plainNext c w .S ≡ w .plain .S → observe c w quiet ≡ quiet
+    → Watch old (observe c w f) (storeNext c w) (ledgerNext c w) (plainNext c w)
+open-kept old c w f m o x p s q =
+    let y = open-watch old f (w .store) (w .ledger) (w .plain) x o in
+    watch-at old (ap (observe c w) (y .0) ∙ q) refl refl refl
+    (_⊎_.inl (record { mode = step c w m .agrees .mode ∙ p ∙ m .basics .mirrors .mode ∙ o; S = s ∙ y .1 }))
+
+pub open-now : (c : Call) (w : World) → WorldSim w → Rattle.store.specs.Causes.needsOpen (requestOf c) ≡ true → refusal c (w .plain) ≡ 0 → OpenSim (w .store) (w .ledger) (w .plain)
+open-now c w m n h =
+    is-open (w .store) (w .ledger) (w .plain) m (requestOf c) n (cause-passes (requestOf c) (w .store) (same-cause (w .store) (w .ledger) (w .plain) m c ∙ h))
+
+-- ---- sync
+
+ones-mark : (ms : List ℕ) (i : ℕ) → i < length ms → allOnes ms ≡ true → eqb (getD ms i 0) 1 ≡ true
+unfolding allOnes
+ones-mark (k ∷ ms) zero l h = both (eqb k 1) (allOnes ms) h .0
+ones-mark (k ∷ ms) (suc i) l h = ones-mark ms i (omega arith) (both (eqb k 1) (allOnes ms) h .1)
+
+module _ (old : Disk) (w : World) (m : WorldSim w) (h : refusal sync (w .plain) ≡ 0) (nf : S.finished sync w ≡ false) where
+  o : OpenSim (w .store) (w .ledger) (w .plain)
+  o = open-now sync w m refl h
+
+  b : Basics (w .store) (w .plain)
+  b = m .basics
+
+  plain-is : plainStep sync (foundWritten sync w) (w .plain) ≡ plainSync (w .plain)
+  plain-is = plain-served sync (foundWritten sync w) (w .plain) h
+
+  answer-not : dispatch sync (w .store) .answer ≢ 0
+  unfolding S.finished
+  answer-not e = true≢false (sym (eq-eqb _ 0 e) ∙ nf)
+
+  answer-plain : dispatch sync (w .store) .answer ≡ plainSync (w .plain) .answer
+  answer-plain = step sync w m .agrees .answer ∙ ap (λ (x : Done). x .answer) plain-is
+
+  -- so it was cut short
+  pub record SyncGone : Type 0 where
+    pub some : length (w .plain .G) ≢ 0
+    pub less : w .plain .power < syncTakes (w .plain .n) (length (w .plain .G))
+
+  gone : SyncGone
+  gone =
+      sync-cases (λ x. SyncGone) (w .plain)
+      (λ z. absurd (answer-not (answer-plain ∙ ap (λ (x : Done). x .answer) (PlainLaws.sync-nothing (w .plain) z))))
+      (λ z p. absurd (answer-not (answer-plain ∙ ap (λ (x : Done). x .answer) (PlainLaws.sync-finished (w .plain) z p))))
+      (λ z p. record { some = z; less = p })
+
+  pub short-plain : plainStep sync (foundWritten sync w) (w .plain) ≡ Plain.cutShort (ofSync (w .plain .power)) (syncWaits (w .plain .n) (length (w .plain .G)) (w .plain .power)) (w .plain)
+  short-plain = plain-is ∙ PlainLaws.sync-short (w .plain) (gone .some) (gone .less)
+
+  answer-four : dispatch sync (w .store) .answer ≡ 4
+  answer-four = step sync w m .agrees .answer ∙ ap (λ (x : Done). x .answer) short-plain
+
+  orders-power : dispatch sync (w .store) .orders ≡ w .plain .power
+  orders-power = step sync w m .agrees .orders ∙ ap (λ (x : Done). x .orders) short-plain
+
+  count : length (w .plain .G) ≡ w .store .rec .grouped
+  count = Facts.plain-count (w .store) (w .ledger) (w .plain) b o
+
+  grouped-some : w .store .rec .grouped ≢ 0
+  grouped-some e = gone .some (count ∙ e)
+
+  inner-is : inner (w .store) ≡ innerOf (w .plain .n) (length (w .plain .G))
+  inner-is =
+      ap (λ (t : Bool). cond (not t && not (leb (w .store .rec .logged + w .store .rec .grouped) slots)) (w .store .rec .logged + 3) 0) (ne-eqb _ 0 grouped-some)
+      ∙ ap₂ (λ (x y : ℕ). cond (not (leb (x + y) slots)) (x + 3) 0) (sym (o .n)) (sym count)
+
+  headed-is : headed w ≡ eqb (w .plain .power) (innerOf (w .plain .n) (length (w .plain .G)) + (length (w .plain .G) + 2))
+  headed-is = ap₂ (λ (x y : ℕ). eqb x y) orders-power (ap₂ (λ (x y : ℕ). x + (y + 2)) inner-is (sym count))
+
+  observed : observe sync w quiet ≡ cutShort (groupOf (w .store)) (w .store .rec .grouped + 1) (headed w)
+  unfolding observe shortSync
+  observed =
+      let e : eqb (w .store .rec .mode) opened && eqb (dispatch sync (w .store) .answer) 4 ≡ true = rw (eq-eqb _ _ (o .mode), eq-eqb _ 4 answer-four) in
+      ap (λ (t : Bool). cond t (cutShort (groupOf (w .store)) (w .store .rec .grouped + 1) (headed w)) quiet) e
+
+  -- behind its own header m + 2 writes wait
+  waits-two : headed w ≡ true → storeNext sync w .rec .waiting ≡ w .store .rec .grouped + 2
+  waits-two e =
+      let k : w .plain .power ≡ innerOf (w .plain .n) (length (w .plain .G)) + (length (w .plain .G) + 2) = borrow.Author.Tests.eqb-true _ _ (sym headed-is ∙ e) in
+      step sync w m .agrees .waiting ∙ ap (λ (x : Done). x .plain .waiting) short-plain
+      ∙ waits (w .plain .n) (length (w .plain .G)) (w .plain .power) k
+      ∙ ap (λ (x : ℕ). x + 2) count
+    where
+      waits : (n m k : ℕ) → k ≡ innerOf n m + (m + 2) → syncWaits n m k ≡ m + 2
+      waits n m k e = go (decLe (n + m) slots)
+        where
+          go : Dec (n + m ≤ slots) → syncWaits n m k ≡ m + 2
+          go (yes f) = let i : innerOf n m ≡ 0 = rw (PlainLaws.no-apply n m f) in PlainLaws.sync-waits-plain n m k f ∙ (omega arith)
+          go (no f) =
+              let g : slots < n + m = omega arith in
+              let i : innerOf n m ≡ n + 3 = rw (PlainLaws.do-apply n m g) in
+              PlainLaws.sync-waits-own n m k g (omega arith) ∙ (omega arith)
+
+  sync-watch : (f : Fate) → Watch old f (w .store) (w .ledger) (w .plain) → Watch old (observe sync w f) (storeNext sync w) (ledgerNext sync w) (plainNext sync w)
+  sync-watch f x =
+      let y = open-watch old f (w .store) (w .ledger) (w .plain) x (o .mode) in
+      let P : plainNext sync w ≡ Plain.cutShort (ofSync (w .plain .power)) (syncWaits (w .plain .n) (length (w .plain .G)) (w .plain .power)) (w .plain) .plain = ap (λ (z : Done). z .plain) short-plain in
+      watch-at old (ap (observe sync w) (y .0) ∙ observed) refl refl P
+      (record {
+        mode = step sync w m .agrees .mode ∙ ap (λ (z : Plain). z .mode) P;
+        S = y .1;
+        group = Facts.plain-group (w .store) (w .ledger) (w .plain) b o;
+        laid = λ ms u.
+            sync-laid (w .plain .n) (length (w .plain .G)) (w .plain .power) (w .plain .F) u ms (gone .less)
+            ∙ ap₂ (λ (t : Bool) (i : ℕ). t && eqb (getD ms (i + 1) 0) 1 && u) (sym headed-is) count;
+        whole = λ e ms l a.
+            let q : length ms ≡ w .store .rec .grouped + 2 = l ∙ waits-two e in (
+              ones-mark ms (w .store .rec .grouped + 1) (omega arith) a,
+              short-whole w m h o grouped-some answer-four (borrow.Author.Tests.eqb-true _ _ e) ms q a,
+            );
+      })
+
+-- ---- apply
+
+apply-watch : (old : Disk) (w : World) (f : Fate) → WorldSim w → refusal apply (w .plain) ≡ 0 → Watch old f (w .store) (w .ledger) (w .plain)
+    → Watch old (observe apply w f) (storeNext apply w) (ledgerNext apply w) (plainNext apply w)
+unfolding observe shortSync
+apply-watch old w f m h x = go (ℕ-discrete (w .plain .n) 0) (decLe (w .plain .n + 3) (w .plain .power))
+  where
+    o : OpenSim (w .store) (w .ledger) (w .plain)
+    o = open-now apply w m refl h
+
+    P : plainStep apply (foundWritten apply w) (w .plain) ≡ plainApply (w .plain)
+    P = plain-served apply (foundWritten apply w) (w .plain) h
+
+    kept : (D : Done) → plainApply (w .plain) ≡ D → D .plain .mode ≡ w .plain .mode → D .plain .S ≡ w .plain .S → Watch old (observe apply w f) (storeNext apply w) (ledgerNext apply w) (plainNext apply w)
+    kept D e p s =
+        open-kept old apply w f m (o .mode) x (ap (λ (z : Done). z .plain .mode) (P ∙ e) ∙ p) (ap (λ (z : Done). z .plain .S) (P ∙ e) ∙ s) refl
+
+    go : Dec (w .plain .n ≡ 0) → Dec (w .plain .n + 3 ≤ w .plain .power) → Watch old (observe apply w f) (storeNext apply w) (ledgerNext apply w) (plainNext apply w)
+    go (yes z) q = kept _ (PlainLaws.apply-nothing (w .plain) z) refl refl
+    go (no z) (yes q) = kept _ (PlainLaws.apply-finished (w .plain) z q) refl refl
+    go (no z) (no q) =
+        let y = open-watch old f (w .store) (w .ledger) (w .plain) x (o .mode) in
+        let e = P ∙ PlainLaws.apply-short (w .plain) z (omega arith) in
+        let mode : storeNext apply w .rec .mode ≡ 2 = step apply w m .agrees .mode ∙ ap (λ (d : Done). d .plain .mode) e in
+        watch-at old (ap (observe apply w) (y .0)) refl refl (ap (λ (d : Done). d .plain) e)
+        (_⊎_.inr
+        (record {
+          mode = λ k. omega arith;
+          S = y .1;
+          laid = λ ms u. ap (λ (v : Verdict). v .laid) (PlainLaws.choose-apply (w .plain .power) (w .plain .n) (length (w .plain .G)) (w .plain .F) _ u) ∙ apply-laid (w .plain .power) (w .plain .n) (w .plain .F) _;
+          whole = tt;
+        }))
+
+-- ---- recover
+
+recover-laid : (k n m : ℕ) (F t u : Bool) → verdict (ofRecover k) n m F t u .laid ≡ false
+unfolding verdict
+recover-laid k n m F t u = go (eqb k 0)
+  where
+    go : (s : Bool) → cond s (unchanged n F) (unchanged n (not t)) .laid ≡ false
+    go true = refl
+    go false = refl
+
+recover-same : (w : World) (f : Fate) → observe recover w f ≡ f
+unfolding observe shortSync
+recover-same w quiet = refl
+recover-same w (cutShort G place made) = refl
+recover-same w (decided G laid all) = refl
+
+no-short : (old : Disk) (f : Fate) (st : State) (l : Ledger) (d : Plain) → Watch old f st l d → st .rec .mode ≡ closed → (G : List Entry) (place : ℕ) (made : Bool) → f ≡ cutShort G place made → ⊥
+no-short old quiet st l d x e G place made q = let z : _≡_ {A = ℕ} 0 1 = cc in omega arith
+no-short old (cutShort G′ place′ made′) st l d x e G place made q = omega (arith, x .mode)
+no-short old (decided G′ laid all) st l d x e G place made q = let z : _≡_ {A = ℕ} 0 1 = cc in omega arith
+
+recover-watch : (old : Disk) (w : World) (f : Fate) → WorldSim w → refusal recover (w .plain) ≡ 0 → S.finished recover w ≡ false → Watch old f (w .store) (w .ledger) (w .plain)
+    → Watch old (observe recover w f) (storeNext recover w) (ledgerNext recover w) (plainNext recover w)
+unfolding S.finished
+recover-watch old w f m h nf x = go (w .plain .F) refl (decLe 2 (w .plain .power))
+  where
+    P : plainStep recover (foundWritten recover w) (w .plain) ≡ plainRecover (w .plain)
+    P = plain-served recover (foundWritten recover w) (w .plain) h
+
+    not-zero : plainRecover (w .plain) .answer ≡ 0 → ⊥
+    not-zero e = true≢false (sym (eq-eqb _ 0 (step recover w m .agrees .answer ∙ ap (λ (d : Done). d .answer) P ∙ e)) ∙ nf)
+
+    shut : w .store .rec .mode ≡ closed
+    shut = is-closed (w .store) (w .ledger) (w .plain) m (cause-passes Request.recover (w .store) (same-cause (w .store) (w .ledger) (w .plain) m recover ∙ h)) .mode
+
+    go : (t : Bool) → w .plain .F ≡ t → Dec (2 ≤ w .plain .power) → Watch old (observe recover w f) (storeNext recover w) (ledgerNext recover w) (plainNext recover w)
+    go false e q = absurd (not-zero (ap (λ (d : Done). d .answer) (PlainLaws.recover-whole (w .plain) e)))
+    go true e (yes q) = absurd (not-zero (ap (λ (d : Done). d .answer) (PlainLaws.recover-fallback (w .plain) e q)))
+    go true e (no q) =
+        let y = other-watch old f (w .store) (w .ledger) (w .plain) x shut in
+        let k = P ∙ PlainLaws.recover-short (w .plain) e (omega arith) in
+        let mode : storeNext recover w .rec .mode ≡ 2 = step recover w m .agrees .mode ∙ ap (λ (d : Done). d .plain .mode) k in
+        watch-at old (recover-same w f) refl refl (ap (λ (d : Done). d .plain) k)
+        (to-watch old f (storeNext recover w) (ledgerNext recover w) _ (no-short old f (w .store) (w .ledger) (w .plain) x shut)
+        (record { mode = λ z. omega arith; S = y .S; laid = λ ms u. recover-laid (w .plain .power) (w .plain .n) (length (w .plain .G)) (w .plain .F) _ u; whole = y .whole }))
+
+-- ---- cut
+
+module _ (old : Disk) (ms : List ℕ) (w : World) (m : WorldSim w) (h : refusal (cut ms) (w .plain) ≡ 0) where
+  abbrev found : Bool
+  found = sameLog (foundIn (cutSettled ms (w .store))) (cutWritten ms (w .ledger))
+
+  P : plainNext (cut ms) w ≡ CutStep.plainAt (w .store) (w .plain) (cond (planned (w .plain) ms found .laid) (overlay (w .plain .G) (w .plain .S)) (w .plain .S)) (planned (w .plain) ms found .n) (planned (w .plain) ms found .F)
+  P = ap (λ (d : Done). d .plain) (CutStep.plain-cut ms w m h)
+
+  closed-now : storeNext (cut ms) w .rec .mode ≢ opened
+  closed-now e = let k : storeNext (cut ms) w .rec .mode ≡ 0 = ap (λ (s : State). s .rec .mode) (CutStep.store-cut ms w m h) in omega arith
+
+  -- nothing is laid
+  cut-still : (f : Fate) → observe (cut ms) w f ≡ f → ((G : List Entry) (place : ℕ) (made : Bool) → f ≡ cutShort G place made → ⊥)
+      → planned (w .plain) ms found .laid ≡ false → w .plain .S ≡ outcome f old → WholeIsNew f
+      → Watch old (observe (cut ms) w f) (storeNext (cut ms) w) (ledgerNext (cut ms) w) (plainNext (cut ms) w)
+  cut-still f q n z s y =
+      watch-at old q refl refl P
+      (to-watch old f (storeNext (cut ms) w) (ledgerNext (cut ms) w) _ n
+      (record { mode = closed-now; S = ap (λ (t : Bool). cond t (overlay (w .plain .G) (w .plain .S)) (w .plain .S)) z ∙ s; laid = λ ns u. ap (λ (v : Verdict). v .laid) (PlainLaws.choose-none _ _ _ _ u); whole = y }))
+
+  cut-observed : (G : List Entry) (place : ℕ) (made : Bool) → observe (cut ms) w (cutShort G place made) ≡ decided G (made && eqb (getD ms place 0) 1 && found) (made && allOnes ms)
+  unfolding observe
+  cut-observed G place made =
+      ap (λ (t : Bool). cond t (decided G (made && eqb (getD ms place 0) 1 && foundWritten (cut ms) w) (made && allOnes ms)) (cutShort G place made)) (cut-accepted ms w m h)
+      ∙ ap (λ (t : Bool). decided G (made && eqb (getD ms place 0) 1 && t) (made && allOnes ms)) (CutStep.found-cut ms w m h)
+
+  cut-decides : (G : List Entry) (place : ℕ) (made : Bool) → ShortPhase old G place made (w .store) (w .ledger) (w .plain)
+      → Watch old (observe (cut ms) w (cutShort G place made)) (storeNext (cut ms) w) (ledgerNext (cut ms) w) (plainNext (cut ms) w)
+  cut-decides G place made x =
+      watch-at old (cut-observed G place made) refl refl P
+      (record {
+        mode = closed-now;
+        S = ap (λ (t : Bool). cond t (overlay (w .plain .G) (w .plain .S)) (w .plain .S)) (x .laid ms found)
+            ∙ ap₂ (λ (g : List Entry) (d : Disk). cond (made && eqb (getD ms place 0) 1 && found) (overlay g d) d) (x .group) (x .S);
+        laid = λ ns u. ap (λ (v : Verdict). v .laid) (PlainLaws.choose-none _ _ _ _ u);
+        whole = λ e.
+            let q = both made (allOnes ms) e in
+            let y = x .whole (q .0) ms (CutStep.marks-fit ms (w .plain) h ∙ m .basics .mirrors .waiting) (q .1) in
+            rw (q .0, y .0, y .1);
+      })
+
+  cut-watch : (f : Fate) → Watch old f (w .store) (w .ledger) (w .plain) → Watch old (observe (cut ms) w f) (storeNext (cut ms) w) (ledgerNext (cut ms) w) (plainNext (cut ms) w)
+  unfolding observe shortSync
+  cut-watch quiet (_⊎_.inl x) = cut-still quiet refl (λ G place made q. let z : _≡_ {A = ℕ} 0 1 = cc in omega arith) (open-none (m .phase)) (x .S) tt
+    where
+      open-none : OpenSim (w .store) (w .ledger) (w .plain) ⊎ (ClosedSim (w .store) (w .ledger) (w .plain) ⊎ DownSim (w .store) (w .ledger) (w .plain)) → planned (w .plain) ms found .laid ≡ false
+      open-none (_⊎_.inl o) =
+          ap (λ (s : Short). verdict s (w .plain .n) (length (w .plain .G)) (w .plain .F) (headerKept ms (w .plain .waiting)) found .laid) (o .short)
+          ∙ ap (λ (v : Verdict). v .laid) (PlainLaws.choose-none (w .plain .n) (length (w .plain .G)) (w .plain .F) (headerKept ms (w .plain .waiting)) found)
+      open-none (_⊎_.inr (_⊎_.inl o)) = absurd (omega (arith, o .mode, x .mode))
+      open-none (_⊎_.inr (_⊎_.inr o)) = absurd (omega (arith, o .mode, x .mode))
+  cut-watch quiet (_⊎_.inr x) = cut-still quiet refl (λ G place made q. let z : _≡_ {A = ℕ} 0 1 = cc in omega arith) (x .laid ms found) (x .S) tt
+  cut-watch (cutShort G place made) x = cut-decides G place made x
+  cut-watch (decided G laid all) x = cut-still (decided G laid all) refl (λ g place made q. let z : _≡_ {A = ℕ} 0 1 = cc in omega arith) (x .laid ms found) (x .S) (x .whole)
+
+-- ---- every call
+
+served-watch : (old : Disk) (c : Call) (w : World) (f : Fate) → WorldSim w → refusal c (w .plain) ≡ 0 → S.finished c w ≡ false → Watch old f (w .store) (w .ledger) (w .plain)
+    → Watch old (observe c w f) (storeNext c w) (ledgerNext c w) (plainNext c w)
+unfolding observe shortSync entered
+served-watch old (power k) w f m h nf x =
+    watch-at old (power-same k w f) (ap (λ (o : Outcome). o .state) (power-served k w m)) refl (ap (λ (d : Done). d .plain) (plain-served (power k) (foundWritten (power k) w) (w .plain) h))
+    (power-watch old k f (w .store) (w .ledger) (w .plain) x)
+served-watch old (put a b) w f m h nf x =
+    let P = plain-served (put a b) (foundWritten (put a b) w) (w .plain) h in
+    open-kept old (put a b) w f m (open-now (put a b) w m refl h .mode) x (ap (λ (d : Done). d .plain .mode) P) (ap (λ (d : Done). d .plain .S) P) refl
+served-watch old (get a) w f m h nf x =
+    let P = plain-served (get a) (foundWritten (get a) w) (w .plain) h in
+    open-kept old (get a) w f m (open-now (get a) w m refl h .mode) x (ap (λ (d : Done). d .plain .mode) P) (ap (λ (d : Done). d .plain .S) P) refl
+served-watch old commit w f m h nf x =
+    let P = plain-served commit (foundWritten commit w) (w .plain) h in
+    open-kept old commit w f m (open-now commit w m refl h .mode) x (ap (λ (d : Done). d .plain .mode) P) (ap (λ (d : Done). d .plain .S) P) refl
+served-watch old abandon w f m h nf x =
+    let P = plain-served abandon (foundWritten abandon w) (w .plain) h in
+    open-kept old abandon w f m (open-now abandon w m refl h .mode) x (ap (λ (d : Done). d .plain .mode) P) (ap (λ (d : Done). d .plain .S) P) refl
+served-watch old sync w f m h nf x = sync-watch old w m h nf f x
+served-watch old apply w f m h nf x = apply-watch old w f m h x
+served-watch old recover w f m h nf x = recover-watch old w f m h nf x
+served-watch old (cut ms) w f m h nf x = cut-watch old ms w m h f x
+
+pub watch-step : (old : Disk) (c : Call) (w : World) (f : Fate) → WorldSim w → S.finished c w ≡ false → Watch old f (w .store) (w .ledger) (w .plain)
+    → Watch old (observe c w f) (storeNext c w) (ledgerNext c w) (plainNext c w)
+watch-step old c w f m nf x = go (ℕ-discrete (refusal c (w .plain)) 0)
+  where
+    go : Dec (refusal c (w .plain) ≡ 0) → Watch old (observe c w f) (storeNext c w) (ledgerNext c w) (plainNext c w)
+    go (yes h) = served-watch old c w f m h nf x
+    go (no h) = watch-refused old c w f h m x
+
+pub watch-list : (old : Disk) (cs : List Call) (w : World) (f : Fate) → WorldSim w → noneFinished cs w ≡ true → after cs w .excepted ≡ false → Watch old f (w .store) (w .ledger) (w .plain)
+    → Watch old (fate cs w f) (after cs w .store) (after cs w .ledger) (after cs w .plain)
+unfolding after fate noneFinished next
+watch-list old [] w f m n e x = x
+watch-list old (c ∷ cs) w f m n e x =
+    let p = both (not (S.finished c w)) (noneFinished cs (next c w)) n in
+    watch-list old cs (next c w) (observe c w f) (next-sim c w m (clean-first c cs w e)) (p .1) e (watch-step old c w f m (not-true _ (p .0)) x)

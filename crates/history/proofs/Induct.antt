@@ -1,0 +1,169 @@
+-- Every step keeps the relation, and so does every list of calls.
+use Prim.Native.Nat.{ℕ, _+_, _*_, _≤_, _<_}
+use mathlib.Core.Path.{_≡_, refl, ap, sym, _∙_}
+use mathlib.Core.Logic.{_⊎_}
+use mathlib.Core.Bool.{true, false}
+use mathlib.Core.List.{List, [], _∷_, _++_}
+use native.Mathlib.Omega.{arith}
+use native.Mathlib.Decide.{ℕ-discrete}
+use borrow.Author.Tests.{eq-eqb, ne-eqb}
+use lib.ListN.{length, replicate, length-replicate}
+use Rattle.cells.specs.Cell.{cell, setCell}
+use Rattle.cells.specs.Cell.Laws.{length-setCell, cell-same, cell-other, cell-zeros}
+use Rattle.cells.specs.Entry.{blockBytes}
+use Rattle.fnv.specs.Fnv.{start}
+use Rattle.card.specs.Card.{blockAt, blocksIn}
+use Rattle.journal.specs.Layout.{headerAt, isData}
+use Rattle.journal.specs.Header.{encode, emptyHeader}
+use Rattle.journal.proofs.Headers.{length-encode}
+use Rattle.journal.proofs.Logs.{sumOf-nil}
+use Rattle.store.specs.Request as Request
+use Rattle.store.specs.State.{State, Outcome}
+use Rattle.store.specs.Causes.{cause}
+use Rattle.store.specs.Simple.{formatted, formatCall, finished, refused}
+use Rattle.store.proofs.Causes.{neither, SizeFacts, sizes-facts}
+use Rattle.history.specs.Call.{Call, power, put, get, commit, abandon, sync, apply, recover, cut}
+use Rattle.history.specs.Plain.{fresh}
+use Rattle.history.specs.Dispatch.{dispatch}
+use Rattle.history.specs.History.{World, begun, next, after, exception}
+use Rattle.history.proofs.Disks.{emptied, data-above, data-below}
+use Rattle.history.proofs.CauseLaws.{facts-sizes, facts-record, cause-passes}
+use Rattle.history.proofs.Relation.{Safe}
+use Rattle.history.proofs.Steps.{WorldSim, StepOK}
+use Rattle.history.proofs.SimpleSteps.{power-step, put-step, get-step, commit-step, abandon-step}
+use Rattle.history.proofs.CutStep.{cut-step}
+use Rattle.history.proofs.ApplyStep.{apply-step}
+use Rattle.history.proofs.RecoverStep.{recover-step}
+use Rattle.history.proofs.SyncStep.{sync-step}
+
+-- ---- one call
+
+pub step : (c : Call) (w : World) → WorldSim w → StepOK c w
+step (power k) w m = power-step k w m
+step (put a b) w m = put-step a b w m
+step (get a) w m = get-step a w m
+step commit w m = commit-step w m
+step abandon w m = abandon-step w m
+step sync w m = sync-step w m
+step apply w m = apply-step w m
+step recover w m = recover-step w m
+step (cut ms) w m = cut-step ms w m
+
+pub next-sim : (c : Call) (w : World) → WorldSim w → exception c w ≡ false → WorldSim (next c w)
+unfolding next
+next-sim c w m h = step c w m .sim h
+
+-- what no collision breaks
+pub next-safe : (c : Call) (st : State) → Safe st → Safe (dispatch c st .state)
+next-safe c st s = step c (record { store = st; ledger = s .ledger; plain = s .plain; excepted = false }) (s .sim) .safe
+
+-- ---- a list of them
+
+pub after-append : (a b : List Call) (w : World) → after (a ++ b) w ≡ after b (after a w)
+unfolding after
+after-append [] b w = refl
+after-append (c ∷ a) b w = after-append a b (next c w)
+
+-- an exception is never forgotten
+pub clean-before : (cs : List Call) (w : World) → after cs w .excepted ≡ false → w .excepted ≡ false
+unfolding after next
+clean-before [] w h = h
+clean-before (c ∷ cs) w h = neither (w .excepted) (exception c w) (clean-before cs (next c w) h) .0
+
+pub clean-first : (c : Call) (cs : List Call) (w : World) → after cs (next c w) .excepted ≡ false → exception c w ≡ false
+unfolding next
+clean-first c cs w h = neither (w .excepted) (exception c w) (clean-before cs (next c w) h) .1
+
+pub after-sim : (cs : List Call) (w : World) → WorldSim w → after cs w .excepted ≡ false → WorldSim (after cs w)
+unfolding after
+after-sim [] w m h = m
+after-sim (c ∷ cs) w m h = after-sim cs (next c w) (next-sim c w m (clean-first c cs w h)) h
+
+pub after-safe : (cs : List Call) (w : World) → Safe (w .store) → Safe (after cs w .store)
+unfolding after next
+after-safe [] w s = s
+after-safe (c ∷ cs) w s = after-safe cs (next c w) (next-safe c (w .store) s)
+
+-- ---- a fresh card
+
+module _ (st : State) (h : formatCall st .answer ≡ 0) where
+  pub passes : cause Request.format st ≡ 0
+  unfolding formatCall
+  passes = go (ℕ-discrete (cause Request.format st) 0)
+    where
+      go : Dec (cause Request.format st ≡ 0) → cause Request.format st ≡ 0
+      go (yes e) = e
+      go (no e) =
+          let r : formatCall st ≡ refused (cause Request.format st) st = rw (ne-eqb _ 0 e) in
+          absurd (e (sym (ap (λ (o : Outcome). o .answer) r) ∙ h))
+
+  pub formatted-now : formatCall st .state ≡ formatted st
+  unfolding formatCall
+  formatted-now =
+      let r : formatCall st ≡ finished (formatted st) = rw (eq-eqb _ 0 passes) in
+      ap (λ (o : Outcome). o .state) r
+
+  sz : SizeFacts st
+  sz = sizes-facts st (cause-passes Request.format st passes .sizes)
+
+  abbrev N : ℕ
+  N = blocksIn (st .settled)
+
+  abbrev zeros : List ℕ
+  zeros = replicate (length (st .settled)) 0
+
+  room : (a : ℕ) → a < N → blockBytes * a + blockBytes ≤ length zeros
+  room a l = rw (length-replicate) (omega arith)
+
+  header-now : cell blockBytes (setCell blockBytes zeros headerAt (encode (emptyHeader N))) headerAt ≡ encode (emptyHeader N)
+  header-now = cell-same blockBytes zeros headerAt (encode (emptyHeader N)) (room headerAt (omega (arith, sz .least))) (length-encode (emptyHeader N))
+
+  data-now : (a : ℕ) → isData N a ≡ true → cell blockBytes (setCell blockBytes zeros headerAt (encode (emptyHeader N))) a ≡ replicate blockBytes 0
+  data-now a q =
+      let u = data-above N a q in
+      cell-other blockBytes zeros headerAt a (encode (emptyHeader N)) (λ z. omega arith)
+      ∙ cell-zeros blockBytes (length (st .settled)) a (let v = data-below N a q in omega arith)
+
+  pub begun-sim : WorldSim (begun st)
+  unfolding begun fresh formatted
+  begun-sim =
+      rw formatted-now
+      (record {
+        basics = record {
+          sizes = facts-sizes (formatted st)
+              (record {
+                settled = rw (length-setCell, length-replicate) (sz .settled);
+                least = rw (length-setCell, length-replicate) (sz .least);
+                most = rw (length-setCell, length-replicate) (sz .most);
+                waiting = length-replicate (length (st .waiting)) 0 ∙ sz .waiting;
+                work = length-replicate (length (st .work)) 0 ∙ sz .work;
+              });
+          counts = facts-record (formatted st)
+              (record {
+                mode = omega arith;
+                open-count = omega arith;
+                group-count = omega arith;
+                log-count = omega arith;
+                waiting-count = omega arith;
+                waiting-down = λ z. absurd (z refl);
+                blocks = sym (rw (length-setCell, length-replicate));
+                waiting-below = λ i z. absurd (omega arith);
+                lists = λ z. record { open-data = tt; group-data = tt; log-data = tt; open-distinct = tt; group-distinct = tt };
+              });
+          mirrors = record { mode = refl; N = refl; waiting = refl; T = λ z. refl; G = λ z. refl };
+          power = refl;
+        };
+        phase = _⊎_.inl (record {
+          mode = refl;
+          n = refl;
+          F = refl;
+          short = refl;
+          pending = refl;
+          sum = sym (sumOf-nil start);
+          card = emptied N (blockAt (setCell blockBytes zeros headerAt (encode (emptyHeader N)))) (blockAt (setCell blockBytes zeros headerAt (encode (emptyHeader N)))) (λ a. replicate blockBytes 0)
+              header-now (λ a q. refl) (λ a q. sym (data-now a q));
+        });
+      })
+
+  pub begun-safe : Safe (begun st .store)
+  begun-safe = record { ledger = begun st .ledger; plain = begun st .plain; sim = begun-sim }

@@ -1,0 +1,357 @@
+-- A recovery takes the log written, or its first p entries.
+use Prim.Native.Nat.{ℕ, _+_, _^_, _≤_, _<_}
+use mathlib.Core.Path.{_≡_, refl, ap, ap₂, sym, _∙_}
+use mathlib.Core.Logic.{_≢_, _⊎_}
+use mathlib.Core.Bool.{Bool, true, false, true≢false, cond, not}
+use mathlib.Core.List.{List, [], _∷_}
+use native.Mathlib.Omega.{arith}
+use native.Mathlib.Decide.{ℕ-discrete, decLe}
+use borrow.Author.Tests.{eq-eqb, eqb-true, not-true}
+use lib.Dec.{eqb}
+use lib.ListN.{length, take}
+use Rattle.cells.specs.Upto.Laws.{length-upTo}
+use Rattle.cells.specs.Entry.{blockBytes, Entry}
+use Rattle.fnv.specs.Fnv.{start}
+use Rattle.card.specs.Card.{blockAt}
+use Rattle.journal.specs.declared.header.Header.{Header}
+use Rattle.journal.specs.declared.choice.Choice.{Choice}
+use Rattle.journal.specs.Log.{headerOf, entries, sumOf}
+use Rattle.journal.specs.Choice.{takenCount}
+use Rattle.journal.proofs.Choices.{both}
+use Rattle.store.specs.Request as Request
+use Rattle.store.specs.State.{State, Outcome, closed, opened, withQueue, withRecord}
+use Rattle.store.specs.Causes.{cause}
+use Rattle.store.specs.Simple.{powerCall, finished}
+use Rattle.store.proofs.Causes.{neither}
+use Rattle.history.specs.Call.{Call, power, put, get, commit, abandon, sync, apply, recover, cut}
+use Rattle.history.specs.Plain.{Plain, Done, refusal, served, plainStep, plainSync, plainApply, plainRecover}
+use Rattle.history.specs.Dispatch.{dispatch}
+use Rattle.history.specs.Ledger.{Ledger, heads, noted, entered, taken, logFound, sameLog}
+use Rattle.history.specs.History.{World, begun, next, after, storeNext, ledgerNext, foundWritten, acceptedCut, exception}
+use Rattle.history.specs.Statements.{requestOf, noCut, Taken, ReadBack, Summed, WrittenSummed}
+use Rattle.history.proofs.Disks.{slotE, logD, entries-disk, WholeCard, FallCard}
+use Rattle.history.proofs.Leads.{read-head, same-logs, logs-same}
+use Rattle.history.proofs.CauseLaws.{cause-passes}
+use Rattle.history.proofs.Relation.{OpenSim, ClosedSim, DownSim, Sim}
+use Rattle.history.proofs.PlainLaws.{sync-nothing, sync-finished, sync-short, apply-nothing, apply-finished, apply-short, recover-whole, recover-fallback, recover-short}
+use Rattle.history.proofs.Steps.{plainNext, WorldSim, same-cause, dispatch-refused, entered-refused, plain-served, noted-none, small-N, choose-fallback}
+use Rattle.history.proofs.CutStep.{served-cut, store-cut}
+use Rattle.history.proofs.RecoverStep.{is-closed}
+use Rattle.history.proofs.Induct.{step, next-sim, after-sim, begun-sim, clean-first, clean-before}
+use Rattle.history.proofs.Served.{when-open, sync-cases}
+
+-- ---- a call after which the record is closed, that was no accepted cut, found it so
+
+-- the calls that may leave a closed record
+abbrev MayClose : Call → Type 0
+MayClose (power k) = Unit {0}
+MayClose (put a b) = ⊥
+MayClose (get a) = ⊥
+MayClose commit = ⊥
+MayClose abandon = ⊥
+MayClose sync = ⊥
+MayClose apply = ⊥
+MayClose recover = ⊥
+MayClose (cut ms) = Unit {0}
+
+sync-mode : (d : Plain) → d .mode ≢ 0 → plainSync d .plain .mode ≢ 0
+sync-mode d h =
+    sync-cases (λ o. o .plain .mode ≢ 0) d
+    (λ z e. h (sym (ap (λ (o : Done). o .plain .mode) (sync-nothing d z)) ∙ e))
+    (λ z p e. h (sym (ap (λ (o : Done). o .plain .mode) (sync-finished d z p)) ∙ e))
+    (λ z p e. let q : _≡_ {A = ℕ} 2 0 = sym (ap (λ (o : Done). o .plain .mode) (sync-short d z p)) ∙ e in omega arith)
+
+apply-mode : (d : Plain) → d .mode ≢ 0 → plainApply d .plain .mode ≢ 0
+apply-mode d h e = go (ℕ-discrete (d .n) 0) (decLe (d .n + 3) (d .power))
+  where
+    go : Dec (d .n ≡ 0) → Dec (d .n + 3 ≤ d .power) → ⊥
+    go (yes z) q = h (sym (ap (λ (o : Done). o .plain .mode) (apply-nothing d z)) ∙ e)
+    go (no z) (yes q) = h (sym (ap (λ (o : Done). o .plain .mode) (apply-finished d z q)) ∙ e)
+    go (no z) (no q) = let k : _≡_ {A = ℕ} 2 0 = sym (ap (λ (o : Done). o .plain .mode) (apply-short d z (omega arith))) ∙ e in omega arith
+
+recover-mode : (d : Plain) → plainRecover d .plain .mode ≢ 0
+recover-mode d e = go (d .F) refl (decLe 2 (d .power))
+  where
+    go : (t : Bool) → d .F ≡ t → Dec (2 ≤ d .power) → ⊥
+    go false f q = let k : _≡_ {A = ℕ} 1 0 = sym (ap (λ (o : Done). o .plain .mode) (recover-whole d f)) ∙ e in omega arith
+    go true f (yes q) = let k : _≡_ {A = ℕ} 1 0 = sym (ap (λ (o : Done). o .plain .mode) (recover-fallback d f q)) ∙ e in omega arith
+    go true f (no q) = let k : _≡_ {A = ℕ} 2 0 = sym (ap (λ (o : Done). o .plain .mode) (recover-short d f (omega arith))) ∙ e in omega arith
+
+past : (t : Bool) (k : ℕ) → _≡_ {A = ℕ} (cond t 1 k) 0 → k ≡ 0
+past true k h = absurd (omega arith)
+past false k h = h
+
+-- a call that is not refused
+may-close : (c : Call) (f : Bool) (d : Plain) → refusal c d ≡ 0 → served c f d .plain .mode ≡ 0 → MayClose c
+unfolding refusal
+may-close (power k) f d h e = tt
+may-close (put a b) f d h e = when-open d _ (past (not (eqb (length b) blockBytes)) _ h) .0 e
+may-close (get a) f d h e = when-open d _ h .0 e
+may-close commit f d h e = when-open d _ h .0 e
+may-close abandon f d h e = when-open d _ h .0 e
+may-close sync f d h e = sync-mode d (when-open d _ h .0) e
+may-close apply f d h e = apply-mode d (when-open d _ h .0) e
+may-close recover f d h e = recover-mode d e
+may-close (cut ms) f d h e = tt
+
+pub record Unmoved (c : Call) (w : World) : Type 0 where
+  pub mode : w .store .rec .mode ≡ closed
+  pub settled : storeNext c w .settled ≡ w .store .settled
+  pub ledger : ledgerNext c w ≡ w .ledger
+
+-- a refused call
+unmoved-refused : (c : Call) (w : World) → WorldSim w → refusal c (w .plain) ≢ 0 → storeNext c w .rec .mode ≡ closed → Unmoved c w
+unmoved-refused c w m h z =
+    let k : cause (requestOf c) (w .store) ≢ 0 = λ e. h (sym (same-cause (w .store) (w .ledger) (w .plain) m c) ∙ e) in
+    let D = dispatch-refused c (w .store) k in
+    record {
+      mode = sym (ap (λ (o : Outcome). o .state .rec .mode) D) ∙ z;
+      settled = ap (λ (o : Outcome). o .state .settled) D;
+      ledger = entered-refused c (w .store) (w .ledger) k;
+    }
+
+pub power-served : (k : ℕ) (w : World) → WorldSim w → dispatch (power k) (w .store) ≡ finished (withRecord (withQueue (w .store .rec .waiting) k (w .store .rec)) (w .store))
+unfolding powerCall refusal
+power-served k w m =
+    let e : cause (Request.power k) (w .store) ≡ 0 = same-cause (w .store) (w .ledger) (w .plain) m (power k) in
+    rw (eq-eqb _ 0 e)
+
+power-unmoved : (k : ℕ) (w : World) → WorldSim w → storeNext (power k) w .rec .mode ≡ closed → Unmoved (power k) w
+unfolding entered
+power-unmoved k w m z =
+    let D = power-served k w m in
+    record { mode = sym (ap (λ (o : Outcome). o .state .rec .mode) D) ∙ z; settled = ap (λ (o : Outcome). o .state .settled) D; ledger = refl }
+
+-- a cut that is not refused is accepted
+pub cut-accepted : (ms : List ℕ) (w : World) → WorldSim w → refusal (cut ms) (w .plain) ≡ 0 → acceptedCut (cut ms) w ≡ true
+unfolding acceptedCut
+cut-accepted ms w m h =
+    let e : dispatch (cut ms) (w .store) .answer ≡ 0 = ap (λ (o : Outcome). o .answer) (served-cut ms w m h) in
+    rw e
+
+served-unmoved : (c : Call) (w : World) → WorldSim w → refusal c (w .plain) ≡ 0 → acceptedCut c w ≡ false → storeNext c w .rec .mode ≡ closed → MayClose c → Unmoved c w
+served-unmoved (power k) w m h a z q = power-unmoved k w m z
+served-unmoved (put i b) w m h a z q = absurd q
+served-unmoved (get i) w m h a z q = absurd q
+served-unmoved commit w m h a z q = absurd q
+served-unmoved abandon w m h a z q = absurd q
+served-unmoved sync w m h a z q = absurd q
+served-unmoved apply w m h a z q = absurd q
+served-unmoved recover w m h a z q = absurd q
+served-unmoved (cut ms) w m h a z q = absurd (true≢false (sym (cut-accepted ms w m h) ∙ a))
+
+stays : (c : Call) (w : World) → WorldSim w → acceptedCut c w ≡ false → storeNext c w .rec .mode ≡ closed → Unmoved c w
+stays c w m a z = go (ℕ-discrete (refusal c (w .plain)) 0)
+  where
+    plain-mode : refusal c (w .plain) ≡ 0 → served c (foundWritten c w) (w .plain) .plain .mode ≡ 0
+    plain-mode h = sym (ap (λ (o : Done). o .plain .mode) (plain-served c (foundWritten c w) (w .plain) h)) ∙ sym (step c w m .agrees .mode) ∙ z
+
+    go : Dec (refusal c (w .plain) ≡ 0) → Unmoved c w
+    go (no h) = unmoved-refused c w m h z
+    go (yes h) = served-unmoved c w m h a z (may-close c (foundWritten c w) (w .plain) h (plain-mode h))
+
+-- ---- the card from the last accepted cut to a recovery
+
+pub record AsCut (w v : World) : Type 0 where
+  pub mode : w .store .rec .mode ≡ closed
+  pub settled : v .store .settled ≡ w .store .settled
+  pub written : v .ledger .written ≡ w .ledger .written
+
+pub as-cut : (ds : List Call) (w : World) → WorldSim w → after ds w .excepted ≡ false → noCut ds w ≡ true → after ds w .store .rec .mode ≡ closed → AsCut w (after ds w)
+unfolding after noCut next
+as-cut [] w m x n z = record { mode = z; settled = refl; written = refl }
+as-cut (c ∷ ds) w m x n z =
+    let p = both (not (acceptedCut c w)) (noCut ds (next c w)) n in
+    let r = as-cut ds (next c w) (next-sim c w m (clean-first c ds w x)) x (p .1) z in
+    here c ds w m p.0 r
+  where
+    here : (c : Call) (ds : List Call) (w : World) → WorldSim w → not (acceptedCut c w) ≡ true → AsCut (next c w) (after ds (next c w)) → AsCut w (after ds (next c w))
+    here c ds w m a r =
+        let u = stays c w m (not-true _ a) (r .mode) in
+        record { mode = u .mode; settled = r .settled ∙ u .settled; written = r .written ∙ ap (λ (l : Ledger). l .written) (u .ledger) }
+
+-- ---- the list that a finished recover takes
+
+module _ (w : World) (m : WorldSim w) (h : dispatch recover (w .store) .answer ≡ 0) where
+  served-now : refusal recover (w .plain) ≡ 0
+  served-now = go (ℕ-discrete (refusal recover (w .plain)) 0)
+    where
+      go : Dec (refusal recover (w .plain) ≡ 0) → refusal recover (w .plain) ≡ 0
+      go (yes e) = e
+      go (no e) =
+          let k : cause Request.recover (w .store) ≢ 0 = λ q. e (sym (same-cause (w .store) (w .ledger) (w .plain) m recover) ∙ q) in
+          absurd (k (sym (ap (λ (o : Outcome). o .answer) (dispatch-refused recover (w .store) k)) ∙ h))
+
+  pub found-closed : ClosedSim (w .store) (w .ledger) (w .plain)
+  found-closed = is-closed (w .store) (w .ledger) (w .plain) m (cause-passes Request.recover (w .store) (same-cause (w .store) (w .ledger) (w .plain) m recover ∙ served-now))
+
+  -- the plain disk's step, by F
+  plain-is : plainStep recover (foundWritten recover w) (w .plain) ≡ plainRecover (w .plain)
+  plain-is = plain-served recover (foundWritten recover w) (w .plain) served-now
+
+  plain-done : plainRecover (w .plain) .answer ≡ 0
+  plain-done = ap (λ (o : Done). o .answer) (sym plain-is) ∙ sym (step recover w m .agrees .answer) ∙ h
+
+  orders-are : dispatch recover (w .store) .orders ≡ plainRecover (w .plain) .orders
+  orders-are = step recover w m .agrees .orders ∙ ap (λ (o : Done). o .orders) plain-is
+
+  no-exception : exception recover w ≡ false
+  unfolding exception acceptedCut
+  no-exception = refl
+
+  -- done, the record is open
+  done-by : (P : Done → Type 0) → (w .plain .F ≡ false → P (plainRecover (w .plain))) → (w .plain .F ≡ true → 2 ≤ w .plain .power → P (plainRecover (w .plain))) → P (plainRecover (w .plain))
+  done-by P a b = go (w .plain .F) refl (decLe 2 (w .plain .power))
+    where
+      go : (t : Bool) → w .plain .F ≡ t → Dec (2 ≤ w .plain .power) → P (plainRecover (w .plain))
+      go false f q = a f
+      go true f (yes q) = b f q
+      go true f (no q) = absurd (let k : _≡_ {A = ℕ} 4 0 = sym (ap (λ (o : Done). o .answer) (recover-short (w .plain) f (omega arith))) ∙ plain-done in omega arith)
+
+  plain-open : plainRecover (w .plain) .plain .mode ≡ opened
+  plain-open = done-by (λ o. o .plain .mode ≡ opened) (λ f. ap (λ (o : Done). o .plain .mode) (recover-whole (w .plain) f)) (λ f p. ap (λ (o : Done). o .plain .mode) (recover-fallback (w .plain) f p))
+
+  pub plain-same : plainRecover (w .plain) .plain .S ≡ w .plain .S
+  plain-same = done-by (λ o. o .plain .S ≡ w .plain .S) (λ f. ap (λ (o : Done). o .plain .S) (recover-whole (w .plain) f)) (λ f p. ap (λ (o : Done). o .plain .S) (recover-fallback (w .plain) f p))
+
+  pub recovered-sim : Sim (storeNext recover w) (ledgerNext recover w) (plainNext recover w)
+  recovered-sim = step recover w m .sim no-exception
+
+  pub recovered-mode : storeNext recover w .rec .mode ≡ opened
+  recovered-mode = step recover w m .agrees .mode ∙ ap (λ (o : Done). o .plain .mode) plain-is ∙ plain-open
+
+  pub recovered-open : OpenSim (storeNext recover w) (ledgerNext recover w) (plainNext recover w)
+  recovered-open = go (recovered-sim .phase)
+    where
+      go : OpenSim (storeNext recover w) (ledgerNext recover w) (plainNext recover w) ⊎ (ClosedSim (storeNext recover w) (ledgerNext recover w) (plainNext recover w) ⊎ DownSim (storeNext recover w) (ledgerNext recover w) (plainNext recover w))
+          → OpenSim (storeNext recover w) (ledgerNext recover w) (plainNext recover w)
+      go (_⊎_.inl o) = o
+      go (_⊎_.inr (_⊎_.inl o)) = absurd (omega (arith, o .mode, recovered-mode))
+      go (_⊎_.inr (_⊎_.inr o)) = absurd (omega (arith, o .mode, recovered-mode))
+
+  -- the list taken is the one noted
+  taken-noted : entries (storeNext recover w .settled) (storeNext recover w .rec .logged) ≡ ledgerNext recover w .written
+  taken-noted = entries-disk (storeNext recover w .settled) (storeNext recover w .rec .logged) ∙ sym (recovered-open .card .same)
+
+  small : w .store .rec .blocks < 2 ^ 32
+  small = small-N (w .store) (w .plain) (m .basics)
+
+  -- by what the cut left
+  abbrev Chosen : Type 0
+  Chosen =
+      ledgerNext recover w .written
+      ≡ cond (sameLog (logFound (w .store)) (w .ledger .written)) (w .ledger .written) (take (headerOf (w .store .settled) .previous) (w .ledger .written))
+
+  noted-orders : (k : ℕ) → plainRecover (w .plain) .orders ≡ k → ledgerNext recover w ≡ noted (heads recover (w .store)) k (w .ledger)
+  unfolding entered
+  noted-orders k e = ap (λ (x : ℕ). noted (heads recover (w .store)) x (w .ledger)) (orders-are ∙ e)
+
+  taken-whole : w .plain .F ≡ false → WholeCard (w .store .rec .blocks) (blockAt (w .store .settled)) (w .ledger .written) (w .plain .S) (w .plain .n) → Chosen
+  unfolding logFound
+  taken-whole f r =
+      let hd = read-head (w .store .settled) (w .store .rec .blocks) (r .p) (r .ps) (w .plain .n) _ small (r .head) in
+      let found : logFound (w .store) ≡ w .ledger .written =
+      ap (λ (x : Header). entries (w .store .settled) (x .count)) hd ∙ entries-disk (w .store .settled) (w .plain .n) ∙ sym (r .same) in
+      let same : sameLog (logFound (w .store)) (w .ledger .written) ≡ true = ap (λ (x : List Entry). sameLog x (w .ledger .written)) found ∙ logs-same (w .ledger .written) in
+      ap (λ (l : Ledger). l .written) (noted-orders 0 (ap (λ (o : Done). o .orders) (recover-whole (w .plain) f)) ∙ noted-none (heads recover (w .store)) (w .ledger))
+      ∙ sym (ap (λ (t : Bool). cond t (w .ledger .written) (take (headerOf (w .store .settled) .previous) (w .ledger .written))) same)
+
+  noted-two : noted (heads recover (w .store)) 2 (w .ledger) .written ≡ taken (w .store)
+  unfolding heads noted
+  noted-two = refl
+
+  taken-fall : w .plain .F ≡ true → 2 ≤ w .plain .power → FallCard (w .store .rec .blocks) (blockAt (w .store .settled)) (w .ledger .written) (w .plain .S) (w .plain .n) → Chosen
+  unfolding logFound
+  taken-fall f p r =
+      let s = w .store .settled in
+      let hd = read-head (w .store .settled) (w .store .rec .blocks) (w .plain .n) _ (r .c) (r .ns) small (r .head) in
+      let found : logFound (w .store) ≡ logD (blockAt (w .store .settled)) (r .c) = ap (λ (x : Header). entries (w .store .settled) (x .count)) hd ∙ entries-disk (w .store .settled) (r .c) in
+      let other : sameLog (logFound (w .store)) (w .ledger .written) ≡ false = differ (sameLog (logFound (w .store)) (w .ledger .written)) refl (λ e. r .other (sym e ∙ found)) in
+      ap (λ (l : Ledger). l .written) (noted-orders 2 (ap (λ (o : Done). o .orders) (recover-fallback (w .plain) f p)))
+      ∙ noted-two
+      ∙ ap (λ (c : Choice). entries (w .store .settled) (takenCount c)) (choose-fallback (w .store .rec .blocks) (w .store .settled) small (w .ledger .written) (w .plain .S) (w .plain .n) r)
+      ∙ entries-disk (w .store .settled) (w .plain .n)
+      ∙ sym (r .front)
+      ∙ ap (λ (x : Header). take (x .previous) (w .ledger .written)) (sym hd)
+      ∙ sym (ap (λ (t : Bool). cond t (w .ledger .written) (take (headerOf (w .store .settled) .previous) (w .ledger .written))) other)
+    where
+      differ : (t : Bool) → sameLog (logFound (w .store)) (w .ledger .written) ≡ t → (logFound (w .store) ≡ w .ledger .written → ⊥) → t ≡ false
+      differ true e z = absurd (z (same-logs (logFound (w .store)) (w .ledger .written) e))
+      differ false e z = refl
+
+  pub taken-is : Chosen
+  taken-is = done-by (λ o. Chosen) (λ f. taken-whole f (rw f at (found-closed .card))) (λ f p. taken-fall f p (rw f at (found-closed .card)))
+
+-- ---- the theorem
+
+taken-after : (w : World) (ds : List Call) → WorldSim w → after ds w .excepted ≡ false → noCut ds w ≡ true → dispatch recover (after ds w .store) .answer ≡ 0
+    → Taken w (dispatch recover (after ds w .store) .state)
+unfolding logFound
+taken-after w ds m x n h =
+    let v = after ds w in
+    let mv = after-sim ds w m x in
+    let r = as-cut ds w m x n (found-closed (after ds w) mv h .mode) in
+    taken-noted (after ds w) mv h
+    ∙ taken-is (after ds w) mv h
+    ∙ ap₂ (λ (s : List ℕ) (l : List Entry). cond (sameLog (entries s (headerOf s .count)) l) l (take (headerOf s .previous) l)) (r .settled) (r .written)
+
+pub read-back : ReadBack
+unfolding after
+read-back st f cs ms ds a n x h =
+    let v = after cs (begun st) in
+    let here : after cs (begun st) .excepted ≡ false = clean-before (cut ms ∷ ds) (after cs (begun st)) (first x) in
+    taken-after (next (cut ms) (after cs (begun st))) ds
+    (next-sim (cut ms) (after cs (begun st)) (after-sim cs (begun st) (begun-sim st f) here) (clean-first (cut ms) ds (after cs (begun st)) x)) x n h
+  where
+    first : after ds (next (cut ms) (after cs (begun st))) .excepted ≡ false → after (cut ms ∷ ds) (after cs (begun st)) .excepted ≡ false
+    first e = e
+
+-- ---- the log written, by the header that a cut left
+
+summed : (w : World) → WorldSim w → w .store .rec .mode ≡ closed → Summed w
+summed w m z = by (w .plain .F) refl (closed-phase (m .phase))
+  where
+    closed-phase : OpenSim (w .store) (w .ledger) (w .plain) ⊎ (ClosedSim (w .store) (w .ledger) (w .plain) ⊎ DownSim (w .store) (w .ledger) (w .plain)) → ClosedSim (w .store) (w .ledger) (w .plain)
+    closed-phase (_⊎_.inl o) = absurd (omega (arith, o .mode))
+    closed-phase (_⊎_.inr (_⊎_.inl o)) = o
+    closed-phase (_⊎_.inr (_⊎_.inr o)) = absurd (omega (arith, o .mode))
+
+    low : w .store .rec .blocks < 2 ^ 32
+    low = small-N (w .store) (w .plain) (m .basics)
+
+    whole : WholeCard (w .store .rec .blocks) (blockAt (w .store .settled)) (w .ledger .written) (w .plain .S) (w .plain .n) → Summed w
+    whole r =
+        let hd = read-head (w .store .settled) (w .store .rec .blocks) (r .p) (r .ps) (w .plain .n) _ low (r .head) in
+        record {
+          count = ap (λ (x : Header). x .count) hd ∙ sym (ap length (r .same) ∙ length-upTo (slotE (blockAt (w .store .settled))) (w .plain .n));
+          sum = ap (λ (x : Header). x .sum) hd ∙ ap (sumOf start) (sym (r .same));
+        }
+
+    fall : FallCard (w .store .rec .blocks) (blockAt (w .store .settled)) (w .ledger .written) (w .plain .S) (w .plain .n) → Summed w
+    fall r =
+        let hd = read-head (w .store .settled) (w .store .rec .blocks) (w .plain .n) _ (r .c) (r .ns) low (r .head) in
+        record { count = ap (λ (x : Header). x .count) hd ∙ sym (r .size); sum = ap (λ (x : Header). x .sum) hd ∙ sym (r .total) }
+
+    by : (F : Bool) → w .plain .F ≡ F → ClosedSim (w .store) (w .ledger) (w .plain) → Summed w
+    by false f o = whole (rw f at (o .card))
+    by true f o = fall (rw f at (o .card))
+
+-- an accepted cut is not refused
+accepted-serves : (ms : List ℕ) (w : World) → WorldSim w → acceptedCut (cut ms) w ≡ true → refusal (cut ms) (w .plain) ≡ 0
+unfolding acceptedCut
+accepted-serves ms w m a = go (ℕ-discrete (refusal (cut ms) (w .plain)) 0)
+  where
+    go : Dec (refusal (cut ms) (w .plain) ≡ 0) → refusal (cut ms) (w .plain) ≡ 0
+    go (yes e) = e
+    go (no e) =
+        let k : cause (Request.cut ms) (w .store) ≢ 0 = λ q. e (sym (same-cause (w .store) (w .ledger) (w .plain) m (cut ms)) ∙ q) in
+        absurd (k (sym (ap (λ (o : Outcome). o .answer) (dispatch-refused (cut ms) (w .store) k)) ∙ eqb-true _ _ a))
+
+pub written-summed : WrittenSummed
+unfolding next
+written-summed st f cs ms a x =
+    let v = after cs (begun st) in
+    let p = neither (after cs (begun st) .excepted) (exception (cut ms) (after cs (begun st))) x in
+    let m = after-sim cs (begun st) (begun-sim st f) (p .0) in
+    summed (next (cut ms) (after cs (begun st))) (next-sim (cut ms) (after cs (begun st)) m (p .1))
+    (ap (λ (s : State). s .rec .mode) (store-cut ms (after cs (begun st)) m (accepted-serves ms (after cs (begun st)) m a)))

@@ -1,0 +1,74 @@
+-- The card of the worked scripts: a first append of one entry, and a second one that is cut short behind its header.
+use Prim.Native.Nat.{ℕ, _+_, _*_, _-_, _≤_, _<_}
+use mathlib.Core.Path.{_≡_, refl, ap, ap₂, sym, _∙_}
+use mathlib.Core.List.{List, [], _∷_, _++_, append-assoc}
+use native.Mathlib.Omega.{arith}
+use lib.ListN.{length, take, drop, replicate, length-append}
+use lib.Seq.{length-take-le, drop-append-add}
+use Rattle.cells.specs.Cell.{cell}
+use Rattle.cells.specs.Cell.Laws.{cell-part, cell-zeros}
+use Rattle.cells.specs.Little.{num}
+use Rattle.cells.specs.Little.Laws.{num-nil, num-cons}
+use Rattle.cells.specs.Entry.{blockBytes, Entry}
+use Rattle.cells.specs.Entry.Laws.{entry-eq}
+use Rattle.card.specs.Disk.{Disk, lay, overlay}
+use Rattle.card.specs.Card.{Card, kept, cut, settle, blockAt}
+use Rattle.card.proofs.All.{all-take}
+use Rattle.card.proofs.Runs.{Whole}
+use Rattle.journal.specs.Layout.{descriptorAt}
+use Rattle.journal.specs.Orders.{addressBytes, describe}
+use Rattle.journal.proofs.Descriptors.{length-addressBytes}
+use Rattle.journal.proofs.OrderLists.{slotBlocks, appendWrites}
+use Rattle.history.proofs.Disks.{slotE}
+use Rattle.history.proofs.Batches.{Left}
+use Rattle.history.proofs.Leads.{foundIn, found-log}
+use Rattle.history.proofs.Crashes.{header-kept}
+use Rattle.history.proofs.CallCuts.{cut-laid, settled-laid}
+use Rattle.history.proofs.AppendEnds.{AppendBase, wide, writes-whole}
+
+-- "a sync writes the slots from its new count on […] as zero"
+describe-beyond : (old : List ℕ) (n : ℕ) (es : List Entry) (i : ℕ) → 4 * n ≤ length old → n + length es ≤ i → 4 * i + 4 ≤ blockBytes
+    → cell 4 (describe old n es) i ≡ replicate 4 0
+unfolding describe
+describe-beyond old n es i h l k =
+    let front : List ℕ = take (4 * n) old ++ addressBytes es in
+    let j : ℕ = i - (n + length es) in
+    let zeros : List ℕ = replicate (blockBytes - 4 * (n + length es)) 0 in
+    let size : length front ≡ 4 * n + 4 * length es =
+    length-append (take (4 * n) old) (addressBytes es) ∙ ap₂ (λ (x y : ℕ). x + y) (length-take-le (4 * n) old h) (length-addressBytes es) in
+    let past : 4 * i ≡ length front + 4 * j = omega arith in
+    cell-part 4 (take (4 * n) old ++ (addressBytes es ++ zeros)) i
+    ∙ ap (λ (x : List ℕ). take 4 (drop (4 * i) x)) (sym (append-assoc (take (4 * n) old) (addressBytes es) zeros))
+    ∙ ap (λ (x : ℕ). take 4 (drop x (front ++ zeros))) past
+    ∙ ap (take 4) (drop-append-add front zeros (4 * j))
+    ∙ sym (cell-part 4 zeros j)
+    ∙ cell-zeros 4 (blockBytes - 4 * (n + length es)) j (omega arith)
+
+no-number : num (replicate 4 0) ≡ 0
+no-number = rw (num-cons, num-cons, num-cons, num-cons, num-nil)
+
+-- after a first append of one entry the descriptor has 0 in its second place
+pub second-zero : {N : ℕ} {s : List ℕ} {h : ℕ} {e : Entry} {v : List Entry} {S : Disk} {c₀ c : Card} {p : ℕ} → AppendBase N s 0 h (e ∷ []) v S c₀ c p
+    → num (cell 4 (blockAt (settle (appendWrites N s 0 h (e ∷ [])) s) descriptorAt) 1) ≡ 0
+unfolding overlay lay slotBlocks
+second-zero {N} {s} {h} {e} x =
+    let now : blockAt (settle (appendWrites N s 0 h (e ∷ [])) s) descriptorAt ≡ describe (blockAt s descriptorAt) 0 (e ∷ []) =
+    settled-laid (appendWrites N s 0 h (e ∷ [])) s (settle (appendWrites N s 0 h (e ∷ [])) s) descriptorAt refl (omega (arith, x .big, x .size)) (writes-whole x) in
+    ap (λ (b : List ℕ). num (cell 4 b 1)) now
+    ∙ ap num (describe-beyond (blockAt s descriptorAt) 0 (e ∷ []) 1 (omega arith) (omega arith) (omega arith))
+    ∙ no-number
+
+-- a second one, whose descriptor alone is lost: the new block is found under the address that stood there
+pub torn-found : {N : ℕ} {s : List ℕ} {h : ℕ} {e : Entry} {v : List Entry} {S : Disk} {c₀ c : Card} → AppendBase N s 1 h (e ∷ []) v S c₀ c 3
+    → (r : Card) → Left c₀ r s (take 3 (appendWrites N s 1 h (e ∷ []))) 0
+    → foundIn (cut (1 ∷ 0 ∷ 1 ∷ []) r .settled) ≡ slotE (blockAt s) 0 ∷ record { address = num (cell 4 (blockAt s descriptorAt) 1); block = e .block } ∷ []
+unfolding overlay lay slotBlocks kept slotE
+torn-found {N} {s} {h} {e} {v} {S} {c₀} x r f =
+    let ms : List ℕ = 1 ∷ 0 ∷ 1 ∷ [] in
+    let laid : (a : ℕ) → a < N → blockAt (cut ms r .settled) a ≡ overlay (kept ms (appendWrites N s 1 h (e ∷ []))) (blockAt s) a =
+    λ a l. cut-laid c₀ r s (take 3 (appendWrites N s 1 h (e ∷ []))) 0 ms a f (omega (arith, x .size)) (all-take Whole 3 (appendWrites N s 1 h (e ∷ [])) (writes-whole x)) in
+    found-log N s 1 h (e ∷ []) v S (x .big) (x .small) (x .size) (x .room) (x .sum) (x .card) (cut ms r .settled) (kept ms (appendWrites N s 1 h (e ∷ []))) laid
+    (header-kept N s 1 h (e ∷ []) (x .room) (wide x) ms refl refl (x .sum))
+    ∙ ap₂ (λ (a b : Entry). a ∷ b ∷ [])
+    (entry-eq (ap (λ (b : List ℕ). num (cell 4 b 0)) (laid 1 (omega (arith, x .big)))) (laid 2 (omega (arith, x .big))))
+    (entry-eq (ap (λ (b : List ℕ). num (cell 4 b 1)) (laid 1 (omega (arith, x .big)))) (laid 3 (omega (arith, x .big))))

@@ -1,0 +1,90 @@
+-- The plain disk along the worked scripts, and how the store follows it.
+use Prim.Native.Nat.{ℕ}
+use mathlib.Core.Path.{_≡_, refl, ap, _∙_}
+use mathlib.Core.Bool.{Bool, true, false, _||_, or-false}
+use mathlib.Core.List.{List, [], _∷_}
+use lib.ListN.{length}
+use Rattle.cells.specs.Entry.{blockBytes, Entry}
+use Rattle.card.specs.Disk.{Disk, overlay}
+use Rattle.history.specs.Call.{Call, power, put, commit, sync, recover, cut}
+use Rattle.history.specs.Plain.{Plain, Done, none, ofSync, has, insert, merge, overOne, refusal, headerKept, verdict, ownVerdict, plainSync, plainRecover, plainCut, plainStep, still}
+use Rattle.history.specs.Dispatch.{dispatch}
+use Rattle.history.specs.History.{World, next, foundWritten, exception}
+use Rattle.history.specs.Worked.{at40}
+use Rattle.history.proofs.Steps.{WorldSim}
+use Rattle.history.proofs.Induct.{step, next-sim}
+
+-- ---- the plain disk
+
+abbrev pub openAt : Disk → List Entry → List Entry → ℕ → ℕ → Plain
+openAt S G T n p = record { N = 64; S = S; G = G; T = T; n = n; mode = 1; power = p; waiting = 0; short = none; F = false }
+
+-- a sync of G over n = 1 was cut short by power 3
+abbrev pub downAt : Disk → List Entry → Plain
+downAt S G = record { N = 64; S = S; G = G; T = []; n = 1; mode = 2; power = 0; waiting = 3; short = ofSync 3; F = false }
+
+abbrev pub closedAt : Disk → ℕ → ℕ → Bool → Plain
+closedAt S n p F = record { N = 64; S = S; G = []; T = []; n = n; mode = 0; power = p; waiting = 0; short = none; F = F }
+
+pub plain-put : (t : Bool) (S : Disk) (n p : ℕ) (b : List ℕ) → length b ≡ blockBytes → plainStep (put 40 b) t (openAt S [] [] n p) ≡ still (openAt S [] (at40 b ∷ []) n p)
+unfolding plainStep refusal has insert
+plain-put t S n p b h = rw h
+
+pub plain-commit : (t : Bool) (S : Disk) (n p : ℕ) (b : List ℕ) → plainStep commit t (openAt S [] (at40 b ∷ []) n p) ≡ still (openAt S (at40 b ∷ []) [] n p)
+unfolding plainStep refusal merge insert
+plain-commit t S n p b = refl
+
+pub plain-filed : (t : Bool) (S : Disk) (b : List ℕ)
+    → plainStep sync t (openAt S (at40 b ∷ []) [] 0 1000000) ≡ record { answer = 0; orders = 4; plain = openAt (overlay (at40 b ∷ []) S) [] [] 1 999996 }
+unfolding plainStep refusal plainSync
+plain-filed t S b = refl
+
+pub plain-power : (t : Bool) (S : Disk) (G : List Entry) (p k : ℕ) → plainStep (power k) t (openAt S G [] 1 p) ≡ still (openAt S G [] 1 k)
+unfolding plainStep refusal
+plain-power t S G p k = refl
+
+pub plain-halted : (t : Bool) (S : Disk) (b : List ℕ) → plainStep sync t (openAt S (at40 b ∷ []) [] 1 3) ≡ record { answer = 4; orders = 3; plain = downAt S (at40 b ∷ []) }
+unfolding plainStep refusal plainSync
+plain-halted t S b = refl
+
+pub plain-torn : (S : Disk) (b : List ℕ) → plainStep (cut (1 ∷ 0 ∷ 1 ∷ [])) false (downAt S (at40 b ∷ [])) ≡ still (closedAt S 1 0 true)
+unfolding plainStep refusal overOne plainCut headerKept verdict ownVerdict
+plain-torn S b = refl
+
+pub plain-whole : (S : Disk) (b : List ℕ) → plainStep (cut (1 ∷ 1 ∷ 1 ∷ [])) true (downAt S (at40 b ∷ [])) ≡ still (closedAt (overlay (at40 b ∷ []) S) 2 0 false)
+unfolding plainStep refusal overOne plainCut headerKept verdict ownVerdict
+plain-whole S b = refl
+
+pub plain-again : (t : Bool) (S : Disk) (n p k : ℕ) (F : Bool) → plainStep (power k) t (closedAt S n p F) ≡ still (closedAt S n k F)
+unfolding plainStep refusal
+plain-again t S n p k F = refl
+
+pub plain-fallback : (t : Bool) (S : Disk) (n : ℕ) → plainStep recover t (closedAt S n 100 true) ≡ record { answer = 0; orders = 2; plain = openAt S [] [] n 98 }
+unfolding plainStep refusal plainRecover
+plain-fallback t S n = refl
+
+pub plain-found : (t : Bool) (S : Disk) (n : ℕ) → plainStep recover t (closedAt S n 100 false) ≡ record { answer = 0; orders = 0; plain = openAt S [] [] n 100 }
+unfolding plainStep refusal plainRecover
+plain-found t S n = refl
+
+-- ---- a call of the list that comes to o on the plain disk
+
+pub record Went (c : Call) (w : World) (o : Done) : Type 0 where
+  pub answer : dispatch c (w .store) .answer ≡ o .answer
+  pub orders : dispatch c (w .store) .orders ≡ o .orders
+  pub plain : next c w .plain ≡ o .plain
+  pub sim : WorldSim (next c w)
+  pub clean : next c w .excepted ≡ w .excepted
+
+pub went : (c : Call) (w : World) (d : Plain) (o : Done) → WorldSim w → exception c w ≡ false → w .plain ≡ d → plainStep c (foundWritten c w) d ≡ o → Went c w o
+unfolding next
+went c w d o m x e p =
+    let q : plainStep c (foundWritten c w) (w .plain) ≡ o = ap (plainStep c (foundWritten c w)) e ∙ p in
+    let a = step c w m .agrees in
+    record {
+      answer = a .answer ∙ ap (λ (y : Done). y .answer) q;
+      orders = a .orders ∙ ap (λ (y : Done). y .orders) q;
+      plain = ap (λ (y : Done). y .plain) q;
+      sim = next-sim c w m x;
+      clean = ap (λ (t : Bool). w .excepted || t) x ∙ or-false (w .excepted);
+    }

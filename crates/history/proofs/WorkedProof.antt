@@ -1,0 +1,383 @@
+-- Document 01's two worked scripts. The statement stands in specs/Worked.antt.
+use Prim.Native.Nat.{ℕ, _+_, _/_}
+use mathlib.Core.Path.{_≡_, refl, ap, ap₂, sym, _∙_}
+use mathlib.Core.Logic.{_⊎_}
+use mathlib.Core.Bool.{Bool, true, false, cond, not, _&&_}
+use mathlib.Core.List.{List, [], _∷_, _++_}
+use native.Mathlib.Omega.{arith}
+use lib.Dec.{eqb}
+use lib.ListN.{length, getD, replicate, length-replicate}
+use Rattle.cells.specs.Cell.{cell}
+use Rattle.cells.specs.Little.{num}
+use Rattle.cells.specs.Entry.{blockBytes, Entry}
+use Rattle.fnv.specs.Fnv.{start}
+use Rattle.card.specs.Disk.{Disk, lay, overlay}
+use Rattle.card.specs.Card.{blockAt, blocksIn}
+use Rattle.journal.specs.declared.lookup.Found.{Found}
+use Rattle.journal.specs.declared.lookup.Found.the-variants.{At, Absent}
+use Rattle.journal.specs.Layout.{descriptorAt, isData}
+use Rattle.store.specs.Request as Request
+use Rattle.store.specs.declared.record.Record.{Record}
+use Rattle.store.specs.State.{State, Outcome, opened}
+use Rattle.store.specs.Lists.{openFrom, find}
+use Rattle.store.specs.Causes.{wrongSizes, cause}
+use Rattle.store.specs.Simple.{refused, finished, unless, putAt, formatCall, putCall}
+use Rattle.store.specs.Commit.{commitCall}
+use Rattle.history.specs.Call.{power, put, get, commit, sync, recover, cut}
+use Rattle.history.specs.Plain.{Plain, fresh, none, overOne, refusal, headerKept, plainStep, still}
+use Rattle.history.specs.Dispatch.{dispatch}
+use Rattle.history.specs.Ledger.{sameLog, collides}
+use Rattle.history.specs.History.{World, begun, next, after, storeNext, ledgerNext, foundWritten, acceptedCut, exception}
+use Rattle.history.specs.Statements as S
+use Rattle.history.specs.Statements.{EndsFinished, noneFinished, shortSync, allOnes, Fate, quiet, cutShort, decided, observe, fate, outcome}
+use Rattle.history.specs.Worked.{sevens, nines, at40, filed, crashed, metByRecover, answers, Script, Worked}
+use Rattle.history.proofs.Disks.{slotE, logD}
+use Rattle.history.proofs.Leads.{foundIn, bytes-same}
+use Rattle.history.proofs.Relation.{cutSettled, cutWritten}
+use Rattle.history.proofs.Steps.{WorldSim}
+use Rattle.history.proofs.CutStep.{found-cut, exception-cut}
+use Rattle.history.proofs.Induct.{begun-sim}
+use Rattle.history.proofs.ReadsBack.{power-served, cut-accepted}
+use Rattle.history.proofs.Theorems.{crash-atomicity}
+use Rattle.history.proofs.WorkedSums.{other-sum}
+use Rattle.history.proofs.WorkedPlain.{openAt, downAt, closedAt, plain-put, plain-commit, plain-filed, plain-power, plain-halted, plain-torn, plain-whole, plain-again, plain-fallback, plain-found, Went, went}
+use Rattle.history.proofs.WorkedSync.{group-is, grouped-is, no-inner, filed-log, filed-next, halted-written, halted-torn, halted-whole}
+
+-- ---- put and commit leave the settled bytes
+
+unless-settled : (k : ℕ) (st s : State) → s .settled ≡ st .settled → unless k st (finished s) .state .settled ≡ st .settled
+unless-settled k st s e = go (eqb k 0)
+  where
+    go : (t : Bool) → cond t (finished s) (refused k st) .state .settled ≡ st .settled
+    go true = e
+    go false = refl
+
+put-settled : (a : ℕ) (b : List ℕ) (st : State) → putCall a b st .state .settled ≡ st .settled
+unfolding putCall
+put-settled a b st = unless-settled (cause (Request.put a b) st) st (putAt (find (st .work) openFrom (st .rec .opened) a) e st) (go (find (st .work) openFrom (st .rec .opened) a))
+  where
+    e : Entry
+    e = record { address = a; block = b }
+
+    go : (f : Found) → putAt f e st .settled ≡ st .settled
+    go (At i) = refl
+    go Absent = refl
+
+commit-settled : (st : State) → commitCall st .state .settled ≡ st .settled
+unfolding commitCall
+commit-settled st = unless-settled (cause Request.commit st) st _ refl
+
+length-sevens : length sevens ≡ blockBytes
+unfolding sevens
+length-sevens = length-replicate {A = ℕ} blockBytes 7
+
+length-nines : length nines ≡ blockBytes
+unfolding nines
+length-nines = length-replicate {A = ℕ} blockBytes 9
+
+-- ---- the log found and the log written, after cut 101
+
+abbrev log-written : List Entry
+log-written = at40 sevens ∷ at40 nines ∷ []
+
+abbrev log-found : List Entry
+log-found = at40 sevens ∷ record { address = 0; block = nines } ∷ []
+
+other-log : sameLog log-found log-written ≡ false
+unfolding sameLog
+other-log = rw (bytes-same sevens)
+
+no-collision : collides log-found log-written ≡ false
+unfolding collides
+no-collision = rw (other-log, other-sum)
+
+-- the same log collides with nothing
+same-fits : (a b : List Entry) → sameLog a b ≡ true → collides a b ≡ false
+unfolding collides
+same-fits a b h = rw h
+
+-- ---- from the finished sync on
+
+abbrev zeros : Disk
+zeros = λ a. replicate blockBytes 0
+
+abbrev old : Disk
+old = overlay (at40 sevens ∷ []) zeros
+
+-- what the first part of the script leaves
+record Filed (w : World) : Type 0 where
+  sim : WorldSim w
+  clean : w .excepted ≡ false
+  plain : w .plain ≡ openAt old [] [] 1 999996
+  log : logD (blockAt (w .store .settled)) 1 ≡ at40 sevens ∷ []
+  free : num (cell 4 (blockAt (w .store .settled) descriptorAt) 1) ≡ 0
+
+abbrev v₁ : World → World
+v₁ w = next (put 40 nines) w
+
+abbrev v₂ : World → World
+v₂ w = next commit (v₁ w)
+
+abbrev v₃ : World → World
+v₃ w = next (power 3) (v₂ w)
+
+abbrev v₄ : World → World
+v₄ w = next sync (v₃ w)
+
+module _ (w : World) (m : Filed w) where
+  t₁ : Went (put 40 nines) w (still (openAt old [] (at40 nines ∷ []) 1 999996))
+  unfolding exception acceptedCut
+  t₁ = went (put 40 nines) w _ _ (m .sim) refl (m .plain) (plain-put _ old 1 999996 nines length-nines)
+
+  t₂ : Went commit (v₁ w) (still (openAt old (at40 nines ∷ []) [] 1 999996))
+  unfolding exception acceptedCut
+  t₂ = went commit (v₁ w) _ _ (t₁ .sim) refl (t₁ .plain) (plain-commit _ old 1 999996 nines)
+
+  t₃ : Went (power 3) (v₂ w) (still (openAt old (at40 nines ∷ []) [] 1 3))
+  unfolding exception acceptedCut
+  t₃ = went (power 3) (v₂ w) _ _ (t₂ .sim) refl (t₂ .plain) (plain-power _ old (at40 nines ∷ []) 999996 3)
+
+  t₄ : Went sync (v₃ w) (record { answer = 4; orders = 3; plain = downAt old (at40 nines ∷ []) })
+  unfolding exception acceptedCut
+  t₄ = went sync (v₃ w) _ _ (t₃ .sim) refl (t₃ .plain) (plain-halted _ old nines)
+
+  same-settled : v₃ w .store .settled ≡ w .store .settled
+  unfolding next
+  same-settled =
+      ap (λ (x : Outcome). x .state .settled) (power-served 3 (v₂ w) (t₂ .sim))
+      ∙ commit-settled (v₁ w .store)
+      ∙ put-settled 40 nines (w .store)
+
+  -- ---- the logs
+
+  first-slot : slotE (blockAt (v₃ w .store .settled)) 0 ≡ at40 sevens
+  first-slot = ap (λ (l : List Entry). getD l 0 (at40 sevens)) (ap (λ (s : List ℕ). logD (blockAt s) 1) same-settled ∙ m .log)
+
+  torn-log : foundIn (cutSettled (1 ∷ 0 ∷ 1 ∷ []) (storeNext sync (v₃ w))) ≡ log-found
+  torn-log =
+      halted-torn (v₃ w) (t₃ .sim) old nines (t₃ .plain)
+      ∙ ap₂ (λ (e : Entry) (a : ℕ). e ∷ record { address = a; block = nines } ∷ []) first-slot
+      (ap (λ (s : List ℕ). num (cell 4 (blockAt s descriptorAt) 1)) same-settled ∙ m .free)
+
+  own-log : (ms : List ℕ) → headerKept ms 3 ≡ true → cutWritten ms (ledgerNext sync (v₃ w)) ≡ log-written
+  own-log ms k = halted-written (v₃ w) (t₃ .sim) old nines (t₃ .plain) ms k ∙ ap (λ (e : Entry). e ∷ at40 nines ∷ []) first-slot
+
+  -- ---- the sync that is cut short
+
+  open-then : v₃ w .store .rec .mode ≡ opened
+  open-then = sym (t₃ .sim .basics .mirrors .mode) ∙ ap (λ (x : Plain). x .mode) (t₃ .plain)
+
+  observed : observe sync (v₃ w) quiet ≡ cutShort (at40 nines ∷ []) 2 true
+  unfolding observe shortSync
+  observed =
+      let g = group-is (v₃ w) (t₃ .sim) old nines 1 3 (omega arith) (t₃ .plain) in
+      let k = grouped-is (v₃ w) (t₃ .sim) old nines 1 3 (omega arith) (t₃ .plain) in
+      let i = no-inner (v₃ w) (t₃ .sim) old nines 1 3 (omega arith) (t₃ .plain) in
+      λ j.
+      cond (eqb (open-then j) opened && eqb (t₄ .answer j) 4) (cutShort (g j) (k j + 1) (eqb (t₄ .orders j) (i j + (k j + 2)))) quiet
+
+  -- ---- a cut that is accepted
+
+  module _ (ms : List ℕ) (fit : refusal (cut ms) (downAt old (at40 nines ∷ [])) ≡ 0) where
+    fits : refusal (cut ms) (v₄ w .plain) ≡ 0
+    fits = ap (refusal (cut ms)) (t₄ .plain) ∙ fit
+
+    found-is : foundWritten (cut ms) (v₄ w) ≡ sameLog (foundIn (cutSettled ms (storeNext sync (v₃ w)))) (cutWritten ms (ledgerNext sync (v₃ w)))
+    unfolding next
+    found-is = found-cut ms (v₄ w) (t₄ .sim) fits
+
+    exception-is : exception (cut ms) (v₄ w) ≡ collides (foundIn (cutSettled ms (storeNext sync (v₃ w)))) (cutWritten ms (ledgerNext sync (v₃ w)))
+    unfolding next
+    exception-is = exception-cut ms (v₄ w) (t₄ .sim) fits
+
+    accepted : acceptedCut (cut ms) (v₄ w) ≡ true
+    accepted = cut-accepted ms (v₄ w) (t₄ .sim) fits
+
+-- what it is to the plain disk, and the recovery after it
+record Cuts (w : World) (ms : List ℕ) (same : Bool) (k : ℕ) : Type 0 where
+  fit : refusal (cut ms) (downAt old (at40 nines ∷ [])) ≡ 0
+  found : foundWritten (cut ms) (v₄ w) ≡ same
+  usual : exception (cut ms) (v₄ w) ≡ false
+  S : Disk
+  n : ℕ
+  F : Bool
+  left : ℕ
+  cuts : plainStep (cut ms) same (downAt old (at40 nines ∷ [])) ≡ still (closedAt S n 0 F)
+  recovers : (t : Bool) → plainStep recover t (closedAt S n 100 F) ≡ record { answer = 0; orders = k; plain = openAt S [] [] n left }
+
+torn-cuts : (w : World) → Filed w → Cuts w (1 ∷ 0 ∷ 1 ∷ []) false 2
+unfolding refusal overOne headerKept
+torn-cuts w m = record {
+  fit = refl;
+  found = found-is w m (1 ∷ 0 ∷ 1 ∷ []) refl ∙ ap₂ sameLog (torn-log w m) (own-log w m (1 ∷ 0 ∷ 1 ∷ []) refl) ∙ other-log;
+  usual = exception-is w m (1 ∷ 0 ∷ 1 ∷ []) refl ∙ ap₂ collides (torn-log w m) (own-log w m (1 ∷ 0 ∷ 1 ∷ []) refl) ∙ no-collision;
+  S = old;
+  n = 1;
+  F = true;
+  left = 98;
+  cuts = plain-torn old nines;
+  recovers = λ t. plain-fallback t old 1;
+}
+
+whole-cuts : (w : World) → Filed w → Cuts w (1 ∷ 1 ∷ 1 ∷ []) true 0
+unfolding refusal overOne allOnes
+whole-cuts w m =
+    let same = halted-whole (v₃ w) (t₃ w m .sim) old nines (t₃ w m .plain) (1 ∷ 1 ∷ 1 ∷ []) refl refl in
+    record {
+      fit = refl;
+      found = found-is w m (1 ∷ 1 ∷ 1 ∷ []) refl ∙ same;
+      usual = exception-is w m (1 ∷ 1 ∷ 1 ∷ []) refl ∙ same-fits _ _ same;
+      S = overlay (at40 nines ∷ []) old;
+      n = 2;
+      F = false;
+      left = 100;
+      cuts = plain-whole old nines;
+      recovers = λ t. plain-found t (overlay (at40 nines ∷ []) old) 2;
+    }
+
+module _ (w : World) (m : Filed w) (ms : List ℕ) (same : Bool) (k : ℕ) (c : Cuts w ms same k) where
+  abbrev v₅ : World
+  v₅ = next (cut ms) (v₄ w)
+
+  abbrev v₆ : World
+  v₆ = next (power 100) v₅
+
+  t₅ : Went (cut ms) (v₄ w) (still (closedAt (c .S) (c .n) 0 (c .F)))
+  t₅ =
+      went (cut ms) (v₄ w) _ _ (t₄ w m .sim) (c .usual) (t₄ w m .plain)
+      (ap (λ (t : Bool). plainStep (cut ms) t (downAt old (at40 nines ∷ []))) (c .found) ∙ c .cuts)
+
+  t₆ : Went (power 100) v₅ (still (closedAt (c .S) (c .n) 100 (c .F)))
+  unfolding exception acceptedCut
+  t₆ = went (power 100) v₅ _ _ (t₅ .sim) refl (t₅ .plain) (plain-again _ (c .S) (c .n) 0 100 (c .F))
+
+  t₇ : Went recover v₆ (record { answer = 0; orders = k; plain = openAt (c .S) [] [] (c .n) (c .left) })
+  unfolding exception acceptedCut
+  t₇ = went recover v₆ _ _ (t₆ .sim) refl (t₆ .plain) (c .recovers _)
+
+  all-clean : after (crashed ms) w .excepted ≡ false
+  unfolding after
+  all-clean = t₆ .clean ∙ t₅ .clean ∙ t₄ w m .clean ∙ t₃ w m .clean ∙ t₂ w m .clean ∙ t₁ w m .clean ∙ m .clean
+
+  none-done : noneFinished (crashed ms) w ≡ true
+  unfolding noneFinished S.finished
+  none-done = ap (λ (a : ℕ). not (eqb a 0) && true) (t₄ w m .answer)
+
+  fated : fate (crashed ms) w quiet ≡ decided (at40 nines ∷ []) (eqb (getD ms 2 0) 1 && same) (allOnes ms)
+  unfolding fate observe shortSync
+  fated =
+      ap (λ (x : Fate). fate (cut ms ∷ power 100 ∷ []) (v₄ w) x) (observed w m)
+      ∙ (λ j.
+      fate (power 100 ∷ []) v₅
+      (cond (accepted w m ms (c .fit) j) (decided (at40 nines ∷ []) (eqb (getD ms 2 0) 1 && c .found j) (allOnes ms)) (cutShort (at40 nines ∷ []) 2 true)))
+
+  later-lines : dispatch (get 40) (storeNext recover v₆) .answer ≡ 0
+      → answers (crashed ms ++ (recover ∷ get 40 ∷ [])) w ≡ (0, 0) ∷ (0, 0) ∷ (0, 0) ∷ (4, 3) ∷ (0, 0) ∷ (0, 0) ∷ (0, k) ∷ (0, 0) ∷ []
+  unfolding answers next
+  later-lines g =
+      λ j.
+      (t₁ w m .answer j, t₁ w m .orders j) ∷ (t₂ w m .answer j, t₂ w m .orders j) ∷ (t₃ w m .answer j, t₃ w m .orders j) ∷ (t₄ w m .answer j, t₄ w m .orders j)
+      ∷ (t₅ .answer j, t₅ .orders j) ∷ (t₆ .answer j, t₆ .orders j) ∷ (t₇ .answer j, t₇ .orders j) ∷ (g j, 0) ∷ []
+
+-- ---- the whole scripts
+
+module _ (st : State) (f : formatCall st .answer ≡ 0) (size : blocksIn (st .settled) ≡ 64) where
+  plain₀ : begun st .plain ≡ openAt zeros [] [] 0 1000000
+  unfolding begun fresh
+  plain₀ = λ i. record { N = size i; S = zeros; G = []; T = []; n = 0; mode = 1; power = 1000000; waiting = 0; short = none; F = false }
+
+  abbrev w₁ : World
+  w₁ = next (put 40 sevens) (begun st)
+
+  abbrev w₂ : World
+  w₂ = next commit w₁
+
+  abbrev w₃ : World
+  w₃ = next sync w₂
+
+  s₁ : Went (put 40 sevens) (begun st) (still (openAt zeros [] (at40 sevens ∷ []) 0 1000000))
+  unfolding exception acceptedCut
+  s₁ = went (put 40 sevens) (begun st) _ _ (begun-sim st f) refl plain₀ (plain-put _ zeros 0 1000000 sevens length-sevens)
+
+  s₂ : Went commit w₁ (still (openAt zeros (at40 sevens ∷ []) [] 0 1000000))
+  unfolding exception acceptedCut
+  s₂ = went commit w₁ _ _ (s₁ .sim) refl (s₁ .plain) (plain-commit _ zeros 0 1000000 sevens)
+
+  s₃ : Went sync w₂ (record { answer = 0; orders = 4; plain = openAt old [] [] 1 999996 })
+  unfolding exception acceptedCut
+  s₃ = went sync w₂ _ _ (s₂ .sim) refl (s₂ .plain) (plain-filed _ zeros sevens)
+
+  all-filed : Filed w₃
+  unfolding begun next
+  all-filed = record {
+    sim = s₃ .sim;
+    clean = s₃ .clean ∙ s₂ .clean ∙ s₁ .clean;
+    plain = s₃ .plain;
+    log = filed-log w₂ (s₂ .sim) zeros sevens (s₂ .plain);
+    free = filed-next w₂ (s₂ .sim) zeros sevens (s₂ .plain);
+  }
+
+  ends : EndsFinished filed (begun st)
+  unfolding after S.finished
+  ends = _⊎_.inr (put 40 sevens ∷ commit ∷ [], sync, refl, ap (λ (a : ℕ). eqb a 0) (s₃ .answer))
+
+  module _ (ms : List ℕ) (same : Bool) (k : ℕ) (c : Cuts w₃ ms same k) where
+    -- the disk found, by crash atomicity
+    found-there : S.FoundIs (blocksIn (st .settled)) (storeNext recover (metByRecover ms st)) (outcome (fate (crashed ms) (after filed (begun st)) quiet) (after filed (begun st) .plain .S))
+    unfolding after
+    found-there =
+        crash-atomicity st f (filed ++ (crashed ms ++ (recover ∷ []))) filed (crashed ms) [] refl ends (none-done w₃ all-filed ms same k c) (t₇ w₃ all-filed ms same k c .answer)
+        (all-clean w₃ all-filed ms same k c) .found
+
+    is-40 : isData (blocksIn (st .settled)) 40 ≡ true
+    is-40 = ap (λ (N : ℕ). isData N 40) size
+
+    script : (new all : Bool) (b : List ℕ) → eqb (getD ms 2 0) 1 && same ≡ new → allOnes ms ≡ all → outcome (decided (at40 nines ∷ []) new all) old 40 ≡ b → Script st ms same new all k b
+    unfolding after answers next
+    script new all b p q e =
+        let x = found-there 40 is-40 in
+        let y : fate (crashed ms) w₃ quiet ≡ decided (at40 nines ∷ []) new all = fated w₃ all-filed ms same k c ∙ (λ j. decided (at40 nines ∷ []) (p j) (q j)) in
+        record {
+          lines = λ j. (s₁ .answer j, s₁ .orders j) ∷ (s₂ .answer j, s₂ .orders j) ∷ (s₃ .answer j, s₃ .orders j) ∷ later-lines w₃ all-filed ms same k c (x .0) j;
+          ends = ends;
+          none = none-done w₃ all-filed ms same k c;
+          accepted = accepted w₃ all-filed ms (c .fit);
+          found = c .found;
+          usual = c .usual;
+          clean = all-clean w₃ all-filed ms same k c;
+          answer = t₇ w₃ all-filed ms same k c .answer;
+          orders = t₇ w₃ all-filed ms same k c .orders;
+          fated = y;
+          block = x .1 ∙ ap₂ (λ (u : Fate) (d : Plain). outcome u (d .S) 40) y (s₃ .plain) ∙ e;
+        }
+
+  torn : Script st (1 ∷ 0 ∷ 1 ∷ []) false false false 2 sevens
+  unfolding allOnes overlay lay
+  torn = script (1 ∷ 0 ∷ 1 ∷ []) false 2 (torn-cuts w₃ all-filed) false false sevens refl refl refl
+
+  whole : Script st (1 ∷ 1 ∷ 1 ∷ []) true true true 0 nines
+  unfolding allOnes overlay lay
+  whole = script (1 ∷ 1 ∷ 1 ∷ []) true 0 (whole-cuts w₃ all-filed) true true nines refl refl refl
+
+-- ---- a card of 64 blocks that format takes
+
+sized : (r : Record) (s q k : List ℕ) → length s ≡ 32768 → length q ≡ 17544 → length k ≡ 33024
+    → (formatCall (record { rec = r; settled = s; waiting = q; work = k }) .answer ≡ 0) × (blocksIn s ≡ 64)
+unfolding formatCall wrongSizes
+sized r s q k a b c = (rw (a, b, c), ap (λ (x : ℕ). x / blockBytes) a)
+
+naughts : ℕ → List ℕ
+naughts n = replicate n 0
+
+length-naughts : (n : ℕ) → length (naughts n) ≡ n
+unfolding naughts
+length-naughts n = length-replicate n 0
+
+blank : (st : State) × (formatCall st .answer ≡ 0) × (blocksIn (st .settled) ≡ 64)
+blank =
+    let r : Record = record { mode = 0; blocks = 0; opened = 0; grouped = 0; logged = 0; waiting = 0; power = 0; sum = start } in
+    let p = sized r (naughts 32768) (naughts 17544) (naughts 33024) (length-naughts 32768) (length-naughts 17544) (length-naughts 33024) in
+    (record { rec = r; settled = naughts 32768; waiting = naughts 17544; work = naughts 33024 }, p .0, p .1)
+
+pub worked : Worked
+worked = record { torn = torn; whole = whole; card = blank }

@@ -1,0 +1,50 @@
+-- The sums of the worked scripts: the log found after cut 101 has another sum than the log written.
+use Prim.Native.Nat.{ℕ}
+use mathlib.Core.Path.{_≡_, refl, ap, ap₂, _∙_}
+use mathlib.Core.Bool.{false}
+use mathlib.Core.List.{List, [], _∷_}
+use lib.Dec.{eqb}
+use Rattle.cells.specs.Little.{le}
+use Rattle.cells.specs.Little.Laws.{le-zero, le-suc}
+use Rattle.cells.specs.Entry.{Entry}
+use Rattle.fnv.specs.Fnv.{start, step, sumFrom}
+use Rattle.journal.specs.Log.{sumOf}
+use Rattle.journal.proofs.Logs.{sumOf-append, sumOf-one}
+use Rattle.history.specs.Worked.{sevens, nines, at40}
+
+forty : le 4 40 ≡ 40 ∷ 0 ∷ 0 ∷ 0 ∷ []
+forty = rw (le-suc 3 40, le-suc 2 0, le-suc 1 0, le-suc 0 0, le-zero 0)
+
+naught : le 4 0 ≡ 0 ∷ 0 ∷ 0 ∷ 0 ∷ []
+naught = rw (le-suc 3 0, le-suc 2 0, le-suc 1 0, le-suc 0 0, le-zero 0)
+
+-- the first entry
+sum-first : sumFrom (sumFrom start (40 ∷ 0 ∷ 0 ∷ 0 ∷ [])) sevens ≡ 16658246527270002781
+unfolding sumFrom step sevens
+sum-first = refl
+
+-- the second, as written and as found
+sum-written : sumFrom (sumFrom 16658246527270002781 (40 ∷ 0 ∷ 0 ∷ 0 ∷ [])) nines ≡ 8305000308539619397
+unfolding sumFrom step nines
+sum-written = refl
+
+sum-found : sumFrom (sumFrom 16658246527270002781 (0 ∷ 0 ∷ 0 ∷ 0 ∷ [])) nines ≡ 6262144168982186669
+unfolding sumFrom step nines
+sum-found = refl
+
+-- two entries, by the bytes of their addresses
+sum-two : (e f : Entry) (a b : List ℕ) → le 4 (e .address) ≡ a → le 4 (f .address) ≡ b
+    → sumOf start (e ∷ f ∷ []) ≡ sumFrom (sumFrom (sumFrom (sumFrom start a) (e .block)) b) (f .block)
+sum-two e f a b p q =
+    sumOf-append start (e ∷ []) (f ∷ [])
+    ∙ ap (λ (h : ℕ). sumOf h (f ∷ [])) (sumOf-one start e ∙ ap (λ (x : List ℕ). sumFrom (sumFrom start x) (e .block)) p)
+    ∙ sumOf-one (sumFrom (sumFrom start a) (e .block)) f
+    ∙ ap (λ (x : List ℕ). sumFrom (sumFrom (sumFrom (sumFrom start a) (e .block)) x) (f .block)) q
+
+pub other-sum : eqb (sumOf start (at40 sevens ∷ record { address = 0; block = nines } ∷ [])) (sumOf start (at40 sevens ∷ at40 nines ∷ [])) ≡ false
+other-sum =
+    ap₂ eqb
+    (sum-two (at40 sevens) (record { address = 0; block = nines }) _ _ forty naught
+    ∙ ap (λ (h : ℕ). sumFrom (sumFrom h (0 ∷ 0 ∷ 0 ∷ 0 ∷ [])) nines) sum-first ∙ sum-found)
+    (sum-two (at40 sevens) (at40 nines) _ _ forty forty
+    ∙ ap (λ (h : ℕ). sumFrom (sumFrom h (40 ∷ 0 ∷ 0 ∷ 0 ∷ [])) nines) sum-first ∙ sum-written)

@@ -1,0 +1,165 @@
+-- A sync of one entry: the first one, done; and one over a log of one entry, cut short behind its header.
+use Prim.Native.Nat.{ℕ, _+_, _≤_, _<_}
+use mathlib.Core.Path.{_≡_, refl, ap, ap₂, sym, _∙_}
+use mathlib.Core.Logic.{_≢_}
+use mathlib.Core.Bool.{Bool, true, cond}
+use mathlib.Core.List.{List, [], _∷_, _++_}
+use native.Mathlib.Omega.{arith}
+use lib.ListN.{length, take}
+use Rattle.cells.specs.Cell.{cell}
+use Rattle.cells.specs.Little.{num}
+use Rattle.cells.specs.Entry.{Entry}
+use Rattle.card.specs.Disk.{Disk}
+use Rattle.card.specs.Card.{Card, run, cut, settle, blockAt}
+use Rattle.journal.specs.Layout.{descriptorAt, slots}
+use Rattle.journal.specs.Log.{entries}
+use Rattle.journal.specs.Orders.{appendOrders}
+use Rattle.journal.proofs.OrderLists.{appendWrites}
+use Rattle.store.specs.State.{Outcome, cardIn}
+use Rattle.store.specs.Saves.{groupOf}
+use Rattle.history.specs.Call.{sync}
+use Rattle.history.specs.Plain.{Plain, refusal, headerKept}
+use Rattle.history.specs.Ledger.{waits, heads, noted, entered, applyHead, ownHead, standing, inner, resolved, sameLog}
+use Rattle.history.specs.History.{World, storeNext, ledgerNext}
+use Rattle.history.specs.Statements.{allOnes}
+use Rattle.history.specs.Worked.{at40}
+use Rattle.history.proofs.Disks.{slotE, logD}
+use Rattle.history.proofs.Batches.{Left}
+use Rattle.history.proofs.Leads.{foundIn}
+use Rattle.history.proofs.AppendEnds.{AppendBase, short-left, done-left, done-card}
+use Rattle.history.proofs.Relation.{OpenSim, cutSettled, cutWritten}
+use Rattle.history.proofs.Steps.{WorldSim}
+use Rattle.history.proofs.OpenFacts as Facts
+use Rattle.history.proofs.SyncStep.{note-at, base, calm, calm-whole, calm-gone, short-whole}
+use Rattle.history.proofs.Fates.{open-now}
+use Rattle.history.proofs.WorkedCard.{second-zero, torn-found}
+use Rattle.history.proofs.WorkedPlain.{openAt}
+
+base-at : {N : ℕ} {s : List ℕ} {n n′ h : ℕ} {G G′ v : List Entry} {S : Disk} {c₀ c : Card} {p p′ : ℕ} → n ≡ n′ → G ≡ G′ → p ≡ p′
+    → AppendBase N s n h G v S c₀ c p → AppendBase N s n′ h G′ v S c₀ c p′
+base-at a b e x = rw (← a, ← b, ← e) x
+
+module _ (w : World) (m : WorldSim w) (S : Disk) (b : List ℕ) (n p : ℕ) (few : n ≤ 1) (d : w .plain ≡ openAt S (at40 b ∷ []) [] n p) where
+  served : refusal sync (w .plain) ≡ 0
+  unfolding refusal
+  served = ap (refusal sync) d
+
+  o : OpenSim (w .store) (w .ledger) (w .plain)
+  o = open-now sync w m refl served
+
+  pub group-is : groupOf (w .store) ≡ at40 b ∷ []
+  group-is = sym (Facts.plain-group (w .store) (w .ledger) (w .plain) (m .basics) o) ∙ ap (λ (x : Plain). x .G) d
+
+  pub grouped-is : w .store .rec .grouped ≡ 1
+  grouped-is = sym (Facts.length-group (w .store) (w .ledger) (w .plain) (m .basics) o) ∙ ap length group-is
+
+  logged-is : w .store .rec .logged ≡ n
+  logged-is = sym (o .n) ∙ ap (λ (x : Plain). x .n) d
+
+  power-is : w .store .rec .power ≡ p
+  power-is = sym (m .basics .power) ∙ ap (λ (x : Plain). x .power) d
+
+  some : w .store .rec .grouped ≢ 0
+  some z = omega (arith, grouped-is)
+
+  size : length (groupOf (w .store)) ≡ 1
+  size = ap length group-is
+
+  fits : w .store .rec .logged + length (groupOf (w .store)) ≤ slots
+  fits = omega (arith, logged-is, size)
+
+  pub no-inner : inner (w .store) ≡ 0
+  no-inner = ap (λ (t : Bool). cond t (w .store .rec .logged + 3) 0) (calm w m served o some fits)
+
+  abbrev N : ℕ
+  N = w .store .rec .blocks
+
+  abbrev s : List ℕ
+  s = w .store .settled
+
+  abbrev h : ℕ
+  h = w .store .rec .sum
+
+  base-now : AppendBase N s n h (at40 b ∷ []) (w .ledger .written) (w .plain .S) (cardIn (w .store)) (cardIn (w .store)) p
+  base-now = base-at logged-is group-is power-is (base w m served o some fits)
+
+  -- done
+  filed-settled : 4 ≤ p → storeNext sync w .settled ≡ settle (appendWrites N s n h (at40 b ∷ [])) s
+  filed-settled l =
+      let q : length (groupOf (w .store)) + 3 ≤ w .store .rec .power = omega (arith, size, power-is) in
+      ap (λ (x : Outcome). x .state .settled) (calm-whole w m served o some fits q)
+      ∙ done-left (base w m served o some fits) q .settled
+      ∙ ap₂ (λ (k : ℕ) (G : List Entry). settle (appendWrites N s k h G) s) logged-is group-is
+
+  -- cut short behind its header
+  abbrev r : Card
+  r = run (appendOrders N s (w .store .rec .logged) h (groupOf (w .store))) (cardIn (w .store))
+
+  gone : p ≡ 3 → w .store .rec .power < length (groupOf (w .store)) + 3
+  gone e = omega (arith, size, power-is)
+
+  halted-left : p ≡ 3 → Left (cardIn (w .store)) r s (take p (appendWrites N s n h (at40 b ∷ []))) 0
+  halted-left e =
+      let q : w .store .rec .power ≤ length (groupOf (w .store)) + 2 = omega (arith, size, power-is) in
+      left-at (λ i. take (power-is i) (appendWrites N s (logged-is i) h (group-is i))) (short-left (base w m served o some fits) q)
+    where
+      left-at : {c₀ c : Card} {t : List ℕ} {x y : List Entry} {k : ℕ} → x ≡ y → Left c₀ c t x k → Left c₀ c t y k
+      left-at a l = rw a at l
+
+  halted-settled : p ≡ 3 → (ms : List ℕ) → cutSettled ms (storeNext sync w) ≡ cut ms r .settled
+  halted-settled e ms = ap (λ (x : Outcome). cutSettled ms (x .state)) (calm-gone w m served o some fits (gone e))
+
+  standing-is : standing (w .store) ≡ logD (blockAt s) n
+  standing-is =
+      ap (λ (t : Bool). cond t [] (entries s (w .store .rec .logged))) (calm w m served o some fits)
+      ∙ Facts.entries-log (w .store) (w .ledger) (w .plain) (m .basics) o
+      ∙ ap (logD (blockAt s)) logged-is
+
+  halted-ledger : p ≡ 3 → ledgerNext sync w ≡ record { written = w .ledger .written; pending = waits 2 (logD (blockAt s) n ++ (at40 b ∷ [])) }
+  unfolding entered heads
+  halted-ledger e =
+      ap (λ (x : Outcome). noted (heads sync (w .store)) (x .orders) (w .ledger)) (calm-gone w m served o some fits (gone e))
+      ∙ ap (λ (t : Bool). noted (cond t (applyHead (w .store) ∷ ownHead (w .store) ∷ []) (ownHead (w .store) ∷ [])) (w .store .rec .power) (w .ledger))
+      (calm w m served o some fits)
+      ∙ note-at (ownHead (w .store)) [] (w .store .rec .power) (w .ledger) (omega (arith, power-is, no-inner, grouped-is))
+      ∙ (λ i. record { written = w .ledger .written; pending = waits (grouped-is i + 1) (standing-is i ++ group-is i) })
+
+  halted-same : p ≡ 3 → (ms : List ℕ) → length ms ≡ 3 → allOnes ms ≡ true → sameLog (foundIn (cutSettled ms (storeNext sync w))) (cutWritten ms (ledgerNext sync w)) ≡ true
+  halted-same e ms l a =
+      let D = calm-gone w m served o some fits (gone e) in
+      short-whole w m served o some (ap (λ (x : Outcome). x .answer) D) (ap (λ (x : Outcome). x .orders) D ∙ (omega (arith, power-is, no-inner, grouped-is))) ms (omega (arith, grouped-is)) a
+
+-- ---- the first sync
+
+module _ (w : World) (m : WorldSim w) (S : Disk) (b : List ℕ) (d : w .plain ≡ openAt S (at40 b ∷ []) [] 0 1000000) where
+  now : AppendBase (w .store .rec .blocks) (w .store .settled) 0 (w .store .rec .sum) (at40 b ∷ []) (w .ledger .written) (w .plain .S) (cardIn (w .store)) (cardIn (w .store)) 1000000
+  now = base-now w m S b 0 1000000 (omega arith) d
+
+  settled-now : storeNext sync w .settled ≡ settle (appendWrites (w .store .rec .blocks) (w .store .settled) 0 (w .store .rec .sum) (at40 b ∷ [])) (w .store .settled)
+  settled-now = filed-settled w m S b 0 1000000 (omega arith) d (lib.Dec.lit≤ tt)
+
+  -- the log is that entry, and the next place in the descriptor has 0
+  pub filed-log : logD (blockAt (storeNext sync w .settled)) 1 ≡ at40 b ∷ []
+  filed-log = ap (λ (x : List ℕ). logD (blockAt x) 1) settled-now ∙ sym (done-card now .same)
+
+  pub filed-next : num (cell 4 (blockAt (storeNext sync w .settled) descriptorAt) 1) ≡ 0
+  filed-next = ap (λ (x : List ℕ). num (cell 4 (blockAt x descriptorAt) 1)) settled-now ∙ second-zero now
+
+-- ---- the second
+
+module _ (w : World) (m : WorldSim w) (S : Disk) (b : List ℕ) (d : w .plain ≡ openAt S (at40 b ∷ []) [] 1 3) where
+  -- the log written, by a header that is kept
+  pub halted-written : (ms : List ℕ) → headerKept ms 3 ≡ true → cutWritten ms (ledgerNext sync w) ≡ logD (blockAt (w .store .settled)) 1 ++ (at40 b ∷ [])
+  unfolding resolved headerKept
+  halted-written ms k =
+      ap (cutWritten ms) (halted-ledger w m S b 1 3 (omega arith) d refl)
+      ∙ ap (λ (t : Bool). cond t (logD (blockAt (w .store .settled)) 1 ++ (at40 b ∷ [])) (w .ledger .written)) k
+
+  pub halted-torn : foundIn (cutSettled (1 ∷ 0 ∷ 1 ∷ []) (storeNext sync w))
+      ≡ slotE (blockAt (w .store .settled)) 0 ∷ record { address = num (cell 4 (blockAt (w .store .settled) descriptorAt) 1); block = b } ∷ []
+  halted-torn =
+      ap foundIn (halted-settled w m S b 1 3 (omega arith) d refl (1 ∷ 0 ∷ 1 ∷ []))
+      ∙ torn-found (base-now w m S b 1 3 (omega arith) d) (r w m S b 1 3 (omega arith) d) (halted-left w m S b 1 3 (omega arith) d refl)
+
+  pub halted-whole : (ms : List ℕ) → length ms ≡ 3 → allOnes ms ≡ true → sameLog (foundIn (cutSettled ms (storeNext sync w))) (cutWritten ms (ledgerNext sync w)) ≡ true
+  halted-whole ms l a = halted-same w m S b 1 3 (omega arith) d refl ms l a

@@ -1,0 +1,60 @@
+-- A list of calls: the store, the ledger beside it, and the plain disk, which is fed the calls and, at a cut, one Boolean.
+use mathlib.Core.Bool.{Bool, false, _&&_, _||_}
+use mathlib.Core.List.{List, [], _∷_}
+use lib.Dec.{eqb}
+use Rattle.card.specs.Card.{blocksIn}
+use Rattle.store.specs.State.{State}
+use Rattle.store.specs.Simple.{formatCall}
+use Rattle.history.specs.Call.{Call, power, put, get, commit, abandon, sync, apply, recover, cut}
+use Rattle.history.specs.Plain.{Plain, fresh, plainStep}
+use Rattle.history.specs.Dispatch.{dispatch}
+use Rattle.history.specs.Ledger.{Ledger, freshLedger, entered, logFound, sameLog, collides}
+
+pub record World : Type 0 where
+  pub store : State
+  pub ledger : Ledger
+  pub plain : Plain
+  pub excepted : Bool
+
+-- "It starts from a fresh card, as a format answering 0 left it"
+unfoldable pub begun : State → World
+begun st = record { store = formatCall st .state; ledger = freshLedger; plain = fresh (blocksIn (st .settled)); excepted = false }
+
+-- "Each call gets the record and the settled, waiting and work bytes that the last one returned or left"
+abbrev pub storeNext : Call → World → State
+storeNext c w = dispatch c (w .store) .state
+
+abbrev pub ledgerNext : Call → World → Ledger
+ledgerNext c w = entered c (w .store) (w .ledger)
+
+-- "whether the log found is the log written", after the call
+unfoldable pub foundWritten : Call → World → Bool
+foundWritten c w = sameLog (logFound (storeNext c w)) (ledgerNext c w .written)
+
+-- a cut that is accepted
+unfoldable pub acceptedCut : Call → World → Bool
+acceptedCut (power k) w = false
+acceptedCut (put a b) w = false
+acceptedCut (get a) w = false
+acceptedCut commit w = false
+acceptedCut abandon w = false
+acceptedCut sync w = false
+acceptedCut apply w = false
+acceptedCut recover w = false
+acceptedCut (cut ms) w = eqb (dispatch (cut ms) (w .store) .answer) 0
+
+-- the exception: a collision at an accepted cut
+unfoldable pub exception : Call → World → Bool
+exception c w = acceptedCut c w && collides (logFound (storeNext c w)) (ledgerNext c w .written)
+
+unfoldable pub next : Call → World → World
+next c w = record {
+  store = storeNext c w;
+  ledger = ledgerNext c w;
+  plain = plainStep c (foundWritten c w) (w .plain) .plain;
+  excepted = w .excepted || exception c w;
+}
+
+unfoldable pub after : List Call → World → World
+after [] w = w
+after (c ∷ cs) w = after cs (next c w)

@@ -1,0 +1,116 @@
+-- "The log written is the list from which the header left by the cut took its sum of n: empty for format's or an apply's, for a
+-- sync's own the log as it then stood and its group, for a recover's the list it took. The log found is the first n entries after
+-- the cut, by that header." The lists are computed from the calls, the states that they met and the orders they carried out.
+use Prim.Native.Nat.{ℕ, _+_, suc}
+use mathlib.Core.Bool.{Bool, true, false, cond, not, _&&_}
+use mathlib.Core.List.{List, [], _∷_, _++_}
+use lib.Dec.{eqb, leb}
+use lib.ListN.{length, getD}
+use Rattle.cells.specs.Entry.{Entry}
+use Rattle.fnv.specs.Fnv.{start}
+use Rattle.journal.specs.Log.{headerOf, entries, sumOf}
+use Rattle.journal.specs.Choice.{choose, takenCount}
+use Rattle.store.specs.State.{State}
+use Rattle.store.specs.Saves.{groupOf, applies}
+use Rattle.history.specs.Call.{Call, power, put, get, commit, abandon, sync, apply, recover, cut}
+use Rattle.history.specs.Dispatch.{dispatch}
+
+-- a header that a call writes: which of the call's orders writes it (the next one flushes), its place in the queue then, and the
+-- list from which it takes its sum of n
+pub record Head : Type 0 where
+  pub at : ℕ
+  pub place : ℕ
+  pub list : List Entry
+
+-- the log as a sync's own part meets it: the first n entries, none after its apply
+abbrev pub standing : State → List Entry
+standing st = cond (applies st) [] (entries (st .settled) (st .rec .logged))
+
+-- the orders of the apply inside
+abbrev pub inner : State → ℕ
+inner st = cond (applies st) (st .rec .logged + 3) 0
+
+abbrev pub applyHead : State → Head
+applyHead st = record { at = st .rec .logged + 1; place = 0; list = [] }
+
+abbrev pub ownHead : State → Head
+ownHead st = record { at = inner st + (st .rec .grouped + 1); place = st .rec .grouped + 1; list = standing st ++ groupOf st }
+
+-- the list that a recovery takes
+abbrev pub taken : State → List Entry
+taken st = entries (st .settled) (takenCount (choose (st .rec .blocks) (st .settled)))
+
+-- the headers that a call writes if all its orders happen, in turn
+unfoldable pub heads : Call → State → List Head
+heads (power k) st = []
+heads (put a b) st = []
+heads (get a) st = []
+heads commit st = []
+heads abandon st = []
+heads sync st = cond (applies st) (applyHead st ∷ ownHead st ∷ []) (ownHead st ∷ [])
+heads apply st = applyHead st ∷ []
+heads recover st = record { at = 0; place = 0; list = taken st } ∷ []
+heads (cut ms) st = []
+
+-- a header that waits: its place and its list
+pub data Pending : Type 0 where
+  nothing : Pending
+  waits : ℕ → List Entry → Pending
+
+-- of the headers given so far: the list of the one that is settled, and the one that waits
+pub record Ledger : Type 0 where
+  pub written : List Entry
+  pub pending : Pending
+
+-- "empty for format's"
+abbrev pub freshLedger : Ledger
+freshLedger = record { written = []; pending = nothing }
+
+-- k orders of a call carried out: a header is written at its order, and settled by the next
+unfoldable pub noted : List Head → ℕ → Ledger → Ledger
+noted [] k l = l
+noted (h ∷ hs) k l =
+    cond (leb k (h .at)) l
+    (cond (eqb k (suc (h .at))) (record { written = l .written; pending = waits (h .place) (h .list) })
+    (noted hs k (record { written = h .list; pending = nothing })))
+
+-- an accepted cut: the header that waits is the card's if its mark is 1
+unfoldable pub resolved : List ℕ → Pending → List Entry → List Entry
+resolved ms nothing written = written
+resolved ms (waits place list) written = cond (eqb (getD ms place 0) 1) list written
+
+-- a call of the list, with what it came to
+unfoldable pub entered : Call → State → Ledger → Ledger
+entered (power k) st l = l
+entered (put a b) st l = l
+entered (get a) st l = l
+entered commit st l = l
+entered abandon st l = l
+entered sync st l = noted (heads sync st) (dispatch sync st .orders) l
+entered apply st l = noted (heads apply st) (dispatch apply st .orders) l
+entered recover st l = noted (heads recover st) (dispatch recover st .orders) l
+entered (cut ms) st l =
+    cond (eqb (dispatch (cut ms) st .answer) 0) (record { written = resolved ms (l .pending) (l .written); pending = nothing }) l
+
+-- ---- the log found, and the exception
+
+-- the first n entries, by the header on the card
+unfoldable pub logFound : State → List Entry
+logFound st = entries (st .settled) (headerOf (st .settled) .count)
+
+unfoldable pub sameBytes : List ℕ → List ℕ → Bool
+sameBytes [] [] = true
+sameBytes [] (y ∷ ys) = false
+sameBytes (x ∷ xs) [] = false
+sameBytes (x ∷ xs) (y ∷ ys) = eqb x y && sameBytes xs ys
+
+unfoldable pub sameLog : List Entry → List Entry → Bool
+sameLog [] [] = true
+sameLog [] (f ∷ fs) = false
+sameLog (e ∷ es) [] = false
+sameLog (e ∷ es) (f ∷ fs) = eqb (e .address) (f .address) && sameBytes (e .block) (f .block) && sameLog es fs
+
+-- a checksum collision: another list than the one written, as long, with the same sum
+unfoldable pub collides : List Entry → List Entry → Bool
+collides found written =
+    not (sameLog found written) && eqb (length found) (length written) && eqb (sumOf start found) (sumOf start written)

@@ -1,0 +1,8 @@
+-- Histories: the plain disk, lists of calls, and what is promised of them.
+pub mod Call
+pub mod Plain
+pub mod Dispatch
+pub mod Ledger
+pub mod History
+pub mod Statements
+pub mod Worked

@@ -1,0 +1,270 @@
+-- "The plain disk": a machine of its own, from its own section of document 01. Of the store it shares entries, the overlay, the
+-- numbers of the causes and the data-block test.
+use Prim.Native.Nat.{ℕ, _+_, _-_}
+use mathlib.Core.Bool.{Bool, true, false, cond, not, _&&_, _||_}
+use mathlib.Core.List.{List, [], _∷_}
+use lib.Dec.{eqb, leb, ltb}
+use lib.ListN.{length, getD, replicate}
+use Rattle.cells.specs.Entry.{blockBytes, Entry}
+use Rattle.card.specs.Disk.{Disk, overlay}
+use Rattle.journal.specs.Layout.{slots, isData}
+use Rattle.history.specs.Call.{Call, power, put, get, commit, abandon, sync, apply, recover, cut}
+
+-- "the call cut short and its orders"
+pub data Short : Type 0 where
+  none : Short
+  ofSync : ℕ → Short
+  ofApply : ℕ → Short
+  ofRecover : ℕ → Short
+
+-- "State: S (the data blocks), lists G (group) and T (open) of entries, n, mode, power, the number of waiting writes, the call cut
+-- short and its orders, and F (1 if the header needs a fallback)."
+pub record Plain : Type 0 where
+  pub N : ℕ
+  pub S : Disk
+  pub G : List Entry
+  pub T : List Entry
+  pub n : ℕ
+  pub mode : ℕ
+  pub power : ℕ
+  pub waiting : ℕ
+  pub short : Short
+  pub F : Bool
+
+-- "Format makes S zero, lists empty, n and F 0." Mode open, power 1,000,000
+unfoldable pub fresh : ℕ → Plain
+fresh N = record { N = N; S = λ a. replicate blockBytes 0; G = []; T = []; n = 0; mode = 1; power = 1000000; waiting = 0; short = none; F = false }
+
+-- ---- lists
+
+-- an entry of the list has the address
+unfoldable pub has : ℕ → List Entry → Bool
+has a [] = false
+has a (e ∷ es) = eqb (e .address) a || has a es
+
+-- the entry replaces the one of its address or is added at the end
+unfoldable pub insert : Entry → List Entry → List Entry
+insert e [] = e ∷ []
+insert e (x ∷ xs) = cond (eqb (x .address) (e .address)) (e ∷ xs) (x ∷ insert e xs)
+
+-- each entry of the first list, in turn, replaces or joins the second
+unfoldable pub merge : List Entry → List Entry → List Entry
+merge [] g = g
+merge (e ∷ es) g = merge es (insert e g)
+
+-- ---- refusals
+
+-- a mark over 1
+unfoldable pub overOne : List ℕ → Bool
+overOne [] = false
+overOne (m ∷ ms) = ltb 1 m || overOne ms
+
+-- "mode closed" 3, "mode down" 4, else as the rest says
+abbrev pub whenOpen : Plain → ℕ → ℕ
+whenOpen d rest = cond (eqb (d .mode) 0) 3 (cond (eqb (d .mode) 2) 4 rest)
+
+unfoldable pub refusal : Call → Plain → ℕ
+refusal (power k) d = 0
+refusal (put a b) d =
+    cond (not (eqb (length b) blockBytes)) 1
+    (whenOpen d (cond (not (isData (d .N) a)) 6 (cond (not (has a (d .T)) && leb slots (length (d .T))) 7 0)))
+refusal (get a) d = whenOpen d (cond (not (isData (d .N) a)) 6 0)
+refusal commit d = whenOpen d (cond (ltb slots (length (merge (d .T) (d .G)))) 7 0)
+refusal abandon d = whenOpen d 0
+refusal sync d = whenOpen d 0
+refusal apply d = whenOpen d 0
+refusal recover d = cond (eqb (d .mode) 2) 4 (cond (eqb (d .mode) 1) 5 0)
+refusal (cut ms) d = cond (not (eqb (length ms) (d .waiting)) || overOne ms) 10 0
+
+-- ---- orders
+
+-- "If n+m > 32, apply runs first"
+abbrev pub applies : ℕ → ℕ → Bool
+applies n m = not (leb (n + m) slots)
+
+-- "n+3 orders", "m+3 orders"
+abbrev pub applyTakes : ℕ → ℕ
+applyTakes n = n + 3
+
+abbrev pub syncTakes : ℕ → ℕ → ℕ
+syncTakes n m = cond (applies n m) (applyTakes n + (m + 3)) (m + 3)
+
+-- the waiting writes after k orders of an apply: n home blocks, flush, header, flush
+abbrev pub applyWaits : ℕ → ℕ → ℕ
+applyWaits n k = cond (leb k n) k (cond (eqb k (n + 2)) 1 0)
+
+-- after k orders of a sync that is cut short: m log blocks, the descriptor, the header
+abbrev pub syncWaits : ℕ → ℕ → ℕ → ℕ
+syncWaits n m k = cond (applies n m) (cond (ltb k (applyTakes n)) (applyWaits n k) (k - applyTakes n)) k
+
+-- ---- the choice at a cut, in numbers: n, F, and whether G is laid over S
+
+pub record Verdict : Type 0 where
+  pub n : ℕ
+  pub F : Bool
+  pub laid : Bool
+
+abbrev pub unchanged : ℕ → Bool → Verdict
+unchanged n F = record { n = n; F = F; laid = false }
+
+-- "an apply's, also inside a sync: after n+2 orders of it (S, 0) if that write was kept, else (S, n); after n+3 or more (S, 0); F 0"
+unfoldable pub applyVerdict : ℕ → ℕ → Bool → Bool → Verdict
+applyVerdict k n F kept =
+    cond (ltb k (n + 2)) (unchanged n F)
+    (cond (eqb k (n + 2)) (unchanged (cond kept 0 n) false) (unchanged 0 false))
+
+-- "a sync's own, m+2 orders after its apply, n being 0 if there was one: (G over S, n+m) with F 0 if that write was kept and the
+-- log found is the log written; else (S, n), with F 1 if that write was kept, 0 if not"
+unfoldable pub ownVerdict : ℕ → ℕ → Bool → Bool → Verdict
+ownVerdict n m kept found =
+    cond (kept && found) (record { n = n + m; F = false; laid = true }) (unchanged n kept)
+
+-- "chooses by the last header write of the call cut short"
+unfoldable pub verdict : Short → ℕ → ℕ → Bool → Bool → Bool → Verdict
+verdict none n m F kept found = unchanged n F
+verdict (ofRecover k) n m F kept found = cond (eqb k 0) (unchanged n F) (unchanged n (not kept))
+verdict (ofApply k) n m F kept found = applyVerdict k n F kept
+verdict (ofSync k) n m F kept found =
+    cond (applies n m)
+    (cond (eqb k (applyTakes n + (m + 2))) (ownVerdict 0 m kept found) (applyVerdict k n F kept))
+    (cond (eqb k (m + 2)) (ownVerdict n m kept found) (unchanged n F))
+
+-- ---- the steps
+
+pub record Done : Type 0 where
+  pub answer : ℕ
+  pub orders : ℕ
+  pub plain : Plain
+
+-- "Otherwise power is 0, the mode is down and the call was cut short", with the power there was as its orders
+abbrev pub cutShort : Short → ℕ → Plain → Done
+cutShort short waits d = record {
+  answer = 4;
+  orders = d .power;
+  plain = record { N = d .N; S = d .S; G = d .G; T = d .T; n = d .n; mode = 2; power = 0; waiting = waits; short = short; F = d .F };
+}
+
+-- lists and S set, everything else as it is
+abbrev pub withLists : List Entry → List Entry → Plain → Plain
+withLists G T d = record { N = d .N; S = d .S; G = G; T = T; n = d .n; mode = d .mode; power = d .power; waiting = d .waiting; short = d .short; F = d .F }
+
+abbrev pub withPower : ℕ → Plain → Plain
+withPower k d = record { N = d .N; S = d .S; G = d .G; T = d .T; n = d .n; mode = d .mode; power = k; waiting = d .waiting; short = d .short; F = d .F }
+
+-- "sync puts G over S, empties G and adds m to n, after n = 0 if it applied"
+unfoldable pub plainSync : Plain → Done
+plainSync d =
+    let m = length (d .G) in
+    cond (eqb m 0) (record { answer = 0; orders = 0; plain = d })
+    (cond (leb (syncTakes (d .n) m) (d .power))
+    (record {
+      answer = 0;
+      orders = syncTakes (d .n) m;
+      plain = record {
+        N = d .N;
+        S = overlay (d .G) (d .S);
+        G = [];
+        T = d .T;
+        n = cond (applies (d .n) m) 0 (d .n) + m;
+        mode = d .mode;
+        power = d .power - syncTakes (d .n) m;
+        waiting = d .waiting;
+        short = d .short;
+        F = d .F;
+      };
+    })
+    (cutShort (ofSync (d .power)) (syncWaits (d .n) m (d .power)) d))
+
+-- "apply sets n = 0"
+unfoldable pub plainApply : Plain → Done
+plainApply d =
+    cond (eqb (d .n) 0) (record { answer = 0; orders = 0; plain = d })
+    (cond (leb (applyTakes (d .n)) (d .power))
+    (record {
+      answer = 0;
+      orders = applyTakes (d .n);
+      plain = record {
+        N = d .N;
+        S = d .S;
+        G = d .G;
+        T = d .T;
+        n = 0;
+        mode = d .mode;
+        power = d .power - applyTakes (d .n);
+        waiting = d .waiting;
+        short = d .short;
+        F = d .F;
+      };
+    })
+    (cutShort (ofApply (d .power)) (applyWaits (d .n) (d .power)) d))
+
+-- "A recover takes 2 orders if F is 1, else none; […] done, and so finished, it makes F 0 and the mode open"
+unfoldable pub plainRecover : Plain → Done
+plainRecover d =
+    let k : ℕ = cond (d .F) 2 0 in
+    cond (leb k (d .power))
+    (record {
+      answer = 0;
+      orders = k;
+      plain = record {
+        N = d .N;
+        S = d .S;
+        G = d .G;
+        T = d .T;
+        n = d .n;
+        mode = 1;
+        power = d .power - k;
+        waiting = d .waiting;
+        short = d .short;
+        F = false;
+      };
+    })
+    (cutShort (ofRecover (d .power)) (d .power) d)
+
+-- "if that write was kept": a header that waits is the last waiting write, and so is its mark
+unfoldable pub headerKept : List ℕ → ℕ → Bool
+headerKept ms waiting = eqb (getD ms (waiting - 1) 0) 1
+
+-- "A cut empties G and T, and chooses". It is fed whether the log found is the log written
+unfoldable pub plainCut : List ℕ → Bool → Plain → Done
+plainCut ms found d =
+    let v = verdict (d .short) (d .n) (length (d .G)) (d .F) (headerKept ms (d .waiting)) found in
+    record {
+      answer = 0;
+      orders = 0;
+      plain = record {
+        N = d .N;
+        S = cond (v .laid) (overlay (d .G) (d .S)) (d .S);
+        G = [];
+        T = [];
+        n = v .n;
+        mode = 0;
+        power = d .power;
+        waiting = 0;
+        short = none;
+        F = v .F;
+      };
+    }
+
+abbrev pub still : Plain → Done
+still d = record { answer = 0; orders = 0; plain = d }
+
+-- a call that is not refused
+abbrev pub served : Call → Bool → Plain → Done
+served (power k) found d = still (withPower k d)
+served (put a b) found d = still (withLists (d .G) (insert (record { address = a; block = b }) (d .T)) d)
+served (get a) found d = still d
+served commit found d = still (withLists (merge (d .T) (d .G)) [] d)
+served abandon found d = still (withLists (d .G) [] d)
+served sync found d = plainSync d
+served apply found d = plainApply d
+served recover found d = plainRecover d
+served (cut ms) found d = plainCut ms found d
+
+unfoldable pub plainStep : Call → Bool → Plain → Done
+plainStep c found d =
+    cond (eqb (refusal c d) 0) (served c found d) (record { answer = refusal c d; orders = 0; plain = d })
+
+-- "get reading T, then G, then S"
+unfoldable pub plainGet : ℕ → Plain → List ℕ
+plainGet a d = overlay (d .T) (overlay (d .G) (d .S)) a

@@ -1,0 +1,286 @@
+-- What is promised of every list of calls, from what a format answering 0 left. Each statement is one type; its proof is the theorem
+-- of the same name in proofs/Theorems.antt.
+use Prim.Native.Nat.{ℕ, _+_, _≤_}
+use mathlib.Core.Path.{_≡_}
+use mathlib.Core.Logic.{_≢_, _⊎_}
+use mathlib.Core.Bool.{Bool, true, false, cond, not, _&&_}
+use mathlib.Core.List.{List, [], _∷_, _++_}
+use lib.Dec.{eqb, leb}
+use lib.ListN.{length, getD, take}
+use Rattle.cells.specs.Entry.{Entry}
+use Rattle.fnv.specs.Fnv.{start}
+use Rattle.card.specs.Disk.{Disk, overlay}
+use Rattle.card.specs.Card.{Order, write, flush, blocksIn, blockAt}
+use Rattle.journal.specs.Layout.{isData}
+use Rattle.journal.specs.Header.{header}
+use Rattle.journal.specs.Log.{headerOf, entries, sumOf}
+use Rattle.journal.specs.Orders.{applyOrders, syncOrders}
+use Rattle.journal.specs.Choice.{choose, recoverOrders}
+use Rattle.store.specs.Request as Request
+use Rattle.store.specs.State.{State, Outcome, opened, down}
+use Rattle.store.specs.Causes.{wrongSizes, wrongBlock, wrongRecord, cause}
+use Rattle.store.specs.Simple.{refused, formatCall, powerCall, putCall, abandonCall}
+use Rattle.store.specs.Commit.{commitCall}
+use Rattle.store.specs.Saves.{groupOf, syncCall, applyCall, recoverCall, cutCall}
+use Rattle.history.specs.Call.{Call, power, put, get, commit, abandon, sync, apply, recover, cut}
+use Rattle.history.specs.Plain.{plainStep, plainGet}
+use Rattle.history.specs.Dispatch.{dispatch, getCall, blockOf}
+use Rattle.history.specs.Ledger.{standing, inner, logFound, sameLog}
+use Rattle.history.specs.History.{World, begun, next, after, storeNext, foundWritten, acceptedCut}
+
+-- ---- Safety, exceptions included
+
+-- a call's own arguments
+abbrev pub requestOf : Call → Request.Request
+requestOf (power k) = Request.power k
+requestOf (put a b) = Request.put a b
+requestOf (get a) = Request.get a
+requestOf commit = Request.commit
+requestOf abandon = Request.abandon
+requestOf sync = Request.sync
+requestOf apply = Request.apply
+requestOf recover = Request.recover
+requestOf (cut ms) = Request.cut ms
+
+-- every state passes checks 1 and 2; no call is refused 1 or 2 but for its own arguments; "recover is never refused 8 or 9 there"
+pub record Sound (st : State) : Type 0 where
+  pub sizes : wrongSizes st ≡ false
+  pub counts : wrongRecord st ≡ false
+  pub own : (c : Call) → dispatch c st .answer ≡ 1 → wrongBlock (requestOf c) ≡ true
+  pub never-two : (c : Call) → dispatch c st .answer ≢ 2
+  pub never-eight : dispatch recover st .answer ≢ 8
+  pub never-nine : dispatch recover st .answer ≢ 9
+
+abbrev pub Safety : Type 0
+Safety = (st : State) → formatCall st .answer ≡ 0 → (cs : List Call) → Sound (after cs (begun st) .store)
+
+-- ---- Refinement (demand 2)
+
+-- "At each call of a list the store gives the plain disk's answer, orders handed back […], block from a get and, when open, n"
+pub record Agrees (c : Call) (w : World) : Type 0 where
+  pub answer : dispatch c (w .store) .answer ≡ plainStep c (foundWritten c w) (w .plain) .answer
+  pub orders : dispatch c (w .store) .orders ≡ plainStep c (foundWritten c w) (w .plain) .orders
+  pub block : (a : ℕ) → c ≡ get a → dispatch c (w .store) .answer ≡ 0 → blockOf a (w .store) ≡ plainGet a (w .plain)
+  pub mode : storeNext c w .rec .mode ≡ plainStep c (foundWritten c w) (w .plain) .plain .mode
+  pub power : storeNext c w .rec .power ≡ plainStep c (foundWritten c w) (w .plain) .plain .power
+  pub waiting : storeNext c w .rec .waiting ≡ plainStep c (foundWritten c w) (w .plain) .plain .waiting
+  pub n : storeNext c w .rec .mode ≡ opened → storeNext c w .rec .logged ≡ plainStep c (foundWritten c w) (w .plain) .plain .n
+
+-- "the exception of demand 3 apart": at every call with no exception at a cut before it
+abbrev pub Refinement : Type 0
+Refinement = (st : State) → formatCall st .answer ≡ 0 → (cs : List Call) (c : Call) → after cs (begun st) .excepted ≡ false → Agrees c (after cs (begun st))
+
+-- ---- Log read back (demand 2)
+
+-- no call of the list is an accepted cut
+unfoldable pub noCut : List Call → World → Bool
+noCut [] w = true
+noCut (c ∷ cs) w = not (acceptedCut c w) && noCut cs (next c w)
+
+-- the list taken by a recover that left r, where the last accepted cut left w
+abbrev pub Taken : World → State → Type 0
+Taken w r =
+    entries (r .settled) (r .rec .logged)
+    ≡ cond (sameLog (logFound (w .store)) (w .ledger .written)) (w .ledger .written) (take (headerOf (w .store .settled) .previous) (w .ledger .written))
+
+-- a finished recover takes the log written by the header that the last accepted cut left, if the log found there was that log, else
+-- its first p entries, p by that header
+abbrev pub ReadBack : Type 0
+ReadBack =
+    (st : State) → formatCall st .answer ≡ 0 → (cs : List Call) (ms : List ℕ) (ds : List Call)
+    → acceptedCut (cut ms) (after cs (begun st)) ≡ true
+    → noCut ds (next (cut ms) (after cs (begun st))) ≡ true
+    → after ds (next (cut ms) (after cs (begun st))) .excepted ≡ false
+    → dispatch recover (after ds (next (cut ms) (after cs (begun st))) .store) .answer ≡ 0
+    → Taken (next (cut ms) (after cs (begun st))) (dispatch recover (after ds (next (cut ms) (after cs (begun st))) .store) .state)
+
+-- a check on the log written: at every accepted cut with no exception so far it has the header's n entries and the header's sum of n
+pub record Summed (w : World) : Type 0 where
+  pub count : headerOf (w .store .settled) .count ≡ length (w .ledger .written)
+  pub sum : headerOf (w .store .settled) .sum ≡ sumOf start (w .ledger .written)
+
+abbrev pub WrittenSummed : Type 0
+WrittenSummed =
+    (st : State) → formatCall st .answer ≡ 0 → (cs : List Call) (ms : List ℕ)
+    → acceptedCut (cut ms) (after cs (begun st)) ≡ true
+    → next (cut ms) (after cs (begun st)) .excepted ≡ false
+    → Summed (next (cut ms) (after cs (begun st)))
+
+-- what a finished sync of a nonempty group leaves on the card is the checksummed log: p and its sum, n and its sum, and the log
+-- before it (empty after an inner apply), then the group
+pub record Logged (s t : State) : Type 0 where
+  pub head : headerOf (t .settled) ≡ header (s .rec .blocks) (length (standing s)) (sumOf start (standing s)) (length (standing s ++ groupOf s)) (sumOf start (standing s ++ groupOf s))
+  pub list : entries (t .settled) (length (standing s ++ groupOf s)) ≡ standing s ++ groupOf s
+
+abbrev pub Written : Type 0
+Written =
+    (st : State) → formatCall st .answer ≡ 0 → (cs : List Call)
+    → after cs (begun st) .store .rec .grouped ≢ 0
+    → dispatch sync (after cs (begun st) .store) .answer ≡ 0
+    → Logged (after cs (begun st) .store) (dispatch sync (after cs (begun st) .store) .state)
+
+-- ---- Crash atomicity (demand 3)
+
+-- a finished sync or recovery
+unfoldable pub finished : Call → World → Bool
+finished (power k) w = false
+finished (put a b) w = false
+finished (get a) w = false
+finished commit w = false
+finished abandon w = false
+finished sync w = eqb (dispatch sync (w .store) .answer) 0
+finished apply w = false
+finished recover w = eqb (dispatch recover (w .store) .answer) 0
+finished (cut ms) w = false
+
+-- the list is empty or ends in one
+abbrev pub EndsFinished : List Call → World → Type 0
+EndsFinished a w = (a ≡ []) ⊎ ((b : List Call) × (c : Call) × (a ≡ b ++ (c ∷ [])) × (finished c (after b w) ≡ true))
+
+-- the list holds none
+unfoldable pub noneFinished : List Call → World → Bool
+noneFinished [] w = true
+noneFinished (c ∷ cs) w = not (finished c w) && noneFinished cs (next c w)
+
+-- a sync that ran out of power itself
+unfoldable pub shortSync : Call → World → Bool
+shortSync (power k) w = false
+shortSync (put a b) w = false
+shortSync (get a) w = false
+shortSync commit w = false
+shortSync abandon w = false
+shortSync sync w = eqb (w .store .rec .mode) opened && eqb (dispatch sync (w .store) .answer) 4
+shortSync apply w = false
+shortSync recover w = false
+shortSync (cut ms) w = false
+
+unfoldable pub countShort : List Call → World → ℕ
+countShort [] w = 0
+countShort (c ∷ cs) w = cond (shortSync c w) 1 0 + countShort cs (next c w)
+
+unfoldable pub allOnes : List ℕ → Bool
+allOnes [] = true
+allOnes (m ∷ ms) = eqb m 1 && allOnes ms
+
+-- what became of the sync that was cut short: none so far; cut short with its group, the place in the queue of its own header and
+-- whether that header was written; decided at the next accepted cut: new or not, and whether it had made all its writes and all
+-- were kept
+pub data Fate : Type 0 where
+  quiet : Fate
+  cutShort : List Entry → ℕ → Bool → Fate
+  decided : List Entry → Bool → Bool → Fate
+
+-- the sync's own header was written, and nothing after it
+abbrev pub headed : World → Bool
+headed w = eqb (dispatch sync (w .store) .orders) (inner (w .store) + (w .store .rec .grouped + 2))
+
+-- at an accepted cut: its header kept, and the log found is the log written
+abbrev pub atCut : Call → World → List Entry → ℕ → Bool → Fate
+atCut (power k) w G place made = cutShort G place made
+atCut (put a b) w G place made = cutShort G place made
+atCut (get a) w G place made = cutShort G place made
+atCut commit w G place made = cutShort G place made
+atCut abandon w G place made = cutShort G place made
+atCut sync w G place made = cutShort G place made
+atCut apply w G place made = cutShort G place made
+atCut recover w G place made = cutShort G place made
+atCut (cut ms) w G place made =
+    cond (acceptedCut (cut ms) w)
+    (decided G (made && eqb (getD ms place 0) 1 && foundWritten (cut ms) w) (made && allOnes ms))
+    (cutShort G place made)
+
+unfoldable pub observe : Call → World → Fate → Fate
+observe c w quiet = cond (shortSync c w) (cutShort (groupOf (w .store)) (w .store .rec .grouped + 1) (headed w)) quiet
+observe c w (cutShort G place made) = atCut c w G place made
+observe c w (decided G laid all) = decided G laid all
+
+unfoldable pub fate : List Call → World → Fate → Fate
+fate [] w f = f
+fate (c ∷ cs) w f = fate cs (next c w) (observe c w f)
+
+-- old, or new: old with the group over it
+abbrev pub outcome : Fate → Disk → Disk
+outcome quiet old = old
+outcome (cutShort G place made) old = old
+outcome (decided G laid all) old = cond laid (overlay G old) old
+
+-- "a sync that had made all its writes and whose next cut kept every one" is new
+abbrev pub WholeIsNew : Fate → Type 0
+WholeIsNew quiet = Unit {0}
+WholeIsNew (cutShort G place made) = Unit {0}
+WholeIsNew (decided G laid all) = all ≡ true → laid ≡ true
+
+-- the disk found: every data block as the store's own get hands it out on what the recover left
+abbrev pub FoundIs : ℕ → State → Disk → Type 0
+FoundIs N r d = (x : ℕ) → isData N x ≡ true → (dispatch (get x) r .answer ≡ 0) × (blockOf x r ≡ d x)
+
+-- For every list and every reading of it as a, b, a recover that answers 0, and c, where a is empty or ends in a finished sync or
+-- recovery and b holds none, and no cut in a or b is excepted: b holds at most one sync cut short, and the disk found is old, the
+-- plain disk's S after a, or new, old with that sync's group over it: new exactly if the next accepted cut kept that sync's own
+-- header and the log found there is the log written
+pub record Atomic (st : State) (a b : List Call) : Type 0 where
+  pub one : countShort b (after a (begun st)) ≤ 1
+  pub found : FoundIs (blocksIn (st .settled)) (storeNext recover (after b (after a (begun st)))) (outcome (fate b (after a (begun st)) quiet) (after a (begun st) .plain .S))
+  pub whole : WholeIsNew (fate b (after a (begun st)) quiet)
+
+abbrev pub CrashAtomicity : Type 0
+CrashAtomicity =
+    (st : State) → formatCall st .answer ≡ 0 → (cs a b c : List Call) → cs ≡ a ++ (b ++ (recover ∷ c))
+    → EndsFinished a (begun st)
+    → noneFinished b (after a (begun st)) ≡ true
+    → dispatch recover (after b (after a (begun st)) .store) .answer ≡ 0
+    → after b (after a (begun st)) .excepted ≡ false
+    → Atomic st a b
+
+-- ---- Refusals (demand 1): over the ten calls and any inputs whatever
+
+abbrev pub called : Request.Request → State → Outcome
+called Request.format st = formatCall st
+called (Request.power k) st = powerCall k st
+called (Request.put a b) st = putCall a b st
+called (Request.get a) st = getCall a st
+called Request.commit st = commitCall st
+called Request.abandon st = abandonCall st
+called Request.sync st = syncCall st
+called Request.apply st = applyCall st
+called Request.recover st = recoverCall st
+called (Request.cut ms) st = cutCall ms st
+
+-- the orders of a call
+abbrev pub ordersOf : Request.Request → State → List Order
+ordersOf Request.format st = []
+ordersOf (Request.power k) st = []
+ordersOf (Request.put a b) st = []
+ordersOf (Request.get a) st = []
+ordersOf Request.commit st = []
+ordersOf Request.abandon st = []
+ordersOf Request.sync st = syncOrders (st .rec .blocks) (st .settled) (st .rec .logged) (st .rec .sum) (groupOf st)
+ordersOf Request.apply st = applyOrders (st .rec .blocks) (st .settled) (st .rec .logged)
+ordersOf Request.recover st = recoverOrders (st .rec .blocks) (choose (st .rec .blocks) (st .settled))
+ordersOf (Request.cut ms) st = []
+
+-- no order writes to the block
+unfoldable pub untouched : ℕ → List Order → Bool
+untouched x [] = true
+untouched x (write e ∷ os) = not (eqb x (e .address)) && untouched x os
+untouched x (flush ∷ os) = untouched x os
+
+-- "power gone in the call": 4, the power there was as orders, down; left are "group, open, and each block no order touched"
+pub record Gone (q : Request.Request) (st : State) : Type 0 where
+  pub answer : called q st .answer ≡ 4
+  pub orders : called q st .orders ≡ st .rec .power
+  pub down-now : called q st .state .rec .mode ≡ down
+  pub work : called q st .state .work ≡ st .work
+  pub open-count : called q st .state .rec .opened ≡ st .rec .opened
+  pub group-count : called q st .state .rec .grouped ≡ st .rec .grouped
+  pub blocks : (x : ℕ) → untouched x (ordersOf q st) ≡ true → blockAt (called q st .state .settled) x ≡ blockAt (st .settled) x
+
+-- the answer is the number of the first row that applies, which leaves everything; 4 if an order is reached that can't happen; else 0
+pub record Answers (q : Request.Request) (st : State) : Type 0 where
+  pub refuses : cause q st ≢ 0 → called q st ≡ refused (cause q st) st
+  pub gone : cause q st ≡ 0 → leb (length (ordersOf q st)) (st .rec .power) ≡ false → Gone q st
+  pub serves : cause q st ≡ 0 → leb (length (ordersOf q st)) (st .rec .power) ≡ true → called q st .answer ≡ 0
+  pub two-suffice : recoverCall st .orders ≤ 2
+
+abbrev pub Refusals : Type 0
+Refusals = (q : Request.Request) (st : State) → Answers q st

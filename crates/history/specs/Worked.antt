@@ -1,0 +1,72 @@
+-- "Around it", document 01's two worked scripts on a card of 64 blocks, as lists of calls: "format / put 40 7 / commit / sync / put 40 9 /
+-- commit / power 3 / sync / cut 101 / power 100 / recover / get 40", and the same with cut 111.
+use Prim.Native.Nat.{ℕ}
+use mathlib.Core.Path.{_≡_}
+use mathlib.Core.Bool.{Bool, true, false}
+use mathlib.Core.List.{List, [], _∷_, _++_}
+use lib.ListN.{replicate}
+use Rattle.cells.specs.Entry.{blockBytes, Entry}
+use Rattle.card.specs.Card.{blocksIn}
+use Rattle.store.specs.State.{State}
+use Rattle.store.specs.Simple.{formatCall}
+use Rattle.history.specs.Call.{Call, power, put, get, commit, sync, recover, cut}
+use Rattle.history.specs.Dispatch.{dispatch, blockOf}
+use Rattle.history.specs.History.{World, begun, next, after, storeNext, foundWritten, acceptedCut, exception}
+use Rattle.history.specs.Statements.{EndsFinished, noneFinished, quiet, decided, fate}
+
+-- "byte filling the block"
+unfoldable pub sevens : List ℕ
+sevens = replicate blockBytes 7
+
+unfoldable pub nines : List ℕ
+nines = replicate blockBytes 9
+
+abbrev pub at40 : List ℕ → Entry
+at40 b = record { address = 40; block = b }
+
+-- "put 40 7 / commit / sync"
+abbrev pub filed : List Call
+filed = put 40 sevens ∷ commit ∷ sync ∷ []
+
+-- "put 40 9 / commit / power 3 / sync"
+abbrev pub halted : List Call
+halted = put 40 nines ∷ commit ∷ power 3 ∷ sync ∷ []
+
+-- then "cut […] / power 100"
+abbrev pub crashed : List ℕ → List Call
+crashed ms = halted ++ (cut ms ∷ power 100 ∷ [])
+
+-- what the cut meets, and what "recover" meets
+abbrev pub metByCut : State → World
+metByCut st = after halted (after filed (begun st))
+
+abbrev pub metByRecover : List ℕ → State → World
+metByRecover ms st = after (crashed ms) (after filed (begun st))
+
+-- what each call of a list comes to: its answer and its orders
+unfoldable pub answers : List Call → World → List (ℕ × ℕ)
+answers [] w = []
+answers (c ∷ cs) w = (dispatch c (w .store) .answer, dispatch c (w .store) .orders) ∷ answers cs (next c w)
+
+-- a script with the marks ms: its lines, k being the orders of "recover"; what crash atomicity asks of it; `same`, which the plain disk
+-- is fed at the cut; the fate of the sync cut short; and the block b that "get 40" hands out
+pub record Script (st : State) (ms : List ℕ) (same new all : Bool) (k : ℕ) (b : List ℕ) : Type 0 where
+  pub lines : answers (filed ++ (crashed ms ++ (recover ∷ get 40 ∷ []))) (begun st)
+      ≡ (0, 0) ∷ (0, 0) ∷ (0, 4) ∷ (0, 0) ∷ (0, 0) ∷ (0, 0) ∷ (4, 3) ∷ (0, 0) ∷ (0, 0) ∷ (0, k) ∷ (0, 0) ∷ []
+  pub ends : EndsFinished filed (begun st)
+  pub none : noneFinished (crashed ms) (after filed (begun st)) ≡ true
+  pub accepted : acceptedCut (cut ms) (metByCut st) ≡ true
+  pub found : foundWritten (cut ms) (metByCut st) ≡ same
+  pub usual : exception (cut ms) (metByCut st) ≡ false
+  pub clean : metByRecover ms st .excepted ≡ false
+  pub answer : dispatch recover (metByRecover ms st .store) .answer ≡ 0
+  pub orders : dispatch recover (metByRecover ms st .store) .orders ≡ k
+  pub fated : fate (crashed ms) (after filed (begun st)) quiet ≡ decided (at40 nines ∷ []) new all
+  pub block : blockOf 40 (storeNext recover (metByRecover ms st)) ≡ b
+
+-- cut 101 loses the new descriptor: another log than the one written, no collision, old; cut 111 keeps every write: new. There is
+-- such a card
+pub record Worked : Type 0 where
+  pub torn : (st : State) → formatCall st .answer ≡ 0 → blocksIn (st .settled) ≡ 64 → Script st (1 ∷ 0 ∷ 1 ∷ []) false false false 2 sevens
+  pub whole : (st : State) → formatCall st .answer ≡ 0 → blocksIn (st .settled) ≡ 64 → Script st (1 ∷ 1 ∷ 1 ∷ []) true true true 0 nines
+  pub card : (st : State) × (formatCall st .answer ≡ 0) × (blocksIn (st .settled) ≡ 64)

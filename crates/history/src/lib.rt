@@ -1,0 +1,1 @@
+// The theorems about histories: definitions and statements in specs/, proofs in proofs/. No code.

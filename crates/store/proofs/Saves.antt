@@ -1,0 +1,298 @@
+-- The laws of calls that give orders.
+use Prim.Native.Nat.{ℕ, _+_, _-_, _≤_, _<_, min}
+use mathlib.Core.Path.{_≡_, refl, ap, ap₂, sym, _∙_}
+use mathlib.Core.Bool.{Bool, true, false, cond}
+use mathlib.Core.Logic.{_≢_}
+use mathlib.Core.List.{List, [], _∷_, _++_, map, append-assoc}
+use native.Mathlib.Decide.{ℕ-discrete}
+use native.Mathlib.Omega.{arith}
+use borrow.Author.Tests.{eq-eqb, ne-eqb, le-leb, lt-leb, leb-true, leb-false, eqb-false}
+use lib.Dec.{eqb, leb}
+use lib.ListN.{length, length-append}
+use Rattle.cells.specs.Upto.{upTo}
+use Rattle.cells.specs.Upto.Laws.{length-upTo}
+use Rattle.cells.specs.Entry.{Entry}
+use Rattle.fnv.specs.Fnv.{start}
+use Rattle.card.specs.declared.queue.Queue.{Queue}
+use Rattle.card.specs.declared.queue.Ordered.{Ordered}
+use Rattle.card.specs.Card as Card
+use Rattle.card.specs.Card.{Card, Order, write, flush, order, run, blocksIn}
+use Rattle.card.specs.Held.{cardOf}
+use Rattle.card.proofs.Runs.{run-nil, run-one, run-append, run-power}
+use Rattle.journal.specs.declared.choice.Choice.{Choice}
+use Rattle.journal.specs.declared.choice.Choice.the-variants.{Whole, Fallback, Foreign, Neither}
+use Rattle.journal.specs.Layout.{slots}
+use Rattle.journal.specs.Header.{emptyHeader}
+use Rattle.journal.specs.Log.{slotAddress, entries, sumOf}
+use Rattle.journal.specs.Orders.{checkpointOrders, appendOrders, applyOrders, syncOrders}
+use Rattle.journal.specs.Choice.{choiceNumber, choose, takenCount, takenSum, recoverOrders}
+use Rattle.journal.proofs.Logs.{sumOf-nil}
+use Rattle.journal.proofs.OrderLists.{headerEntry, checkpoint-writes, append-afresh}
+use Rattle.journal.proofs.Phases.{stopped, resumed}
+use Rattle.store.specs.declared.record.Record.{Record}
+use Rattle.store.specs.State.{State, Outcome, closed, opened, down, withMode, withGrouped, withLog, withQueue, withRecord, cardIn, withCard}
+use Rattle.store.specs.Held.{stateOf, outcomeOf}
+use Rattle.store.specs.Lists.{groupFrom, listed}
+use Rattle.store.specs.Request.{power, abandon, recover}
+use Rattle.store.specs.Causes.{cause}
+use Rattle.store.specs.Simple.{finished, unless}
+use Rattle.store.specs.Saves.{carried, groupOf, applies, recoverCall, syncing, reopened}
+use Rattle.store.specs.Steps.{emptying, appending, recovering}
+use Rattle.store.proofs.Causes.{Sound, cause-passes, passes-sound, cause-2}
+use Rattle.store.proofs.Places.{data-lt}
+
+-- ---- orders that the card carried out
+
+-- the state that they leave: q is the queue that they were given, o what they came to, d the record if all of them happened
+pub given : (os : List Order) (j : ℕ) (done gone : Record) (st : State) (q : Queue) (s w : List ℕ) (o : Ordered) (d r : Record)
+    → length os ≡ j → q ≡ record { waiting = st .rec .waiting; power = st .rec .power }
+    → o .happened ≡ leb j (q .power) → cardOf s w (o .queue) ≡ run os (cardOf (st .settled) (st .waiting) q)
+    → d ≡ done → r ≡ withQueue (o .queue .waiting) (o .queue .power) (cond (o .happened) d (withMode down gone))
+    → stateOf r s w (st .work) ≡ carried os done gone st .state
+unfolding carried
+given os j done gone st q s w o d r size queue told card whole e =
+    let all : o .happened ≡ leb (length os) (st .rec .power) = told ∙ ap₂ leb (sym size) (ap (λ (x : Queue). x .power) queue) in
+    rw (e, whole, all)
+    (ap (λ (c : Card). withCard c (withRecord (cond (leb (length os) (st .rec .power)) done (withMode down gone)) st))
+    (card ∙ ap (λ (x : Queue). run os (cardOf (st .settled) (st .waiting) x)) queue))
+
+module _ (os : List Order) (done gone : Record) (st : State) where
+  -- no power comes back
+  pub carried-power : (r : Record) (s w k : List ℕ) → stateOf r s w k ≡ carried os done gone st .state → r .power ≡ st .rec .power - length os
+  unfolding carried
+  carried-power r s w k e = ap (λ (x : State). x .rec .power) e ∙ run-power os (cardIn st)
+
+  -- the number and the orders, by the record that is left: it is down if power was gone
+  pub carried-ends : done .mode ≢ down → (r : Record) (s w k : List ℕ) → stateOf r s w k ≡ carried os done gone st .state
+      → outcomeOf (cond (eqb (r .mode) down) 4 0) (st .rec .power - r .power) r s w k ≡ carried os done gone st
+  unfolding carried
+  carried-ends live r s w k e =
+      ap (λ (x : State). record { answer = cond (eqb (x .rec .mode) down) 4 0; orders = st .rec .power - x .rec .power; state = x }) e
+      ∙ ap₂ (λ (n m : ℕ). record { answer = n; orders = m; state = carried os done gone st .state }) (number (leb (length os) (st .rec .power))) used
+    where
+      number : (t : Bool) → _≡_ {A = ℕ} (cond (eqb (cond t done (withMode down gone) .mode) down) 4 0) (cond t 0 4)
+      number true = rw (ne-eqb (done .mode) down live)
+      number false = refl
+
+      used : st .rec .power - run os (cardIn st) .power ≡ min (length os) (st .rec .power)
+      used = rw (run-power) (omega arith)
+
+  -- it is not down: all orders happened
+  pub carried-live : (x : State) → x ≡ carried os done gone st .state → x .rec .mode ≢ down
+      → (length os ≤ st .rec .power) × (x ≡ withCard (run os (cardIn st)) (withRecord done st))
+  unfolding carried
+  carried-live x e live = go (leb (length os) (st .rec .power)) refl e
+    where
+      go : (t : Bool) → leb (length os) (st .rec .power) ≡ t → x ≡ withCard (run os (cardIn st)) (withRecord (cond t done (withMode down gone)) st)
+          → (length os ≤ st .rec .power) × (x ≡ withCard (run os (cardIn st)) (withRecord done st))
+      go true q f = (leb-true _ _ q, f)
+      go false q f = absurd (live (ap (λ (y : State). y .rec .mode) f))
+
+  -- it is down: power was gone
+  pub carried-dead : done .mode ≢ down → (x : State) → x ≡ carried os done gone st .state → x .rec .mode ≡ down
+      → (st .rec .power < length os) × (x ≡ withCard (run os (cardIn st)) (withRecord (withMode down gone) st))
+  unfolding carried
+  carried-dead live x e dead = go (leb (length os) (st .rec .power)) refl e
+    where
+      go : (t : Bool) → leb (length os) (st .rec .power) ≡ t → x ≡ withCard (run os (cardIn st)) (withRecord (cond t done (withMode down gone)) st)
+          → (st .rec .power < length os) × (x ≡ withCard (run os (cardIn st)) (withRecord (withMode down gone) st))
+      go true q f = absurd (live (sym (ap (λ (y : State). y .rec .mode) f) ∙ dead))
+      go false q f = (leb-false _ _ q, f)
+
+-- a call without orders
+pub carried-none : (done gone : Record) (st : State) → carried [] done gone st ≡ finished (withRecord (withQueue (st .rec .waiting) (st .rec .power) done) st)
+unfolding carried
+carried-none done gone st =
+    let none : min 0 (st .rec .power) ≡ 0 = omega arith in
+    rw (run-nil, le-leb 0 (st .rec .power) (omega arith), none)
+
+-- ---- orders in two steps, a and then b
+
+module _ (a b : List Order) (st : State) (done gone : Record) where
+  -- the first runs out of power
+  pub step-dead : st .rec .power < length a → withCard (run a (cardIn st)) (withRecord (withMode down gone) st) ≡ carried (a ++ b) done gone st .state
+  unfolding carried
+  step-dead short =
+      let both = stopped (a ++ b) a b refl (length a) (length b) (length (a ++ b)) refl (sym (length-append a b)) (cardIn st) (run a (cardIn st)) refl false (sym (lt-leb _ _ short)) refl in
+      rw (← both .0, ← both .1)
+
+  -- the second goes on with the card that the first left, and with any record
+  pub step-live : length a ≤ st .rec .power → (x : Record) → carried b done gone (withCard (run a (cardIn st)) (withRecord x st)) .state ≡ carried (a ++ b) done gone st .state
+  unfolding carried
+  step-live enough x =
+      let both = resumed (a ++ b) a b refl (length a) (length b) (length (a ++ b)) refl (sym (length-append a b)) (cardIn st) (run a (cardIn st)) refl true (sym (le-leb _ _ enough)) refl _ _ refl refl in
+      rw (← both .0, ← both .1)
+
+-- the counts of the queue in the two records play no part
+pub same-counts : (os : List Order) (st : State) (x y : Record) (w p : ℕ) → carried os (withQueue w p x) (withQueue w p y) st .state ≡ carried os x y st .state
+unfolding carried
+same-counts os st x y w p = go (leb (length os) (st .rec .power))
+  where
+    go : (t : Bool) → withCard (run os (cardIn st)) (withRecord (cond t (withQueue w p x) (withMode down (withQueue w p y))) st)
+        ≡ withCard (run os (cardIn st)) (withRecord (cond t x (withMode down y)) st)
+    go true = refl
+    go false = refl
+
+-- ---- apply
+
+module _ (st : State) where
+  pub apply-none : st .rec .logged ≡ 0 → carried [] (st .rec) (st .rec) st
+      ≡ carried (applyOrders (st .rec .blocks) (st .settled) (st .rec .logged)) (cond (eqb (st .rec .logged) 0) (st .rec) (withLog 0 start (st .rec))) (st .rec) st
+  unfolding applyOrders
+  apply-none n = rw (eq-eqb _ _ n)
+
+  pub apply-some : st .rec .logged ≢ 0 → emptying st
+      ≡ carried (applyOrders (st .rec .blocks) (st .settled) (st .rec .logged)) (cond (eqb (st .rec .logged) 0) (st .rec) (withLog 0 start (st .rec))) (st .rec) st
+  unfolding applyOrders
+  apply-some n = rw (ne-eqb _ _ n)
+
+-- ---- sync
+
+-- with power for all of it, a checkpoint leaves nothing waiting
+checkpoint-idle : (N : ℕ) (es : List Entry) (c : Card) → length (checkpointOrders N es) ≤ c .power → run (checkpointOrders N es) c .count ≡ 0
+unfolding order
+checkpoint-idle N es c h =
+    let front = (map write es ++ (flush ∷ [])) ++ (write (headerEntry (emptyHeader N)) ∷ []) in
+    let ends : checkpointOrders N es ≡ front ++ (flush ∷ []) = checkpoint-writes N es ∙ sym (append-assoc (map write es ++ (flush ∷ [])) (write (headerEntry (emptyHeader N)) ∷ []) (flush ∷ [])) in
+    let size : length (checkpointOrders N es) ≡ length front + 1 = ap length ends ∙ length-append front (flush ∷ []) in
+    let live : 0 < run front c .power = rw (run-power) (omega arith) in
+    ap (λ (os : List Order). run os c .count) ends ∙ ap (λ (x : Card). x .count) (run-append front (flush ∷ []) c ∙ run-one flush (run front c) live)
+
+-- the orders of an apply
+abbrev checkpoint : State → List Order
+checkpoint st = checkpointOrders (st .rec .blocks) (entries (st .settled) (st .rec .logged))
+
+-- what they leave when all of them happened
+abbrev checkpointed : State → State
+checkpointed st = withCard (run (checkpoint st) (cardIn st)) (withRecord (withLog 0 start (st .rec)) st)
+
+module _ (st : State) where
+  pub group-size : length (groupOf st) ≡ st .rec .grouped
+  group-size = length-upTo (listed (st .work) groupFrom) (st .rec .grouped)
+
+  -- no group
+  pub sync-none : st .rec .grouped ≡ 0 → st ≡ syncing st .state
+  unfolding syncOrders
+  sync-none none =
+      rw (group-size, eq-eqb _ _ none)
+      ((λ j. withRecord (withQueue (st .rec .waiting) (st .rec .power) (withGrouped (none j) (withLog (more j) (sum j) (st .rec)))) st)
+      ∙ ap (λ (o : Outcome). o .state) (sym (carried-none (withGrouped 0 (withLog (st .rec .logged + st .rec .grouped) (sumOf (st .rec .sum) (groupOf st)) (st .rec))) _ st)))
+    where
+      more : st .rec .logged ≡ st .rec .logged + st .rec .grouped
+      more = omega arith
+
+      sum : st .rec .sum ≡ sumOf (st .rec .sum) (groupOf st)
+      sum = sym (ap (λ (m : ℕ). sumOf (st .rec .sum) (upTo (listed (st .work) groupFrom) m)) none ∙ sumOf-nil (st .rec .sum))
+
+  -- its number and its orders
+  pub sync-ends : st .rec .mode ≢ down → (r : Record) (s w k : List ℕ) → stateOf r s w k ≡ syncing st .state
+      → outcomeOf (cond (eqb (r .mode) down) 4 0) (st .rec .power - r .power) r s w k ≡ syncing st
+  sync-ends live r s w k e = carried-ends _ _ _ st (λ m. live (sym (mode (applies st)) ∙ m)) r s w k e
+    where
+      mode : (t : Bool) → cond t (withLog 0 start (st .rec)) (st .rec) .mode ≡ st .rec .mode
+      mode true = refl
+      mode false = refl
+
+  module _ (some : st .rec .grouped ≢ 0) where
+    -- room for it
+    pub sync-room : st .rec .logged + st .rec .grouped ≤ slots → appending st ≡ syncing st
+    unfolding syncOrders
+    sync-room room = rw (group-size, ne-eqb _ _ some, le-leb _ _ room, le-leb 0 (st .rec .power) (omega arith))
+
+    module _ (over : slots < st .rec .logged + st .rec .grouped) (live : st .rec .mode ≢ down) (x : State) (first : x ≡ emptying st .state) where
+      -- the apply runs out of power
+      pub sync-dead : x .rec .mode ≡ down → x ≡ syncing st .state
+      unfolding syncOrders
+      sync-dead dead =
+          let end = carried-dead (checkpoint st) (withLog 0 start (st .rec)) (st .rec) st live x first dead in
+          rw (group-size, ne-eqb _ _ some, lt-leb _ _ over, lt-leb _ _ (end .0)) (end .1 ∙ step-dead _ _ st _ (st .rec) (end .0))
+
+      -- it does not, and the group meets an empty log
+      pub sync-on : x .rec .mode ≢ down → (x .rec .logged ≡ 0) × (x .rec .grouped ≡ st .rec .grouped) × (x .rec .waiting ≡ 0)
+      sync-on on =
+          let end = carried-live (checkpoint st) (withLog 0 start (st .rec)) (st .rec) st x first on in (
+            ap (λ (y : State). y .rec .logged) (end .1),
+            ap (λ (y : State). y .rec .grouped) (end .1),
+            ap (λ (y : State). y .rec .waiting) (end .1) ∙ checkpoint-idle (st .rec .blocks) (entries (st .settled) (st .rec .logged)) (cardIn st) (end .0),
+          )
+
+      pub sync-live : x .rec .mode ≢ down → (y : State) → y ≡ appending x .state → y ≡ syncing st .state
+      unfolding syncOrders
+      sync-live on y next =
+          let end = carried-live (checkpoint st) (withLog 0 start (st .rec)) (st .rec) st x first on in
+          let q = run (checkpoint st) (cardIn st) in
+          let own = appendOrders (st .rec .blocks) (st .settled) 0 start (groupOf st) in
+          let done = withGrouped 0 (withLog (0 + st .rec .grouped) (sumOf start (groupOf st)) (st .rec)) in
+          rw (group-size, ne-eqb _ _ some, lt-leb _ _ over, le-leb _ _ (end .0))
+          (next
+          ∙ ap (λ (z : State). appending z .state) (end .1)
+          ∙ ap (λ (os : List Order). carried os (withQueue (q .count) (q .power) done) (checkpointed st .rec) (checkpointed st) .state) (append-afresh (st .rec .blocks) (q .settled) (st .settled) start (groupOf st))
+          ∙ step-live (checkpoint st) own st (withQueue (q .count) (q .power) done) (checkpointed st .rec) (end .0) (withLog 0 start (st .rec))
+          ∙ same-counts (checkpoint st ++ own) st done (withLog 0 start (st .rec)) (q .count) (q .power))
+
+-- ---- recover
+
+-- its cause, once the rows of the record and of the mode have passed
+recover-cause : (st : State) (n : ℕ) → n ≡ cause (power 0) st → n ≡ 0 → st .rec .mode ≢ down → st .rec .mode ≢ opened
+    → cause recover st ≡ choiceNumber (choose (st .rec .blocks) (st .settled))
+recover-cause st n e z d o =
+    cause-2 recover st n refl refl e ∙ rw (eq-eqb _ _ z, ne-eqb _ _ d, ne-eqb _ _ o) (go (choose (st .rec .blocks) (st .settled)))
+  where
+    go : (c : Choice) → cond (eqb (choiceNumber c) 8) 8 (cond (eqb (choiceNumber c) 9) 9 0) ≡ choiceNumber c
+    go (Whole k h) = refl
+    go (Fallback k h) = refl
+    go Foreign = refl
+    go Neither = refl
+
+pub recover-call : (st : State) (n : ℕ) → n ≡ cause (power 0) st → n ≡ 0 → st .rec .mode ≢ down → st .rec .mode ≢ opened
+    → recovering (choose (st .rec .blocks) (st .settled)) st ≡ recoverCall st
+unfolding recoverCall
+recover-call st n e z d o =
+    let c = choose (st .rec .blocks) (st .settled) in
+    ap (λ (k : ℕ). unless k st (carried (recoverOrders (st .rec .blocks) c) (reopened (takenCount c) (takenSum c) (st .rec)) (st .rec) st)) (sym (recover-cause st n e z d o))
+
+-- ---- cut
+
+pub cut-state : (ms : List ℕ) (done : Record) (st : State) (q : Queue) (s : List ℕ) (p : Queue) (d r : Record)
+    → q ≡ record { waiting = st .rec .waiting; power = st .rec .power }
+    → cardOf s (st .waiting) p ≡ Card.cut ms (cardOf (st .settled) (st .waiting) q)
+    → d ≡ done → r ≡ withQueue (p .waiting) (p .power) d
+    → stateOf r s (st .waiting) (st .work) ≡ withCard (Card.cut ms (cardIn st)) (withRecord done st)
+cut-state ms done st q s p d r queue card whole e =
+    rw (e, whole)
+    (ap (λ (c : Card.Card). withCard c (withRecord done st)) (card ∙ ap (λ (x : Queue). Card.cut ms (cardOf (st .settled) (st .waiting) x)) queue))
+
+-- ---- a call that no row refuses
+
+-- nothing waits unless the record is down
+pub idle : (st : State) → Sound st → st .rec .mode ≢ down → st .rec .waiting ≡ 0
+idle st s live = go (ℕ-discrete (st .rec .waiting) 0)
+  where
+    go : Dec (st .rec .waiting ≡ 0) → st .rec .waiting ≡ 0
+    go (yes e) = e
+    go (no e) = absurd (live (s .counts .waiting-down e))
+
+-- what sync and apply may count on: they have the rows of abandon
+pub record Ready (st : State) : Type 0 where
+  pub sound : Sound st
+  pub mode : st .rec .mode ≡ opened
+  pub live : st .rec .mode ≢ down
+  pub waiting : st .rec .waiting ≡ 0
+  pub homes : (i : ℕ) → i < st .rec .logged → slotAddress (st .settled) i < blocksIn (st .settled)
+
+pub ready : (st : State) (n : ℕ) → n ≡ cause abandon st → n ≡ 0 → Ready st
+ready st n e z =
+    let p = cause-passes abandon st n e z in
+    let s = passes-sound abandon st n refl e z in
+    let live : st .rec .mode ≢ down = eqb-false _ _ (p .not-down) in
+    let mode : st .rec .mode ≡ opened = only (st .rec .mode) (s .counts .mode) (eqb-false _ _ (p .not-closed)) live in
+    record {
+      sound = s;
+      mode = mode;
+      live = live;
+      waiting = idle st s live;
+      homes = λ i h. let inside = data-lt (st .rec .blocks) (slotAddress (st .settled) i) (s .lists mode .log-data i h) in omega (arith, s .counts .blocks);
+    }
+  where
+    only : (m : ℕ) → m ≤ down → m ≢ closed → m ≢ down → m ≡ opened
+    only m l c d = omega arith

@@ -1,0 +1,62 @@
+-- `store::record::Record::cut_number` meets its contract.
+use mathlib.Core.Path.{_≡_, refl}
+use mathlib.Core.Bool.{cond}
+use mathlib.Core.Logic.{_≢_}
+use native.Mathlib.Omega.{arith}
+use borrow.Author.Tests.{eq-eqb, ne-eqb}
+use lib.Dec.{eqb}
+use lib.ListN.{length, drop}
+use Rattle.store.specs.State.{State}
+use Rattle.store.specs.Held.{stateOf}
+use Rattle.store.specs.Request.{cut}
+use Rattle.store.specs.Causes.{table, first, cause}
+use Rattle.store.proofs.Causes.{cause-2}
+use borrow.Author.Needs.{needs}
+use Rattle.store.proofs.record.Record.cut_number.Statement.{statement}
+use Rattle.store.proofs.record.Record.cut_number.Tie as tie
+
+abbrev given : tie.Start → State
+given c = stateOf (c .args .self) (c .args .settled .now) (c .args .waiting .now) (c .args .work .now)
+
+-- the table once rows 1 and 2 are known
+table-of : (c : tie.After-bad-record) → let start = c .before .before .before .before .before in
+    cause (cut (start .args .marks .now)) (given start) ≡ cond (eqb (c .bad-record .result) 0) (first (drop 2 table) (cut (start .args .marks .now)) (given start)) (c .bad-record .result)
+table-of c =
+    let start = c .before .before .before .before .before in
+    cause-2 (cut (start .args .marks .now)) (given start) (c .bad-record .result) refl refl (c .bad-record .ensures)
+
+as-many : (c : tie.Else2) → length (c .before .before .before .before .before .before .before .before .args .marks .now) ≡ c .before .before .before .before .before .before .before .before .args .self .waiting
+as-many c = omega arith
+
+bad-record-requires : tie.Need-bad-record-requires
+bad-record-requires c κs = search needs
+
+returns : tie.Need-returns
+returns c = rw (table-of (c .before), ne-eqb _ _ (c .if1 .taken))
+
+cast-if2 : tie.Need-cast-if2
+cast-if2 c = search needs
+
+returns-2 : tie.Need-returns-2
+returns-2 c =
+    let a = c .before .before .before .before .before .before .before .before .args in
+    let unlike : length (a .marks .now) ≢ a .self .waiting = λ e. omega arith in
+    rw (table-of (c .before .before .before), eq-eqb _ _ (c .before .before .if1 .left), ne-eqb _ _ unlike)
+
+over-one-requires : tie.Need-over-one-requires
+over-one-requires c κs = search needs
+
+returns-3 : tie.Need-returns-3
+returns-3 c =
+    let many = as-many (c .before .before) in
+    rw (table-of (c .before .before .before .before .before), eq-eqb _ _ (c .before .before .before .before .if1 .left), eq-eqb _ _ many, ← c .before .over-one .ensures, c .if3 .taken)
+
+returns-4 : tie.Need-returns-4
+returns-4 c =
+    let many = as-many (c .before .before) in
+    rw (table-of (c .before .before .before .before .before), eq-eqb _ _ (c .before .before .before .before .if1 .left), eq-eqb _ _ many, ← c .before .over-one .ensures, c .if3 .left)
+
+pub cut-number-spec : {M : Type 1} → statement M
+cut-number-spec =
+    tie.close
+    (tie.spec bad-record-requires returns cast-if2 returns-2 over-one-requires returns-3 returns-4)

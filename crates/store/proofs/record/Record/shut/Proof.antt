@@ -1,0 +1,29 @@
+-- `store::record::Record::shut` meets its contract.
+use borrow.Author.Needs.{needs}
+use Rattle.store.proofs.record.Record.shut.Statement.{statement}
+use Rattle.store.proofs.record.Record.shut.Tie as tie
+
+with-log-requires : tie.Need-with-log-requires
+with-log-requires c κs = search needs
+
+with-grouped-requires : tie.Need-with-grouped-requires
+with-grouped-requires c κs = search needs
+
+with-opened-requires : tie.Need-with-opened-requires
+with-opened-requires c κs = search needs
+
+with-mode-requires : tie.Need-with-mode-requires
+with-mode-requires c κs = search needs
+
+returns : tie.Need-returns
+returns c = rw (c .with-mode .ensures, c .before .with-opened .ensures, c .before .before .with-grouped .ensures, c .before .before .before .with-log .ensures)
+
+pub shut-spec : {M : Type 1} → statement M
+shut-spec =
+    tie.close
+    (tie.spec
+    with-log-requires
+    with-grouped-requires
+    with-opened-requires
+    with-mode-requires
+    returns)

@@ -1,0 +1,98 @@
+-- `store::record::Record::synced` meets its contract.
+use mathlib.Core.Path.{ap, refl, sym, _∙_}
+use mathlib.Core.Logic.{_≢_}
+use native.Mathlib.Omega.{arith}
+use borrow.Author.Tests.{eqb-false}
+use Rattle.store.specs.State.{State, Outcome, opened, down}
+use Rattle.store.specs.Held.{stateOf}
+use Rattle.store.proofs.Saves.{sync-none, sync-room, sync-dead, sync-on, sync-live}
+use borrow.Author.Needs.{needs}
+use Rattle.store.proofs.record.Record.synced.Statement.{statement}
+use Rattle.store.proofs.record.Record.synced.Tie as tie
+
+abbrev given : tie.Start → State
+given c = stateOf (c .args .self) (c .args .settled .now) (c .args .waiting .now) (c .args .work .now)
+
+live : (c : tie.Start) → c .args .self .mode ≢ down
+live c e = eqb-false opened down refl (sym (c .pre .1 .0 .0) ∙ e)
+
+-- what the apply left
+abbrev left : tie.After-emptied → State
+left c = stateOf (c .emptied .result) (c .emptied .last .1 .0) (c .emptied .last .1 .1 .0) (c .before .before .before .before .before .before .before .before .before .before .args .work .now)
+
+returns : tie.Need-returns
+returns c =
+    let a = c .before .before .before .before .before .args in
+    sync-none (stateOf (a .self) (a .settled .now) (a .waiting .now) (a .work .now)) (c .if1 .taken)
+
+add-if2 : tie.Need-add-if2
+add-if2 c = search needs
+
+appended-requires : tie.Need-appended-requires
+appended-requires c κs = search needs
+
+same-length : tie.Need-same-length
+same-length c = search needs
+
+same-length-2 : tie.Need-same-length-2
+same-length-2 c = search needs
+
+returns-2 : tie.Need-returns-2
+returns-2 c =
+    let k = c .before .before .before .before in
+    let a = k .before .before .before .before .before .before .before .before .before .before .args in
+    k .appended .ensures ∙ ap (λ (o : Outcome). o .state) (sync-room (stateOf (a .self) (a .settled .now) (a .waiting .now) (a .work .now)) (k .before .before .before .before .before .if1 .left) (k .before .before .before .if2 .taken))
+
+emptied-requires : tie.Need-emptied-requires
+emptied-requires c κs =
+    let start = c .before .before .before .before .before .before .before .before .before in
+    (start .pre .0, (omega arith, (start .pre .1 .1 .1 .0, (omega arith, omega arith))))
+
+same-length-3 : tie.Need-same-length-3
+same-length-3 c = search needs
+
+same-length-4 : tie.Need-same-length-4
+same-length-4 c = search needs
+
+returns-3 : tie.Need-returns-3
+returns-3 c =
+    let k = c .before .before .before .before .before .before in
+    sync-dead (given (k .before .before .before .before .before .before .before .before .before .before)) (k .before .before .before .before .before .if1 .left) (k .before .before .before .if2 .left) (live (k .before .before .before .before .before .before .before .before .before .before)) (left k) (k .emptied .ensures _) (c .if3 .taken)
+
+appended-requires-2 : tie.Need-appended-requires-2
+appended-requires-2 c κs =
+    let k = c .before .before .before .before .before .before .before .before in
+    let start = k .before .before .before .before .before .before .before .before .before .before in
+    let x = sync-on (given start) (k .before .before .before .before .before .if1 .left) (k .before .before .before .if2 .left) (live start) (left k) (k .emptied .ensures _) (c .before .before .if3 .left) in
+    (omega arith, (omega arith, (omega arith, (omega arith, omega arith))))
+
+same-length-5 : tie.Need-same-length-5
+same-length-5 c = search needs
+
+same-length-6 : tie.Need-same-length-6
+same-length-6 c = search needs
+
+returns-4 : tie.Need-returns-4
+returns-4 c =
+    let n = c .before .before .before .before in
+    let k = n .before .before .before .before .before .before .before .before .before in
+    sync-live (given (k .before .before .before .before .before .before .before .before .before .before)) (k .before .before .before .before .before .if1 .left) (k .before .before .before .if2 .left) (live (k .before .before .before .before .before .before .before .before .before .before)) (left k) (k .emptied .ensures _) (n .before .before .before .if3 .left) _ (n .appended2 .ensures)
+
+pub synced-spec : {M : Type 1} → statement M
+synced-spec =
+    tie.close
+    (tie.spec
+    returns
+    add-if2
+    appended-requires
+    same-length
+    same-length-2
+    returns-2
+    emptied-requires
+    same-length-3
+    same-length-4
+    returns-3
+    appended-requires-2
+    same-length-5
+    same-length-6
+    returns-4)

@@ -1,0 +1,66 @@
+// recover: a closed record is opened with the log that the card holds.
+use crate::record::DOWN;
+use crate::record::OPENED;
+use crate::record::Record;
+use crate::saved::Saved;
+use journal::checkpoint::fallback;
+use journal::choice::Choice;
+use journal::choice::choose;
+ghost use mathlib.Core.Path.{_≡_};
+ghost use mathlib.Core.List.{List};
+ghost use Prim.Native.Nat.{ℕ, _≤_, _<_};
+ghost use lib.ListN.{length};
+ghost use Rattle.card.specs.Card.{blocksIn};
+ghost use Rattle.journal.specs.Layout.{firstData};
+ghost use Rattle.store.specs.Held.{stateOf, outcomeOf};
+ghost use Rattle.store.specs.Causes.{waitingBytes};
+ghost use Rattle.store.specs.Saves.{recoverCall};
+ghost use Rattle.store.specs.Saves as Saves;
+ghost use Rattle.store.specs.Steps.{recovering};
+
+impl Record {
+    pub fn recover(self, settled: &mut [u8], waiting: &mut [u8], work: &[u8]) -> Saved
+        ensures { λ r. ⌜ outcomeOf (r .number) (r .orders) (r .rec) (now (settled .exit)) (now (waiting .exit)) (now (work .entry)) ≡ recoverCall (stateOf self (now (settled .entry)) (now (waiting .entry)) (now (work .entry))) ⌝ }
+    {
+        let number = self.bad_record(settled, waiting, work);
+        if number != 0 {
+            return self.refused(number);
+        }
+        if self.mode == DOWN {
+            return self.refused(4);
+        }
+        if self.mode == OPENED {
+            return self.refused(5);
+        }
+        let choice = choose(settled, self.blocks);
+        self.recovered(choice, settled, waiting)
+    }
+
+    // By the choice that was made.
+    fn recovered(self, choice: Choice, settled: &mut [u8], waiting: &mut [u8]) -> Saved
+        requires { ⌜ firstData < blocksIn (now settled) ⌝ }
+        requires { ⌜ self .waiting ≡ 0 ⌝ }
+        requires { ⌜ waitingBytes ≤ length (now waiting) ⌝ }
+        ensures { λ r. ⌜ ((k : List ℕ) → outcomeOf (r .number) (r .orders) (r .rec) (now (settled .exit)) (now (waiting .exit)) k ≡ recovering choice (stateOf self (now (settled .entry)) (now (waiting .entry)) k)) ⌝ }
+    {
+        match choice {
+            Choice::Whole(n, sum) => self.saved(self.reopened(n, sum)),
+            Choice::Fallback(p, sum) => {
+                let ordered = fallback(self.queue(), settled, waiting, self.blocks, p, sum);
+                self.saved(self.after(ordered, self.reopened(p, sum)))
+            }
+            Choice::Foreign => self.refused(8),
+            Choice::Neither => self.refused(9),
+        }
+    }
+
+    // The record of a recovery that took a list.
+    fn reopened(self, n: u32, sum: u64) -> Record
+        ensures { λ r. ⌜ r ≡ Saves.reopened n sum self ⌝ }
+    {
+        self.with_log(n, sum)
+            .with_grouped(0)
+            .with_opened(0)
+            .with_mode(OPENED)
+    }
+}

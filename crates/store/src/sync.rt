@@ -1,0 +1,83 @@
+// sync: the group becomes the end of the log.
+use crate::lists::GROUP;
+use crate::record::DOWN;
+use crate::record::Record;
+use crate::saved::Saved;
+use card::queue::Ordered;
+use journal::SLOTS;
+use journal::append::Group;
+use journal::append::Log;
+use journal::append::append;
+ghost use mathlib.Core.Path.{_≡_};
+ghost use Prim.Native.Nat.{ℕ, _+_, _≤_, _<_};
+ghost use lib.ListN.{length};
+ghost use Rattle.card.specs.Card.{blocksIn};
+ghost use Rattle.journal.specs.Layout.{slots, firstData};
+ghost use Rattle.journal.specs.Log.{slotAddress};
+ghost use Rattle.store.specs.State.{opened};
+ghost use Rattle.store.specs.Held.{stateOf, outcomeOf};
+ghost use Rattle.store.specs.Causes.{waitingBytes, workBytes};
+ghost use Rattle.store.specs.Saves.{syncing, syncCall};
+ghost use Rattle.store.specs.Steps.{appending};
+
+impl Record {
+    pub fn sync(self, settled: &mut [u8], waiting: &mut [u8], work: &[u8]) -> Saved
+        ensures { λ r. ⌜ outcomeOf (r .number) (r .orders) (r .rec) (now (settled .exit)) (now (waiting .exit)) (now (work .entry)) ≡ syncCall (stateOf self (now (settled .entry)) (now (waiting .entry)) (now (work .entry))) ⌝ }
+    {
+        let number = self.not_open(settled, waiting, work);
+        if number != 0 {
+            return self.refused(number);
+        }
+        self.saved(self.synced(settled, waiting, work))
+    }
+
+    // Its orders: none for an empty group; an apply first where the log has no room.
+    fn synced(self, settled: &mut [u8], waiting: &mut [u8], work: &[u8]) -> Record
+        requires { ⌜ firstData < blocksIn (now settled) ⌝ }
+        requires { ⌜ (self .mode ≡ opened) × (self .waiting ≡ 0) ⌝ }
+        requires { ⌜ (self .grouped ≤ slots) × (self .logged ≤ slots) ⌝ }
+        requires { ⌜ ((i : ℕ) → i < self .logged → slotAddress (now settled) i < blocksIn (now settled)) ⌝ }
+        requires { ⌜ (waitingBytes ≤ length (now waiting)) × (workBytes ≤ length (now work)) ⌝ }
+        ensures { λ r. ⌜ stateOf r (now (settled .exit)) (now (waiting .exit)) (now (work .entry)) ≡ syncing (stateOf self (now (settled .entry)) (now (waiting .entry)) (now (work .entry))) .state ⌝ }
+    {
+        if self.grouped == 0 {
+            return self;
+        }
+        if self.logged + self.grouped <= SLOTS {
+            return self.appended(settled, waiting, work);
+        }
+        let emptied = self.emptied(settled, waiting);
+        if emptied.mode == DOWN {
+            return emptied;
+        }
+        emptied.appended(settled, waiting, work)
+    }
+
+    // Its own part: the group behind the record's log.
+    fn appended(self, settled: &mut [u8], waiting: &mut [u8], work: &[u8]) -> Record
+        requires { ⌜ firstData < blocksIn (now settled) ⌝ }
+        requires { ⌜ self .logged + self .grouped ≤ slots ⌝ }
+        requires { ⌜ self .waiting ≡ 0 ⌝ }
+        requires { ⌜ waitingBytes ≤ length (now waiting) ⌝ }
+        requires { ⌜ workBytes ≤ length (now work) ⌝ }
+        ensures { λ r. ⌜ stateOf r (now (settled .exit)) (now (waiting .exit)) (now (work .entry)) ≡ appending (stateOf self (now (settled .entry)) (now (waiting .entry)) (now (work .entry))) .state ⌝ }
+    {
+        let log = Log {
+            blocks: self.blocks,
+            count: self.logged,
+            sum: self.sum,
+        };
+        let group = Group {
+            from: GROUP as u32,
+            count: self.grouped,
+        };
+        let a = append(self.queue(), settled, waiting, work, group, log);
+        let queue = a.queue;
+        let ordered = Ordered {
+            happened: a.done,
+            queue,
+        };
+        let done = self.with_log(self.logged + self.grouped, a.sum);
+        self.after(ordered, done.with_grouped(0))
+    }
+}
