@@ -13,7 +13,7 @@ use Rattle.cells.specs.Entry.{blockBytes, entryAt}
 use Rattle.card.specs.Card.{places, blocksIn}
 use Rattle.card.specs.Held.{Below}
 use Rattle.card.proofs.All.{All}
-use Rattle.journal.specs.Layout.{slots}
+use Rattle.journal.specs.Layout.{slots, mostBlocks}
 use Rattle.journal.specs.Log.{entries}
 use Rattle.journal.specs.Choice.{choose, choiceNumber}
 use Rattle.store.specs.State.{State, closed, opened, down}
@@ -21,7 +21,7 @@ use Rattle.store.specs.Lists.{openFrom, groupFrom, listed, listOf, find}
 use Rattle.store.specs.Request as Request
 use Rattle.store.specs.Request.{Request}
 use Rattle.store.specs.Causes as Causes
-use Rattle.store.specs.Causes.{mostBlocks, wrongSizes, wrongCounts, wrongWaiting, wrongLists, wrongRecord, wrongBlock, some, readsRecord, needsOpen, isRecover, isFound, Row, table, first, cause}
+use Rattle.store.specs.Causes.{wrongSizes, wrongCounts, wrongWaiting, wrongLists, wrongRecord, wrongBlock, some, readsRecord, needsOpen, isRecover, isFound, Row, table, first, cause}
 use Rattle.store.specs.Simple.{putAt}
 use Rattle.store.specs.Commit.{joined}
 use Rattle.store.proofs.Causes.{neither, SizeFacts, sizes-facts, counts-facts, waiting-facts, Passes, cause-passes as Causes·cause-passes}

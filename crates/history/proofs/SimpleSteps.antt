@@ -12,12 +12,12 @@ use Rattle.cells.specs.Entry.{Entry}
 use Rattle.card.specs.Card.{cut, queue}
 use Rattle.card.proofs.All.{All}
 use Rattle.card.proofs.Overlays.{overlay-agree}
-use Rattle.journal.specs.Layout.{slots, isData}
+use Rattle.journal.specs.Layout.{slots, isData, mostBlocks}
 use Rattle.store.specs.State.{State, Outcome, opened, withOpened, withGrouped, withQueue, withRecord, withWork}
 use Rattle.store.specs.Lists.{openFrom, groupFrom, listOf, find}
 use Rattle.store.specs.Request as Request
 use Rattle.store.specs.Request.{Request}
-use Rattle.store.specs.Causes.{mostBlocks, workBytes, wrongSizes, wrongCounts, wrongWaiting, wrongLists, needsOpen, cause}
+use Rattle.store.specs.Causes.{workBytes, wrongSizes, wrongCounts, wrongWaiting, wrongLists, needsOpen, cause}
 use Rattle.store.specs.Simple.{finished, powerCall, putAt, putCall, abandonCall}
 use Rattle.store.specs.Get.{newest, getPlace, bytesAt}
 use Rattle.store.specs.Commit.{Group, joined, commitCall}

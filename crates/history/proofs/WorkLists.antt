@@ -21,13 +21,13 @@ use Rattle.card.proofs.All.{All, all-left, all-right, all-map, all-upTo, upTo-a
 use Rattle.card.proofs.Runs.{Whole}
 use Rattle.journal.specs.declared.lookup.Found.{Found}
 use Rattle.journal.specs.declared.lookup.Found.the-variants.{At, Absent}
-use Rattle.journal.specs.Layout.{slots, slotAt, isData}
+use Rattle.journal.specs.Layout.{slots, slotAt, isData, mostBlocks}
 use Rattle.journal.specs.Log.{slotEntry, entries}
 use Rattle.journal.specs.Lookup.{lastOf, lastSlot}
 use Rattle.journal.proofs.Lookups.{foundIn, overlay-found}
 use Rattle.store.specs.State.{State, withOpened, withRecord, withWork}
 use Rattle.store.specs.Lists.{openFrom, groupFrom, listed, listOf, find}
-use Rattle.store.specs.Causes.{mostBlocks, workBytes, some, strays, straySlots, isFound, twice, newcomers}
+use Rattle.store.specs.Causes.{workBytes, some, strays, straySlots, isFound, twice, newcomers}
 use Rattle.store.specs.Simple.{putAt}
 use Rattle.store.specs.Get.{newest, bytesAt, openPlace, groupPlace, logPlace}
 use Rattle.store.specs.Commit.{Group, joinAt, join, joined}

@@ -25,6 +25,13 @@ firstData = slotAt slots
 abbrev pub isData : ℕ → ℕ → Bool
 isData N a = leb firstData a && ltb a N
 
+-- "the settled bytes, N blocks, 35 ≤ N ≤ 65,536": at least one data block
+abbrev pub leastBlocks : ℕ
+leastBlocks = firstData + 1
+
+abbrev pub mostBlocks : ℕ
+mostBlocks = 65536
+
 -- where a block starts, in bytes
 abbrev pub placeOf : ℕ → ℕ
 placeOf a = blockBytes * a

@@ -17,3 +17,8 @@ pub const SLOTS: u32 = 32;
 
 // Data blocks start behind the slots.
 pub const FIRST_DATA: u32 = 34;
+
+// The bounds of N.
+pub const LEAST: usize = 35;
+
+pub const MOST: usize = 65536;

@@ -11,12 +11,12 @@ use lib.ListN.{length, drop}
 use Rattle.cells.specs.Entry.{blockBytes, entryAt}
 use Rattle.card.specs.Card.{places, blocksIn}
 use Rattle.card.specs.Held.{Below}
-use Rattle.journal.specs.Layout.{slots, isData}
+use Rattle.journal.specs.Layout.{slots, isData, leastBlocks, mostBlocks}
 use Rattle.journal.specs.Log.{slotAddress}
 use Rattle.store.specs.State.{State, closed, opened, down}
 use Rattle.store.specs.Lists.{openFrom, groupFrom, listed, find}
 use Rattle.store.specs.Request.{Request, power, abandon}
-use Rattle.store.specs.Causes.{leastBlocks, mostBlocks, waitingBytes, workBytes, wrongSizes, wrongBlock, some, wrongCounts, wrongWaiting, isFound, wrongLists, wrongRecord, readsRecord, needsOpen, isRecover, strayAddress, full, unsound, wrongMarks, table, first, cause}
+use Rattle.store.specs.Causes.{waitingBytes, workBytes, wrongSizes, wrongBlock, some, wrongCounts, wrongWaiting, isFound, wrongLists, wrongRecord, readsRecord, needsOpen, isRecover, strayAddress, full, unsound, wrongMarks, table, first, cause}
 
 -- ---- a search of n places from the last one down, i of them left
 

@@ -8,7 +8,7 @@ use Rattle.cells.specs.Entry.{blockBytes, entryBytes, entryAt}
 use Rattle.card.specs.Card.{places, blocksIn}
 use Rattle.journal.specs.declared.lookup.Found.{Found}
 use Rattle.journal.specs.declared.lookup.Found.the-variants.{At, Absent}
-use Rattle.journal.specs.Layout.{slots, isData, firstData}
+use Rattle.journal.specs.Layout.{slots, isData, leastBlocks, mostBlocks}
 use Rattle.journal.specs.Log.{slotAddress}
 use Rattle.journal.specs.Choice.{choose, choiceNumber}
 use Rattle.store.specs.State.{State, closed, opened, down}
@@ -16,13 +16,6 @@ use Rattle.store.specs.Lists.{openFrom, groupFrom, listed, find}
 use Rattle.store.specs.Request.{Request, format, power, put, get, commit, abandon, sync, apply, recover, cut}
 
 -- ---- the sizes
-
--- "35 ≤ N ≤ 65,536"
-abbrev pub leastBlocks : ℕ
-leastBlocks = suc firstData
-
-abbrev pub mostBlocks : ℕ
-mostBlocks = 65536
 
 -- "34 places of 516 bytes (17,544 in all)"
 abbrev pub waitingBytes : ℕ

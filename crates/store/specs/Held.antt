@@ -6,11 +6,11 @@ use lib.ListN.{length}
 use Rattle.cells.specs.Entry.{blockBytes, entryBytes}
 use Rattle.fnv.specs.Fnv.{start}
 use Rattle.card.specs.Card.{blocksIn}
+use Rattle.journal.specs.Layout.{mostBlocks}
 use Rattle.store.specs.declared.place.Place.{Place}
 use Rattle.store.specs.declared.place.Place.the-variants.{Settled, Work, Nowhere}
 use Rattle.store.specs.declared.record.Record.{Record}
 use Rattle.store.specs.State.{State, Outcome, opened}
-use Rattle.store.specs.Causes.{mostBlocks}
 
 abbrev pub stateOf : Record → List ℕ → List ℕ → List ℕ → State
 stateOf r settled waiting work = record { rec = r; settled = settled; waiting = waiting; work = work }

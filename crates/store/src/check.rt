@@ -10,6 +10,8 @@ use crate::record::Record;
 use card::PLACES;
 use cells::BLOCK;
 use cells::entry;
+use journal::LEAST;
+use journal::MOST;
 use journal::SLOTS;
 use journal::log::is_data;
 use journal::log::slot_address;
@@ -26,11 +28,7 @@ ghost use Rattle.store.specs.Request as Request;
 ghost use Rattle.store.specs.Causes as Causes;
 ghost use Rattle.store.specs.Causes.{cause, workBytes};
 
-// The bounds of N, and the lengths of the waiting bytes and of work memory.
-const LEAST: usize = 35;
-
-const MOST: usize = 65536;
-
+// The lengths of the waiting bytes and of work memory.
 const WAITING_BYTES: usize = 17544;
 
 const WORK_BYTES: usize = 33024;

@@ -1,0 +1,4 @@
+-- The laws of reading a card that those above cite.
+pub mod Readings
+pub mod Sums
+pub mod Comparisons

@@ -1,0 +1,77 @@
+-- `inspect::alike::same_data` meets its contract. The invariant: the data blocks below i are equal exactly if all are.
+use Prim.Native.Nat.{_-_, _≤_}
+use mathlib.Core.Path.{_≡_, refl, ap₂, sym, _∙_}
+use native.Mathlib.Omega.{arith}
+use borrow.Author.Tests.{not-true, not-false}
+use Rattle.journal.specs.Layout.{firstData}
+use Rattle.inspect.specs.Reading.{dataBlocks, laid}
+use Rattle.inspect.specs.Alike.{sameBytes, sameData}
+use Rattle.inspect.proofs.Comparisons.{data-stop, data-on, data-over}
+use Rattle.inspect.proofs.alike.same_data.Statement.{statement}
+use Rattle.inspect.proofs.alike.same_data.Tie as tie
+
+abbrev Inv-loop : tie.InvT-loop
+Inv-loop a n b m blocks i₀ i =
+    (firstData ≤ i) × (i ≤ blocks) × (sameData (laid a n) (laid b m) (dataBlocks i) ≡ sameData (laid a n) (laid b m) (dataBlocks blocks))
+
+abbrev μ-loop : tie.MeasureT-loop
+μ-loop a n b m blocks i₀ i = i
+
+-- the two blocks that were compared
+compared : (c : tie.After-same-bytes Inv-loop μ-loop) → let l = c .before .before .before .before in let g = l .before .before .before .args in
+    c .same-bytes .result ≡ sameBytes (laid (g .a .now) (g .n) (l .loop .i - 1)) (laid (g .b .now) (g .m) (l .loop .i - 1))
+compared c = c .same-bytes .ensures ∙ ap₂ sameBytes (c .before .before .laid-block .ensures .0) (c .before .laid-block2 .ensures .0)
+
+loop-holds : tie.Need-loop-holds Inv-loop μ-loop
+loop-holds c = (omega arith, omega arith, refl)
+
+sub-i : tie.Need-sub-i Inv-loop μ-loop
+sub-i c = omega arith
+
+laid-block-requires : tie.Need-laid-block-requires Inv-loop μ-loop
+laid-block-requires c κs = omega arith
+
+laid-block-requires-2 : tie.Need-laid-block-requires-2 Inv-loop μ-loop
+laid-block-requires-2 c κs = omega arith
+
+same-bytes-requires : tie.Need-same-bytes-requires Inv-loop μ-loop
+same-bytes-requires c κs = c .before .laid-block .ensures .1 ∙ sym (c .laid-block2 .ensures .1)
+
+returns : tie.Need-returns Inv-loop μ-loop
+returns c =
+    let l = c .before .before .before .before .before in
+    let g = l .before .before .before .args in
+    let unlike = sym (compared (c .before)) ∙ not-true _ (c .if1 .taken) in
+    sym (data-stop (laid (g .a .now) (g .n)) (laid (g .b .now) (g .m)) (l .loop .i) (omega arith) unlike) ∙ l .loop .inv .2
+
+loop-less : tie.Need-loop-less Inv-loop μ-loop
+loop-less c = omega arith
+
+loop-again : tie.Need-loop-again Inv-loop μ-loop
+loop-again c =
+    let l = c .before .before .before .before .before in
+    let g = l .before .before .before .args in
+    let like = sym (compared (c .before)) ∙ not-false _ (c .if1 .left) in
+    (omega arith, omega arith, sym (data-on (laid (g .a .now) (g .n)) (laid (g .b .now) (g .m)) (l .loop .i) (omega arith) like) ∙ l .loop .inv .2)
+
+returns-2 : tie.Need-returns-2 Inv-loop μ-loop
+returns-2 c =
+    let l = c .before in
+    let g = l .before .before .before .args in
+    sym (data-over (laid (g .a .now) (g .n)) (laid (g .b .now) (g .m)) (l .loop .i) (omega arith)) ∙ l .loop .inv .2
+
+pub same-data-spec : {M : Type 1} → statement M
+same-data-spec =
+    tie.close
+    (tie.spec
+    Inv-loop
+    μ-loop
+    loop-holds
+    sub-i
+    laid-block-requires
+    laid-block-requires-2
+    same-bytes-requires
+    returns
+    loop-less
+    loop-again
+    returns-2)

@@ -1,0 +1,108 @@
+-- `inspect::reading::inspect` meets its contract.
+use mathlib.Core.Path.{_≡_, refl, sym, _∙_}
+use mathlib.Core.Bool.{false}
+use native.Mathlib.Omega.{arith}
+use borrow.Author.Needs.{needs}
+use lib.Dec.{lit<}
+use Rattle.journal.specs.declared.choice.Choice.{Choice}
+use Rattle.journal.specs.declared.choice.Choice.the-variants.{Whole, Fallback, Foreign, Neither}
+use Rattle.inspect.specs.Reading.{wrongSize, chosen}
+use Rattle.inspect.proofs.Readings.{right-size, wrong-refused, right-chosen, read-refused, read-accepted}
+use Rattle.inspect.proofs.reading.inspect.Statement.{statement}
+use Rattle.inspect.proofs.reading.inspect.Tie as tie
+
+-- the size is right, and the choice is that of the card
+right : (c : tie.Else1) → wrongSize (c .before .before .before .args .settled .now) ≡ false
+right c = sym (c .before .wrong-size .ensures) ∙ c .if1 .left
+
+chose : (c : tie.After-choose) (t : Choice) → c .choose .result ≡ t → chosen (c .before .before .before .before .args .settled .now) ≡ t
+chose c t e = sym (c .choose .ensures) ∙ e
+
+wrong-size-requires : tie.Need-wrong-size-requires
+wrong-size-requires c κs = search needs
+
+refused-requires : tie.Need-refused-requires
+refused-requires c κs = search needs
+
+returns : tie.Need-returns
+returns c =
+    let s = c .before .before .before .before .args .settled .now in
+    rw (c .refused .ensures) (read-refused s 1 (lit< tt) (wrong-refused s (sym (c .before .before .wrong-size .ensures) ∙ c .before .if1 .taken)))
+
+cast-blocks : tie.Need-cast-blocks
+cast-blocks c = let z = right-size (c .before .before .before .args .settled .now) (right c) in omega arith
+
+choose-requires : tie.Need-choose-requires
+choose-requires c κs = let z = right-size (c .before .before .before .args .settled .now) (right c) in omega arith
+
+enum-known-n : tie.Need-enum-known-n
+enum-known-n c = search needs
+
+accepted-requires : tie.Need-accepted-requires
+accepted-requires c κs = search needs
+
+enum-known-n-2 : tie.Need-enum-known-n-2
+enum-known-n-2 c = search needs
+
+accepted-requires-2 : tie.Need-accepted-requires-2
+accepted-requires-2 c κs = search needs
+
+enum-told : tie.Need-enum-told
+enum-told c = search needs
+
+refused-requires-2 : tie.Need-refused-requires-2
+refused-requires-2 c κs = search needs
+
+enum-told-2 : tie.Need-enum-told-2
+enum-told-2 c = search needs
+
+refused-requires-3 : tie.Need-refused-requires-3
+refused-requires-3 c κs = search needs
+
+returns-2 : tie.Need-returns-2
+returns-2 c =
+    let h = c .before .before .before .before in
+    let s = h .before .before .before .before .args .settled .now in
+    let g = c .before .before .n .given in
+    rw (c .accepted .ensures) (read-accepted s (Whole (g .0 .0) (g .0 .1 .0)) (g .0 .0) (right (h .before)) (chose h _ (g .1)) refl refl)
+
+returns-3 : tie.Need-returns-3
+returns-3 c =
+    let h = c .before .before .before .before in
+    let s = h .before .before .before .before .args .settled .now in
+    let g = c .before .before .n2 .given in
+    rw (c .accepted2 .ensures) (read-accepted s (Fallback (g .0 .0) (g .0 .1 .0)) (g .0 .0) (right (h .before)) (chose h _ (g .1)) refl refl)
+
+returns-4 : tie.Need-returns-4
+returns-4 c =
+    let h = c .before .before .before in
+    let s = h .before .before .before .before .args .settled .now in
+    rw (c .refused2 .ensures) (read-refused s 8 (lit< tt) (right-chosen s Foreign (right (h .before)) (chose h Foreign (c .before .enum-told .given .1))))
+
+returns-5 : tie.Need-returns-5
+returns-5 c =
+    let h = c .before .before .before in
+    let s = h .before .before .before .before .args .settled .now in
+    rw (c .refused3 .ensures) (read-refused s 9 (lit< tt) (right-chosen s Neither (right (h .before)) (chose h Neither (c .before .enum-told2 .given .1))))
+
+pub inspect-spec : {M : Type 1} → statement M
+inspect-spec =
+    tie.close
+    (tie.spec
+    wrong-size-requires
+    refused-requires
+    returns
+    cast-blocks
+    choose-requires
+    enum-known-n
+    accepted-requires
+    enum-known-n-2
+    accepted-requires-2
+    enum-told
+    refused-requires-2
+    enum-told-2
+    refused-requires-3
+    returns-2
+    returns-3
+    returns-4
+    returns-5)

@@ -1,0 +1,23 @@
+-- `inspect::reading::wrong_size` meets its contract.
+use native.Mathlib.Omega.{arith}
+use borrow.Author.Tests.{eq-eqb, ne-eqb, lt-ltb, le-ltb}
+use Rattle.card.specs.Card.{blocksIn}
+use Rattle.journal.specs.Layout.{leastBlocks}
+use Rattle.inspect.specs.Reading.{wrongSize}
+use Rattle.inspect.proofs.reading.wrong_size.Statement.{statement}
+use Rattle.inspect.proofs.reading.wrong_size.Tie as tie
+
+returns : tie.Need-returns
+unfolding wrongSize
+returns c = rw (ne-eqb _ _ (c .if1 .taken))
+
+returns-2 : tie.Need-returns-2
+unfolding wrongSize
+returns-2 c = rw (eq-eqb _ _ (c .before .if1 .left), lt-ltb (blocksIn (c .before .before .args .settled .now)) leastBlocks (omega arith))
+
+returns-3 : tie.Need-returns-3
+unfolding wrongSize
+returns-3 c = rw (eq-eqb _ _ (c .before .if1 .left), le-ltb (blocksIn (c .before .before .args .settled .now)) leastBlocks (omega arith))
+
+pub wrong-size-spec : {M : Type 1} → statement M
+wrong-size-spec = tie.close (tie.spec returns returns-2 returns-3)

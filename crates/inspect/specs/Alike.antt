@@ -1,0 +1,41 @@
+-- "alike, for two cards, the first one's refusal first: yes exactly if N and all data blocks so laid are equal."
+use Prim.Native.Nat.{ℕ, zero, suc, _+_}
+use mathlib.Core.Path.{_≡_}
+use mathlib.Core.Bool.{Bool, true, false, cond, _&&_}
+use mathlib.Core.List.{List, [], _∷_}
+use lib.Dec.{eqb}
+use Rattle.card.specs.Disk.{Disk}
+use Rattle.card.specs.Card.{blocksIn}
+use Rattle.journal.specs.Layout.{firstData, isData}
+use Rattle.inspect.specs.declared.answer.Alike.{Alike}
+use Rattle.inspect.specs.Reading.{inspection, laidOver, dataBlocks}
+
+-- two runs of bytes are equal
+unfoldable pub sameBytes : List ℕ → List ℕ → Bool
+sameBytes [] [] = true
+sameBytes [] (y ∷ ys) = false
+sameBytes (x ∷ xs) [] = false
+sameBytes (x ∷ xs) (y ∷ ys) = eqb x y && sameBytes xs ys
+
+-- the first k data blocks of two disks are equal
+unfoldable pub sameData : Disk → Disk → ℕ → Bool
+sameData c d zero = true
+sameData c d (suc k) = sameData c d k && sameBytes (c (firstData + k)) (d (firstData + k))
+
+-- "the first one's refusal first"
+abbrev pub refusal : List ℕ → List ℕ → ℕ
+refusal a b = cond (eqb (inspection a) 0) (inspection b) (inspection a)
+
+-- the refusal, or 0; and yes or no, which is no where a card is refused
+unfoldable pub alikeOf : List ℕ → List ℕ → Alike
+alikeOf a b = record {
+  number = refusal a b;
+  yes = eqb (refusal a b) 0 && eqb (blocksIn a) (blocksIn b) && sameData (laidOver a) (laidOver b) (dataBlocks (blocksIn a));
+}
+
+-- what a yes is to mean (proofs/Comparisons.antt): both cards are accepted, and "N and all data blocks so laid are equal"
+pub record Same (a b : List ℕ) : Type 0 where
+  pub first : inspection a ≡ 0
+  pub second : inspection b ≡ 0
+  pub blocks : blocksIn a ≡ blocksIn b
+  pub laid : (x : ℕ) → isData (blocksIn a) x ≡ true → laidOver a x ≡ laidOver b x

@@ -1,0 +1,37 @@
+-- "Two calls read settled bytes alone, choose the list as recover does, and refuse 1, 8, 9."
+use Prim.Native.Nat.{ℕ, _-_, _%_}
+use mathlib.Core.Bool.{Bool, cond, not, _||_}
+use mathlib.Core.List.{List}
+use lib.Dec.{eqb, ltb}
+use lib.ListN.{length}
+use Rattle.cells.specs.Entry.{blockBytes}
+use Rattle.card.specs.Disk.{Disk, overlay}
+use Rattle.card.specs.Card.{blocksIn, blockAt}
+use Rattle.journal.specs.declared.choice.Choice.{Choice}
+use Rattle.journal.specs.Layout.{firstData, leastBlocks, mostBlocks}
+use Rattle.journal.specs.Log.{entries}
+use Rattle.journal.specs.Choice.{choose, choiceNumber, takenCount}
+
+-- 1: "a lent buffer's length is wrong, N out of bounds"
+unfoldable pub wrongSize : List ℕ → Bool
+wrongSize s = not (eqb (length s % blockBytes) 0) || ltb (blocksIn s) leastBlocks || ltb mostBlocks (blocksIn s)
+
+-- "choose the list as recover does": N is that of the settled bytes
+abbrev pub chosen : List ℕ → Choice
+chosen s = choose (blocksIn s) s
+
+-- "refuse 1, 8, 9": 0 for none of them
+unfoldable pub inspection : List ℕ → ℕ
+inspection s = cond (wrongSize s) 1 (choiceNumber (chosen s))
+
+-- the first n entries of the log laid over the home blocks
+abbrev pub laid : List ℕ → ℕ → Disk
+laid s n = overlay (entries s n) (blockAt s)
+
+-- "after the log is laid over": the list that was chosen
+abbrev pub laidOver : List ℕ → Disk
+laidOver s = laid s (takenCount (chosen s))
+
+-- "Data blocks are addresses 34 to N−1": how many
+abbrev pub dataBlocks : ℕ → ℕ
+dataBlocks N = N - firstData

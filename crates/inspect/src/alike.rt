@@ -1,0 +1,76 @@
+// alike: whether two cards have the same N and the same data blocks, the log of each laid over.
+use crate::answer::Alike;
+use crate::reading::inspect;
+use crate::reading::laid_block;
+use journal::FIRST_DATA;
+ghost use mathlib.Core.Path.{_≡_};
+ghost use Prim.Native.Nat.{_≤_, _<_};
+ghost use lib.ListN.{length};
+ghost use Rattle.card.specs.Card.{blocksIn};
+ghost use Rattle.journal.specs.Layout.{slots, firstData};
+ghost use Rattle.inspect.specs.Reading.{dataBlocks, laid};
+ghost use Rattle.inspect.specs.Alike.{sameBytes, sameData, alikeOf};
+
+// Whether two blocks are equal.
+fn same_bytes(x: &[u8], y: &[u8]) -> bool
+    requires { ⌜ length (now x) ≡ length (now y) ⌝ }
+    ensures { λ r. ⌜ r ≡ sameBytes (now (x .entry)) (now (y .entry)) ⌝ }
+{
+    let mut i = 0;
+    while i < x.len() {
+        if x[i] != y[i] {
+            return false;
+        }
+        i += 1;
+    }
+    true
+}
+
+// Whether all data blocks of two cards of the same N are equal, n entries laid over the first and m over the second.
+fn same_data(a: &[u8], n: u32, b: &[u8], m: u32, blocks: u32) -> bool
+    requires { ⌜ firstData < blocks ⌝ }
+    requires { ⌜ blocks ≡ blocksIn (now a) ⌝ }
+    requires { ⌜ blocks ≡ blocksIn (now b) ⌝ }
+    requires { ⌜ n ≤ slots ⌝ }
+    requires { ⌜ m ≤ slots ⌝ }
+    ensures { λ r. ⌜ r ≡ sameData (laid (now (a .entry)) n) (laid (now (b .entry)) m) (dataBlocks blocks) ⌝ }
+{
+    let mut i = blocks;
+    while FIRST_DATA < i {
+        i -= 1;
+        if !same_bytes(laid_block(a, i, n), laid_block(b, i, m)) {
+            return false;
+        }
+    }
+    true
+}
+
+// Whether two cards are alike, or the refusal of the first one, else of the second.
+pub fn alike(a: &[u8], b: &[u8]) -> Alike
+    ensures { λ r. ⌜ r ≡ alikeOf (now (a .entry)) (now (b .entry)) ⌝ }
+{
+    let first = inspect(a);
+    if first.number != 0 {
+        return Alike {
+            number: first.number,
+            yes: false,
+        };
+    }
+    let second = inspect(b);
+    if second.number != 0 {
+        return Alike {
+            number: second.number,
+            yes: false,
+        };
+    }
+    if first.blocks != second.blocks {
+        return Alike {
+            number: 0,
+            yes: false,
+        };
+    }
+    Alike {
+        number: 0,
+        yes: same_data(a, first.count, b, second.count, first.blocks),
+    }
+}

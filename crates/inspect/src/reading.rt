@@ -1,0 +1,90 @@
+// A card as recover would find it: its size, the list chosen, and each block with that list laid over.
+use card::settled::read;
+use cells::BLOCK;
+use journal::LEAST;
+use journal::MOST;
+use journal::choice::Choice;
+use journal::choice::choose;
+use journal::log::slot_block;
+use journal::lookup::Found;
+use journal::lookup::last_slot;
+ghost use mathlib.Core.Path.{_≡_};
+ghost use Prim.Native.Nat.{_≤_, _<_};
+ghost use lib.ListN.{length};
+ghost use Rattle.cells.specs.Entry.{blockBytes};
+ghost use Rattle.card.specs.Card.{blocksIn};
+ghost use Rattle.journal.specs.Layout.{slots, firstData};
+ghost use Rattle.inspect.specs.Reading.{wrongSize, laid};
+ghost use Rattle.inspect.specs.Held.{Read};
+
+// A card that was read: the refusal, or 0; and where it is 0, N and the count of the list taken.
+pub struct Reading {
+    pub number: u32,
+    pub blocks: u32,
+    pub count: u32,
+}
+
+// Whether the settled bytes are no whole blocks, too few or too many.
+fn wrong_size(settled: &[u8]) -> bool
+    ensures { λ r. ⌜ r ≡ wrongSize (now (settled .entry)) ⌝ }
+{
+    if settled.len() % BLOCK != 0 {
+        return true;
+    }
+    if settled.len() / BLOCK < LEAST {
+        return true;
+    }
+    MOST < settled.len() / BLOCK
+}
+
+// A card that is refused.
+fn refused(number: u32) -> Reading
+    ensures { λ r. ⌜ r ≡ record { number = number; blocks = 0; count = 0 } ⌝ }
+{
+    Reading {
+        number,
+        blocks: 0,
+        count: 0,
+    }
+}
+
+// A card that is taken.
+fn accepted(blocks: u32, count: u32) -> Reading
+    ensures { λ r. ⌜ r ≡ record { number = 0; blocks = blocks; count = count } ⌝ }
+{
+    Reading {
+        number: 0,
+        blocks,
+        count,
+    }
+}
+
+// Reads a card: 1 for its size, 8 or 9 where there is no list to take.
+pub(crate) fn inspect(settled: &[u8]) -> Reading
+    ensures { λ r. ⌜ Read (now (settled .entry)) r ⌝ }
+{
+    if wrong_size(settled) {
+        return refused(1);
+    }
+    let blocks = (settled.len() / BLOCK) as u32;
+    match choose(settled, blocks) {
+        Choice::Whole(n, _) => accepted(blocks, n),
+        Choice::Fallback(n, _) => accepted(blocks, n),
+        Choice::Foreign => refused(8),
+        Choice::Neither => refused(9),
+    }
+}
+
+// The block at an address with the first n entries laid over: the log's last slot with that address, else the home block.
+pub(crate) fn laid_block<'a>(settled: &'a [u8], a: u32, n: u32) -> &'a [u8]
+    requires { ⌜ firstData < blocksIn (now settled) ⌝ }
+    requires { ⌜ a < blocksIn (now settled) ⌝ }
+    requires { ⌜ n ≤ slots ⌝ }
+    ensures { λ r. ⌜ now r ≡ laid (now (settled .entry)) n a ⌝ }
+    ensures { λ r. ⌜ length (now r) ≡ blockBytes ⌝ }
+{
+    let Found::At(i) = last_slot(settled, a, n) else {
+        return read(settled, a);
+    };
+    slot_block(settled, i)
+}
