@@ -1,5 +1,5 @@
 // Drives format, power, put, get, commit and abandon through every cause that they can give. Writes a line for each call: its
-// name, its number, and what it left. The file stdout holds what document 01 says, from a model of its own.
+// name, its number, and what it left. The file stdout holds what the model of document 01 in tests/ comes to.
 mod addresses;
 mod lists;
 mod modes;
