@@ -1,6 +1,6 @@
-"""Document 01's first six calls on plain Python values, written from the paper and not from the code of the crates.
+"""Document 01's ten calls on plain Python values, written from the paper and not from the code of the crates.
 
-Buffers are bytearrays. A call returns its number and the record that it leaves.
+Buffers are bytearrays. A call returns its number and the record that it leaves; sync, apply and recover their orders between.
 """
 from dataclasses import dataclass, replace
 
@@ -22,8 +22,7 @@ class Record:
     sum: int = EMPTY_SUM
 
 
-def fnv(data):
-    h = EMPTY_SUM
+def fnv(data, h=EMPTY_SUM):
     for byte in data:
         h = (h ^ byte) * 1099511628211 % 2**64
     return h
@@ -51,6 +50,34 @@ def is_data(rec, address):
     return FIRST_DATA <= address <= rec.blocks - 1
 
 
+def home(settled, address):
+    return bytes(settled[BLOCK * address:BLOCK * (address + 1)])
+
+
+def log(settled, count):
+    """The first entries of the log, as pairs of address and block."""
+    return [(number(settled, BLOCK + 4 * i), home(settled, 2 + i)) for i in range(count)]
+
+
+def log_sum(log_entries, h=EMPTY_SUM):
+    for address, block in log_entries:
+        h = fnv(address.to_bytes(4, "little") + block, h)
+    return h
+
+
+def choice(rec, settled):
+    """What a recovery comes to: its number, the count and the sum of the list taken, and whether it falls back."""
+    version, blocks, previous, count = (number(settled, at) for at in (0, 4, 8, 12))
+    sums = [int.from_bytes(settled[at:at + 8], "little") for at in (16, 24)]
+    if version != 1 or blocks != rec.blocks or count > SLOTS or previous > count:
+        return 8, 0, 0, False
+    for taken, total, back in ((count, sums[1], False), (previous, sums[0], True)):
+        listed = log(settled, taken)
+        if log_sum(listed) == total and all(is_data(rec, a) for a, _ in listed):
+            return 0, taken, total, back
+    return 9, 0, 0, False
+
+
 def wrong_record(rec, settled, waiting, work):
     if rec.mode > DOWN or max(rec.opened, rec.grouped, rec.logged) > SLOTS or rec.waiting > 34:
         return True
@@ -68,7 +95,7 @@ def wrong_record(rec, settled, waiting, work):
     return len(set(opened)) < len(opened) or len(set(grouped)) < len(grouped)
 
 
-def cause(call, rec, settled, waiting, work, address=None, block=None):
+def cause(call, rec, settled, waiting, work, address=None, block=None, marks=None):
     """The first row of the table that applies, or 0."""
     if len(settled) % BLOCK or not 35 <= len(settled) // BLOCK <= 65536:
         return 1
@@ -80,6 +107,10 @@ def cause(call, rec, settled, waiting, work, address=None, block=None):
         return 2
     if call == "power":
         return 0
+    if call == "cut":
+        return 10 if len(marks) != rec.waiting or any(m > 1 for m in marks) else 0
+    if call == "recover":
+        return {OPEN: 5, DOWN: 4}.get(rec.mode) or choice(rec, settled)[0]
     if rec.mode != OPEN:
         return 3 if rec.mode == CLOSED else 4
     if call in ("put", "get") and not is_data(rec, address):
@@ -152,3 +183,104 @@ def get(rec, settled, waiting, work, address):
     if address in logged:
         return 0, 1, BLOCK * (2 + max(i for i, a in enumerate(logged) if a == address))
     return 0, 1, BLOCK * address
+
+
+class Orders:
+    """Orders to the card, while there is power."""
+
+    def __init__(self, rec, settled, waiting):
+        self.power, self.count, self.done, self.gone = rec.power, rec.waiting, 0, False
+        self.settled, self.waiting = settled, waiting
+
+    def happens(self):
+        self.gone = self.gone or self.power == 0
+        if not self.gone:
+            self.power -= 1
+            self.done += 1
+        return not self.gone
+
+    def write(self, address, block):
+        if self.happens():
+            at = ENTRY * self.count
+            self.waiting[at:at + ENTRY] = address.to_bytes(4, "little") + block
+            self.count += 1
+
+    def flush(self):
+        if self.happens():
+            settle(self.settled, self.waiting, [1] * self.count)
+            self.count = 0
+
+    def outcome(self, finished, short):
+        left = replace(replace(short, mode=DOWN) if self.gone else finished, waiting=self.count, power=self.power)
+        return (4 if self.gone else 0), self.done, left
+
+
+def settle(settled, waiting, marks):
+    for i, mark in enumerate(marks):
+        if mark:
+            at = BLOCK * number(waiting, ENTRY * i)
+            settled[at:at + BLOCK] = waiting[ENTRY * i + 4:ENTRY * (i + 1)]
+
+
+def header(rec, previous, count, previous_sum, count_sum):
+    numbers = b"".join(n.to_bytes(4, "little") for n in (1, rec.blocks, previous, count))
+    return (numbers + previous_sum.to_bytes(8, "little") + count_sum.to_bytes(8, "little")).ljust(BLOCK, b"\0")
+
+
+def checkpoint(rec, orders):
+    """The orders of an apply, and the record that they leave if all of them happen."""
+    for address, block in log(orders.settled, rec.logged):
+        orders.write(address, block)
+    orders.flush()
+    orders.write(0, header(rec, 0, 0, EMPTY_SUM, EMPTY_SUM))
+    orders.flush()
+    return replace(rec, logged=0, sum=EMPTY_SUM)
+
+
+def sync(rec, settled, waiting, work):
+    answer = cause("sync", rec, settled, waiting, work)
+    if answer or rec.grouped == 0:
+        return answer, 0, rec
+    orders, before = Orders(rec, settled, waiting), rec
+    if rec.logged + rec.grouped > SLOTS:
+        before = checkpoint(rec, orders)
+        if orders.gone:
+            return orders.outcome(before, rec)
+    group = [(number(work, ENTRY * (SLOTS + i)), bytes(work[ENTRY * (SLOTS + i) + 4:ENTRY * (SLOTS + i + 1)]))
+             for i in range(rec.grouped)]
+    count, total = before.logged + rec.grouped, log_sum(group, before.sum)
+    addresses = bytes(settled[BLOCK:BLOCK + 4 * before.logged]) + b"".join(a.to_bytes(4, "little") for a, _ in group)
+    for i, (_, block) in enumerate(group):
+        orders.write(2 + before.logged + i, block)
+    orders.write(1, addresses.ljust(BLOCK, b"\0"))
+    orders.write(0, header(rec, before.logged, count, before.sum, total))
+    orders.flush()
+    return orders.outcome(replace(before, logged=count, sum=total, grouped=0), before)
+
+
+def apply(rec, settled, waiting, work):
+    answer = cause("apply", rec, settled, waiting, work)
+    if answer or rec.logged == 0:
+        return answer, 0, rec
+    orders = Orders(rec, settled, waiting)
+    return orders.outcome(checkpoint(rec, orders), rec)
+
+
+def recover(rec, settled, waiting, work):
+    answer = cause("recover", rec, settled, waiting, work)
+    if answer:
+        return answer, 0, rec
+    _, count, total, back = choice(rec, settled)
+    orders = Orders(rec, settled, waiting)
+    if back:
+        orders.write(0, header(rec, count, count, total, total))
+        orders.flush()
+    return orders.outcome(replace(rec, mode=OPEN, opened=0, grouped=0, logged=count, sum=total), rec)
+
+
+def cut(rec, settled, waiting, work, marks):
+    answer = cause("cut", rec, settled, waiting, work, marks=marks)
+    if answer:
+        return answer, rec
+    settle(settled, waiting, marks)
+    return 0, Record(CLOSED, rec.blocks, power=rec.power)

@@ -21,6 +21,7 @@ pub mod Induct
 pub mod Served
 pub mod ReadsBack
 pub mod RefusalsProof
+pub mod Surfaces
 pub mod Fates
 pub mod Atomicity
 pub mod Theorems

@@ -37,7 +37,7 @@ use Rattle.store.specs.Simple.{refused, finished, unless, formatCall, powerCall
 use Rattle.store.specs.Commit.{commitCall}
 use Rattle.store.specs.Saves.{carried, groupOf, applies, innerOrders, syncCall, applyCall, recoverCall, cutCall}
 use Rattle.store.proofs.Causes.{sizes-facts}
-use Rattle.history.specs.Statements.{called, ordersOf, untouched, Answers, Refusals}
+use Rattle.history.specs.Refusals.{called, ordersOf, untouched, Answers}
 use Rattle.history.proofs.Batches.{batch, Fit, batch-short, batch-done, append-fit}
 use Rattle.history.proofs.WorkLists.{data-small, listOf-whole, entries-whole}
 use Rattle.history.proofs.CauseLaws.{idle, record-facts, cause-passes, IsOpen, cause-opened}
@@ -263,5 +263,5 @@ answers q st (gives done gone call opens groups batched) = record {
   two-suffice = recover-two st;
 }
 
-pub refusals : Refusals
-refusals q st = answers q st (form q st)
+pub calls : (q : Request) (st : State) → Answers q st
+calls q st = answers q st (form q st)

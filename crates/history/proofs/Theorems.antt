@@ -1,4 +1,4 @@
--- The theorems about histories. Their types stand in specs/Statements.antt.
+-- The theorems about histories. Their types stand in specs/Statements.antt and specs/Refusals.antt.
 use Prim.Native.Nat.{ℕ}
 use mathlib.Core.Path.{_≡_, refl, ap, sym, _∙_}
 use mathlib.Core.Logic.{_≢_, _⊎_}
@@ -13,7 +13,8 @@ use Rattle.history.specs.Call.{Call, recover, sync}
 use Rattle.history.specs.Plain.{Done, refusal, served}
 use Rattle.history.specs.Dispatch.{dispatch}
 use Rattle.history.specs.History.{World, begun, after, foundWritten}
-use Rattle.history.specs.Statements.{requestOf, Sound, Safety, Refinement, ReadBack, WrittenSummed, Logged, Written, CrashAtomicity, Refusals}
+use Rattle.history.specs.Statements.{requestOf, Sound, Safety, Refinement, ReadBack, WrittenSummed, Logged, Written, CrashAtomicity}
+use Rattle.history.specs.Refusals.{Refusals}
 use Rattle.history.proofs.CauseLaws.{cause-one, cause-two, cause-passes}
 use Rattle.history.proofs.Relation.{Safe}
 use Rattle.history.proofs.Steps.{same-cause, dispatch-refused, plain-served}
@@ -24,6 +25,7 @@ use Rattle.history.proofs.Served.{Either, served-answer}
 use Rattle.history.proofs.ReadsBack as ReadsBack
 use Rattle.history.proofs.Atomicity as Atomicity
 use Rattle.history.proofs.RefusalsProof as RefusalsProof
+use Rattle.history.proofs.Surfaces as Surfaces
 
 -- ---- Safety
 
@@ -119,4 +121,9 @@ crash-atomicity = Atomicity.crash-atomicity
 -- ---- Refusals
 
 pub refusals : Refusals
-refusals = RefusalsProof.refusals
+refusals = record {
+  calls = RefusalsProof.calls;
+  reads = Surfaces.reads;
+  faces = Surfaces.faces RefusalsProof.calls;
+  gets = Surfaces.gets;
+}

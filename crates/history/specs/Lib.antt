@@ -5,4 +5,5 @@ pub mod Dispatch
 pub mod Ledger
 pub mod History
 pub mod Statements
+pub mod Refusals
 pub mod Worked

@@ -5,26 +5,23 @@ use mathlib.Core.Path.{_≡_}
 use mathlib.Core.Logic.{_≢_, _⊎_}
 use mathlib.Core.Bool.{Bool, true, false, cond, not, _&&_}
 use mathlib.Core.List.{List, [], _∷_, _++_}
-use lib.Dec.{eqb, leb}
+use lib.Dec.{eqb}
 use lib.ListN.{length, getD, take}
 use Rattle.cells.specs.Entry.{Entry}
 use Rattle.fnv.specs.Fnv.{start}
 use Rattle.card.specs.Disk.{Disk, overlay}
-use Rattle.card.specs.Card.{Order, write, flush, blocksIn, blockAt}
+use Rattle.card.specs.Card.{blocksIn}
 use Rattle.journal.specs.Layout.{isData}
 use Rattle.journal.specs.Header.{header}
 use Rattle.journal.specs.Log.{headerOf, entries, sumOf}
-use Rattle.journal.specs.Orders.{applyOrders, syncOrders}
-use Rattle.journal.specs.Choice.{choose, recoverOrders}
 use Rattle.store.specs.Request as Request
-use Rattle.store.specs.State.{State, Outcome, opened, down}
-use Rattle.store.specs.Causes.{wrongSizes, wrongBlock, wrongRecord, cause}
-use Rattle.store.specs.Simple.{refused, formatCall, powerCall, putCall, abandonCall}
-use Rattle.store.specs.Commit.{commitCall}
-use Rattle.store.specs.Saves.{groupOf, syncCall, applyCall, recoverCall, cutCall}
+use Rattle.store.specs.State.{State, opened}
+use Rattle.store.specs.Causes.{wrongSizes, wrongBlock, wrongRecord}
+use Rattle.store.specs.Simple.{formatCall}
+use Rattle.store.specs.Saves.{groupOf}
 use Rattle.history.specs.Call.{Call, power, put, get, commit, abandon, sync, apply, recover, cut}
 use Rattle.history.specs.Plain.{plainStep, plainGet}
-use Rattle.history.specs.Dispatch.{dispatch, getCall, blockOf}
+use Rattle.history.specs.Dispatch.{dispatch, blockOf}
 use Rattle.history.specs.Ledger.{standing, inner, logFound, sameLog}
 use Rattle.history.specs.History.{World, begun, next, after, storeNext, foundWritten, acceptedCut}
 
@@ -231,56 +228,3 @@ CrashAtomicity =
     → dispatch recover (after b (after a (begun st)) .store) .answer ≡ 0
     → after b (after a (begun st)) .excepted ≡ false
     → Atomic st a b
-
--- ---- Refusals (demand 1): over the ten calls and any inputs whatever
-
-abbrev pub called : Request.Request → State → Outcome
-called Request.format st = formatCall st
-called (Request.power k) st = powerCall k st
-called (Request.put a b) st = putCall a b st
-called (Request.get a) st = getCall a st
-called Request.commit st = commitCall st
-called Request.abandon st = abandonCall st
-called Request.sync st = syncCall st
-called Request.apply st = applyCall st
-called Request.recover st = recoverCall st
-called (Request.cut ms) st = cutCall ms st
-
--- the orders of a call
-abbrev pub ordersOf : Request.Request → State → List Order
-ordersOf Request.format st = []
-ordersOf (Request.power k) st = []
-ordersOf (Request.put a b) st = []
-ordersOf (Request.get a) st = []
-ordersOf Request.commit st = []
-ordersOf Request.abandon st = []
-ordersOf Request.sync st = syncOrders (st .rec .blocks) (st .settled) (st .rec .logged) (st .rec .sum) (groupOf st)
-ordersOf Request.apply st = applyOrders (st .rec .blocks) (st .settled) (st .rec .logged)
-ordersOf Request.recover st = recoverOrders (st .rec .blocks) (choose (st .rec .blocks) (st .settled))
-ordersOf (Request.cut ms) st = []
-
--- no order writes to the block
-unfoldable pub untouched : ℕ → List Order → Bool
-untouched x [] = true
-untouched x (write e ∷ os) = not (eqb x (e .address)) && untouched x os
-untouched x (flush ∷ os) = untouched x os
-
--- "power gone in the call": 4, the power there was as orders, down; left are "group, open, and each block no order touched"
-pub record Gone (q : Request.Request) (st : State) : Type 0 where
-  pub answer : called q st .answer ≡ 4
-  pub orders : called q st .orders ≡ st .rec .power
-  pub down-now : called q st .state .rec .mode ≡ down
-  pub work : called q st .state .work ≡ st .work
-  pub open-count : called q st .state .rec .opened ≡ st .rec .opened
-  pub group-count : called q st .state .rec .grouped ≡ st .rec .grouped
-  pub blocks : (x : ℕ) → untouched x (ordersOf q st) ≡ true → blockAt (called q st .state .settled) x ≡ blockAt (st .settled) x
-
--- the answer is the number of the first row that applies, which leaves everything; 4 if an order is reached that can't happen; else 0
-pub record Answers (q : Request.Request) (st : State) : Type 0 where
-  pub refuses : cause q st ≢ 0 → called q st ≡ refused (cause q st) st
-  pub gone : cause q st ≡ 0 → leb (length (ordersOf q st)) (st .rec .power) ≡ false → Gone q st
-  pub serves : cause q st ≡ 0 → leb (length (ordersOf q st)) (st .rec .power) ≡ true → called q st .answer ≡ 0
-  pub two-suffice : recoverCall st .orders ≤ 2
-
-abbrev pub Refusals : Type 0
-Refusals = (q : Request.Request) (st : State) → Answers q st

@@ -1,0 +1,109 @@
+-- "The firmware is C: it passes the record as 36 lent bytes (seven 4-byte numbers in the order above, then the sum); another
+-- length is 1."
+use Prim.Native.Nat.{ℕ}
+use mathlib.Core.Bool.{cond}
+use mathlib.Core.List.{List, _++_}
+use lib.Dec.{eqb}
+use lib.ListN.{length, take, drop}
+use Rattle.cells.specs.Little.{le, num}
+use Rattle.store.specs.declared.place.Place.{Place}
+use Rattle.store.specs.declared.place.Place.the-variants.{Settled, Work, Nowhere}
+use Rattle.store.specs.declared.record.Record.{Record}
+use Rattle.store.specs.State.{State, Outcome}
+use Rattle.store.specs.Held.{stateOf}
+use Rattle.store.specs.Request.{get}
+use Rattle.store.specs.Causes.{cause}
+use Rattle.store.specs.Get.{getPlace}
+use Rattle.inspect.specs.declared.answer.Tally.{Tally}
+use Rattle.inspect.specs.Alike.{alikeOf}
+
+-- "36 lent bytes"
+abbrev pub recordBytes : ℕ
+recordBytes = 36
+
+-- "mode (0 closed, 1 open, 2 down), N, open count, group count, log count n, waiting count, power count, the log's sum"
+unfoldable pub encodeRecord : Record → List ℕ
+encodeRecord r =
+    le 4 (r .mode)
+    ++ (le 4 (r .blocks)
+    ++ (le 4 (r .opened)
+    ++ (le 4 (r .grouped)
+    ++ (le 4 (r .logged)
+    ++ (le 4 (r .waiting)
+    ++ (le 4 (r .power)
+    ++ le 8 (r .sum)))))))
+
+unfoldable pub decodeRecord : List ℕ → Record
+decodeRecord b = record {
+  mode = num (take 4 b);
+  blocks = num (take 4 (drop 4 b));
+  opened = num (take 4 (drop 8 b));
+  grouped = num (take 4 (drop 12 b));
+  logged = num (take 4 (drop 16 b));
+  waiting = num (take 4 (drop 20 b));
+  power = num (take 4 (drop 24 b));
+  sum = num (take 8 (drop 28 b));
+}
+
+-- what C sees after a call: the number, the orders (0 for a call that gives none), the record's bytes and every other lent byte
+pub record Face : Type 0 where
+  pub number : ℕ
+  pub orders : ℕ
+  pub rec : List ℕ
+  pub settled : List ℕ
+  pub waiting : List ℕ
+  pub work : List ℕ
+
+abbrev pub faceOf : ℕ → ℕ → List ℕ → List ℕ → List ℕ → List ℕ → Face
+faceOf n o r s w k = record { number = n; orders = o; rec = r; settled = s; waiting = w; work = k }
+
+-- the store's outcome, its record as bytes
+abbrev pub handed : Outcome → Face
+handed o = faceOf (o .answer) (o .orders) (encodeRecord (o .state .rec)) (o .state .settled) (o .state .waiting) (o .state .work)
+
+-- a call of the store on the record's bytes and the other lent bytes; "another length is 1", and leaves every byte
+unfoldable pub faced : (State → Outcome) → List ℕ → List ℕ → List ℕ → List ℕ → Face
+faced call r s w k = cond (eqb (length r) recordBytes) (handed (call (stateOf (decodeRecord r) s w k))) (faceOf 1 0 r s w k)
+
+-- ---- get: "handed out as a part of work memory or of the card". C is told the buffer and the byte in it where the part starts.
+
+abbrev pub bufferNumber : Place → ℕ
+bufferNumber (Settled o) = 1
+bufferNumber (Work o) = 2
+bufferNumber Nowhere = 0
+
+abbrev pub bufferOffset : Place → ℕ
+bufferOffset (Settled o) = o
+bufferOffset (Work o) = o
+bufferOffset Nowhere = 0
+
+pub record Got : Type 0 where
+  pub number : ℕ
+  pub buffer : ℕ
+  pub offset : ℕ
+
+abbrev pub gotOf : ℕ → ℕ → ℕ → Got
+gotOf n b o = record { number = n; buffer = b; offset = o }
+
+-- "its number comes from a question with the same inputs"
+abbrev pub gotIn : ℕ → State → Got
+gotIn a st = gotOf (cause (get a) st) (bufferNumber (getPlace a st)) (bufferOffset (getPlace a st))
+
+unfoldable pub got : ℕ → List ℕ → List ℕ → List ℕ → List ℕ → Got
+got a r s w k = cond (eqb (length r) recordBytes) (gotIn a (stateOf (decodeRecord r) s w k)) (gotOf 1 0 0)
+
+-- ---- "Two calls read settled bytes alone"
+
+abbrev pub tallied : ℕ → ℕ → Tally
+tallied n sum = record { number = n; sum = sum }
+
+-- alike: the number, and 1 for yes or 0
+pub record Compared : Type 0 where
+  pub number : ℕ
+  pub yes : ℕ
+
+abbrev pub comparedOf : ℕ → ℕ → Compared
+comparedOf n y = record { number = n; yes = y }
+
+unfoldable pub compared : List ℕ → List ℕ → Compared
+compared a b = comparedOf (alikeOf a b .number) (cond (alikeOf a b .yes) 1 0)

@@ -1,0 +1,5 @@
+// The store for C: the record as 36 lent bytes, a number for each call. include/trapcard.h declares these functions.
+pub mod calls;
+pub mod orders;
+pub mod reads;
+mod record;

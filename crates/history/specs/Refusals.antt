@@ -1,0 +1,112 @@
+-- Refusals (demand 1): over the ten calls, tally and alike, what C sees of them, and any inputs whatever.
+use Prim.Native.Nat.{ℕ, _≤_}
+use mathlib.Core.Path.{_≡_}
+use mathlib.Core.Logic.{_≢_, _⊎_}
+use mathlib.Core.Bool.{Bool, true, false, not, _&&_}
+use mathlib.Core.List.{List, [], _∷_}
+use lib.Dec.{eqb, leb}
+use lib.ListN.{length}
+use Rattle.cells.specs.Little.{Bytes}
+use Rattle.card.specs.Card.{Order, write, flush, blockAt}
+use Rattle.journal.specs.Orders.{applyOrders, syncOrders}
+use Rattle.journal.specs.Choice.{choose, choiceNumber, recoverOrders}
+use Rattle.store.specs.Request as Request
+use Rattle.store.specs.State.{State, Outcome, down}
+use Rattle.store.specs.Held.{stateOf}
+use Rattle.store.specs.Causes.{cause}
+use Rattle.store.specs.Simple.{refused, formatCall, powerCall, putCall, abandonCall}
+use Rattle.store.specs.Commit.{commitCall}
+use Rattle.store.specs.Saves.{groupOf, syncCall, applyCall, recoverCall, cutCall}
+use Rattle.inspect.specs.Reading.{wrongSize, chosen, inspection}
+use Rattle.inspect.specs.Tally.{tallyOf}
+use Rattle.firmware.specs.Face.{recordBytes, decodeRecord, faceOf, faced, gotOf, got, tallied, comparedOf, compared}
+use Rattle.history.specs.Dispatch.{getCall}
+
+-- ---- the ten calls
+
+abbrev pub called : Request.Request → State → Outcome
+called Request.format st = formatCall st
+called (Request.power k) st = powerCall k st
+called (Request.put a b) st = putCall a b st
+called (Request.get a) st = getCall a st
+called Request.commit st = commitCall st
+called Request.abandon st = abandonCall st
+called Request.sync st = syncCall st
+called Request.apply st = applyCall st
+called Request.recover st = recoverCall st
+called (Request.cut ms) st = cutCall ms st
+
+-- the orders of a call
+abbrev pub ordersOf : Request.Request → State → List Order
+ordersOf Request.format st = []
+ordersOf (Request.power k) st = []
+ordersOf (Request.put a b) st = []
+ordersOf (Request.get a) st = []
+ordersOf Request.commit st = []
+ordersOf Request.abandon st = []
+ordersOf Request.sync st = syncOrders (st .rec .blocks) (st .settled) (st .rec .logged) (st .rec .sum) (groupOf st)
+ordersOf Request.apply st = applyOrders (st .rec .blocks) (st .settled) (st .rec .logged)
+ordersOf Request.recover st = recoverOrders (st .rec .blocks) (choose (st .rec .blocks) (st .settled))
+ordersOf (Request.cut ms) st = []
+
+-- no order writes to the block
+unfoldable pub untouched : ℕ → List Order → Bool
+untouched x [] = true
+untouched x (write e ∷ os) = not (eqb x (e .address)) && untouched x os
+untouched x (flush ∷ os) = untouched x os
+
+-- "power gone in the call": 4, the power there was as orders, down; left are "group, open, and each block no order touched"
+pub record Gone (q : Request.Request) (st : State) : Type 0 where
+  pub answer : called q st .answer ≡ 4
+  pub orders : called q st .orders ≡ st .rec .power
+  pub down-now : called q st .state .rec .mode ≡ down
+  pub work : called q st .state .work ≡ st .work
+  pub open-count : called q st .state .rec .opened ≡ st .rec .opened
+  pub group-count : called q st .state .rec .grouped ≡ st .rec .grouped
+  pub blocks : (x : ℕ) → untouched x (ordersOf q st) ≡ true → blockAt (called q st .state .settled) x ≡ blockAt (st .settled) x
+
+-- the answer is the number of the first row that applies, which leaves everything; 4 if an order is reached that can't happen; else 0
+pub record Answers (q : Request.Request) (st : State) : Type 0 where
+  pub refuses : cause q st ≢ 0 → called q st ≡ refused (cause q st) st
+  pub gone : cause q st ≡ 0 → leb (length (ordersOf q st)) (st .rec .power) ≡ false → Gone q st
+  pub serves : cause q st ≡ 0 → leb (length (ordersOf q st)) (st .rec .power) ≡ true → called q st .answer ≡ 0
+  pub two-suffice : recoverCall st .orders ≤ 2
+
+-- ---- tally and alike: "refuse 1, 8, 9", and "the first one's refusal first"
+
+-- what makes a card refused: its size, then the choice of recover
+pub record Inspects (s : List ℕ) : Type 0 where
+  pub size : wrongSize s ≡ true → inspection s ≡ 1
+  pub unsound : wrongSize s ≡ false → inspection s ≡ choiceNumber (chosen s)
+  pub known : (inspection s ≢ 0) → (inspection s ≡ 1) ⊎ ((inspection s ≡ 8) ⊎ (inspection s ≡ 9))
+
+-- a refusal hands out no sum and no yes
+pub record Reads (a b : List ℕ) : Type 0 where
+  pub inspects : Inspects a
+  pub tally-refuses : inspection a ≢ 0 → tallyOf a ≡ tallied (inspection a) 0
+  pub tally-serves : inspection a ≡ 0 → tallyOf a .number ≡ 0
+  pub alike-first : inspection a ≢ 0 → compared a b ≡ comparedOf (inspection a) 0
+  pub alike-second : inspection a ≡ 0 → inspection b ≢ 0 → compared a b ≡ comparedOf (inspection b) 0
+  pub alike-serves : inspection a ≡ 0 → inspection b ≡ 0 → compared a b .number ≡ 0
+
+-- ---- what C sees: "another length is 1", which leaves every byte; else the number of the call, and a cause leaves every byte, those
+-- of the record too
+
+pub record Faces (q : Request.Request) (r s w k : List ℕ) : Type 0 where
+  pub size : length r ≢ recordBytes → faced (called q) r s w k ≡ faceOf 1 0 r s w k
+  pub answers : length r ≡ recordBytes → faced (called q) r s w k .number ≡ called q (stateOf (decodeRecord r) s w k) .answer
+  pub refuses : length r ≡ recordBytes → Bytes r → cause q (stateOf (decodeRecord r) s w k) ≢ 0
+      → faced (called q) r s w k ≡ faceOf (cause q (stateOf (decodeRecord r) s w k)) 0 r s w k
+
+-- a get that is refused hands out no place
+pub record Gets (a : ℕ) (r s w k : List ℕ) : Type 0 where
+  pub size : length r ≢ recordBytes → got a r s w k ≡ gotOf 1 0 0
+  pub refuses : length r ≡ recordBytes → cause (Request.get a) (stateOf (decodeRecord r) s w k) ≢ 0
+      → got a r s w k ≡ gotOf (cause (Request.get a) (stateOf (decodeRecord r) s w k)) 0 0
+  pub serves : length r ≡ recordBytes → cause (Request.get a) (stateOf (decodeRecord r) s w k) ≡ 0 → got a r s w k .number ≡ 0
+
+pub record Refusals : Type 0 where
+  pub calls : (q : Request.Request) (st : State) → Answers q st
+  pub reads : (a b : List ℕ) → Reads a b
+  pub faces : (q : Request.Request) (r s w k : List ℕ) → Faces q r s w k
+  pub gets : (a : ℕ) (r s w k : List ℕ) → Gets a r s w k

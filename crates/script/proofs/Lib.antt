@@ -1,0 +1,6 @@
+-- The laws of lines.
+pub mod Pieces
+pub mod Texts
+pub mod Transcripts
+pub mod Replies
+pub mod Sessions

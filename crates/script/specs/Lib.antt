@@ -1,0 +1,10 @@
+-- The script: lines, the commands that they say, and the lines that answer them.
+pub mod Fields
+pub mod Words
+pub mod Numbers
+pub mod Commands
+pub mod Answers
+pub mod Performs
+pub mod Transcript
+pub mod Steps
+pub mod Held

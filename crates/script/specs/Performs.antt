@@ -1,0 +1,79 @@
+-- What a line does to the store, and the numbers that answer it.
+use Prim.Native.Nat.{ℕ, _-_}
+use mathlib.Core.Bool.{cond}
+use mathlib.Core.List.{List, [], _∷_}
+use lib.Dec.{eqb}
+use lib.ListN.{length, drop, getD, replicate}
+use lib.Seq.{sets}
+use Rattle.cells.specs.Entry.{blockBytes}
+use Rattle.store.specs.State.{State, Outcome}
+use Rattle.store.specs.Request.{get}
+use Rattle.store.specs.Causes.{cause}
+use Rattle.store.specs.Simple.{formatCall, powerCall, putCall, abandonCall}
+use Rattle.store.specs.Get.{getPlace, bytesAt}
+use Rattle.store.specs.Commit.{commitCall}
+use Rattle.store.specs.Saves.{syncCall, applyCall, recoverCall, cutCall}
+use Rattle.script.specs.declared.command.Command.{Command}
+use Rattle.script.specs.declared.command.Command.the-variants.{Format, Power, Put, Get, Commit, Abandon, Sync, Apply, Recover, Cut, Bad}
+use Rattle.script.specs.Numbers.{zeroDigit}
+use Rattle.script.specs.Answers.{answerLine}
+
+-- the answer, the third number, and what is left
+pub record Reply : Type 0 where
+  pub answer : ℕ
+  pub third : ℕ
+  pub state : State
+
+-- "a third number: orders for sync, apply, recover"
+abbrev pub saved : Outcome → Reply
+saved o = record { answer = o .answer; third = o .orders; state = o .state }
+
+-- "first byte for a get whose answer is 0"
+abbrev pub got : ℕ → State → Reply
+got a st =
+    record {
+      answer = cause (get a) st;
+      third = cond (eqb (cause (get a) st) 0) (getD (bytesAt (getPlace a st) st) 0 0) 0;
+      state = st;
+    }
+
+-- "else 0"
+abbrev pub called : Outcome → Reply
+called o = record { answer = o .answer; third = 0; state = o .state }
+
+-- "a digit each"
+unfoldable pub values : List ℕ → List ℕ
+values [] = []
+values (b ∷ s) = (b - zeroDigit) ∷ values s
+
+-- a cut's marks, behind its word and a tab. A lacking field "gives no marks"
+abbrev pub marks : List ℕ → List ℕ
+marks line = values (drop 4 line)
+
+unfoldable pub perform : Command → List ℕ → State → Reply
+perform Format line st = called (formatCall st)
+perform (Power k) line st = called (powerCall k st)
+perform (Put a b) line st = called (putCall a (replicate blockBytes b) st)
+perform (Get a) line st = got a st
+perform Commit line st = called (commitCall st)
+perform Abandon line st = called (abandonCall st)
+perform Sync line st = saved (syncCall st)
+perform Apply line st = saved (applyCall st)
+perform Recover line st = saved (recoverCall st)
+perform Cut line st = called (cutCall (marks line) st)
+perform Bad line st = record { answer = 11; third = 0; state = st }
+
+-- the line that says so
+abbrev pub answered : Command → Reply → List ℕ
+answered c r = answerLine c (r .answer) (r .third)
+
+-- a command carried out: the length of the line that answers it, that line in the front of a buffer, and what is left
+pub record Execution : Type 0 where
+  pub length : ℕ
+  pub out : List ℕ
+  pub state : State
+
+unfoldable pub execute : Command → List ℕ → List ℕ → State → Execution
+execute c line out st =
+    let r = perform c line st in
+    record { length = length (answered c r); out = sets out 0 (answered c r); state = r .state }

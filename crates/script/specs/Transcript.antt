@@ -1,0 +1,44 @@
+-- The exact output for an input.
+use Prim.Native.Nat.{ℕ, _*_}
+use mathlib.Core.Bool.{cond}
+use mathlib.Core.List.{List, [], _∷_, _++_}
+use lib.Dec.{eqb}
+use lib.ListN.{replicate}
+use Rattle.cells.specs.Entry.{blockBytes}
+use Rattle.fnv.specs.Fnv.{start}
+use Rattle.store.specs.State.{State, closed}
+use Rattle.store.specs.Causes.{waitingBytes, workBytes}
+use Rattle.script.specs.Fields.{push}
+use Rattle.script.specs.Commands.{parse}
+use Rattle.script.specs.Answers.{lf}
+use Rattle.script.specs.Performs.{Reply, perform, answered}
+
+-- "each ended by LF, which the last may lack": nothing behind the last LF is no line
+unfoldable pub linesOf : List ℕ → List (List ℕ)
+linesOf [] = []
+linesOf (b ∷ s) = cond (eqb b lf) ([] ∷ linesOf s) (push b (linesOf s))
+
+-- what a line does
+abbrev pub reply : List ℕ → State → Reply
+reply l st = perform (parse l) l st
+
+-- and what it prints
+abbrev pub printed : List ℕ → State → List ℕ
+printed l st = answered (parse l) (reply l st)
+
+unfoldable pub said : List (List ℕ) → State → List ℕ
+said [] st = []
+said (l ∷ ls) st = printed l st ++ said ls (reply l st .state)
+
+-- "N = 64, starts closed with all bytes and counts 0 and the empty list's sum"
+unfoldable pub beginning : State
+beginning =
+    record {
+      rec = record { mode = closed; blocks = 64; opened = 0; grouped = 0; logged = 0; waiting = 0; power = 0; sum = start };
+      settled = replicate (blockBytes * 64) 0;
+      waiting = replicate waitingBytes 0;
+      work = replicate workBytes 0;
+    }
+
+unfoldable pub transcript : List ℕ → List ℕ
+transcript input = said (linesOf input) beginning

@@ -1,0 +1,103 @@
+/* Saves three blocks as one, loses power in that sync at every order with every set of kept writes, recovers, and checks that
+ * the three are found together: all old or all new. Prints a line for each order and a last line with the total. */
+#include <stdio.h>
+#include <stdlib.h>
+#include <string.h>
+
+#include "trapcard.h"
+
+#define N 64u
+#define SETTLED (N * TRAPCARD_BLOCK)
+
+struct card {
+    uint8_t record[TRAPCARD_RECORD], settled[SETTLED], waiting[TRAPCARD_WAITING], work[TRAPCARD_WORK];
+};
+
+#define CARD(c) (c)->record, sizeof (c)->record, (c)->settled, sizeof (c)->settled, (c)->waiting, sizeof (c)->waiting, (c)->work, sizeof (c)->work
+
+/* The catch count, the picture index and the camera state. */
+static const uint32_t addresses[3] = {34, 40, N - 1};
+
+static void must(uint32_t number, const char *call)
+{
+    if (number != TRAPCARD_DONE) {
+        printf("%s answered %u\n", call, number);
+        exit(1);
+    }
+}
+
+static void commit(struct card *c, uint8_t value)
+{
+    uint8_t block[TRAPCARD_BLOCK];
+    memset(block, value, sizeof block);
+    for (int i = 0; i < 3; i++)
+        must(trapcard_put(CARD(c), addresses[i], block, sizeof block), "put");
+    must(trapcard_commit(CARD(c)), "commit");
+}
+
+/* The value that all three blocks hold, or -1 if they differ or a block is not whole. */
+static int value(const struct card *c)
+{
+    int first = -1;
+    for (int i = 0; i < 3; i++) {
+        uint32_t buffer;
+        uint64_t offset;
+        must(trapcard_get(CARD(c), addresses[i], &buffer, &offset), "get");
+        const uint8_t *block = trapcard_block(c->settled, c->work, buffer, offset);
+        for (size_t k = 1; k < TRAPCARD_BLOCK; k++)
+            if (block[k] != block[0])
+                return -1;
+        if (i > 0 && block[0] != first)
+            return -1;
+        first = block[0];
+    }
+    return first;
+}
+
+/* Power for p orders, then a cut that keeps the writes of the set: 7 for old, 9 for new. */
+static int found(const struct card *start, uint32_t p, uint32_t set)
+{
+    static struct card c;
+    uint8_t marks[32];
+    uint32_t orders;
+    c = *start;
+    must(trapcard_power(CARD(&c), p), "power");
+    uint32_t answer = trapcard_sync(CARD(&c), &orders);
+    uint32_t waiting = c.record[20];
+    for (uint32_t i = 0; i < waiting; i++)
+        marks[i] = (uint8_t)(set >> i & 1u);
+    must(trapcard_cut(CARD(&c), marks, waiting), "cut");
+    must(trapcard_power(CARD(&c), 2), "power");
+    must(trapcard_recover(CARD(&c), &orders), "recover");
+    int v = value(&c);
+    if (answer == TRAPCARD_DONE && v != 9)
+        return -1;
+    return v;
+}
+
+int main(void)
+{
+    static struct card c;
+    uint32_t orders, cuts = 0, news = 0;
+    must(trapcard_format(CARD(&c)), "format");
+    commit(&c, 7);
+    must(trapcard_sync(CARD(&c), &orders), "sync");
+    commit(&c, 9);
+    for (uint32_t p = 0; p <= 6; p++) {
+        uint32_t waiting = p < 6 ? p : 0, old = 0, fresh = 0;
+        for (uint32_t set = 0; set < 1u << waiting; set++) {
+            int v = found(&c, p, set);
+            if (v != 7 && v != 9) {
+                printf("torn: power %u, kept %u\n", p, set);
+                return 1;
+            }
+            old += v == 7;
+            fresh += v == 9;
+        }
+        printf("power %u: %u old, %u new\n", p, old, fresh);
+        cuts += old + fresh;
+        news += fresh;
+    }
+    printf("%u cuts, %u new, every save whole\n", cuts, news);
+    return 0;
+}

@@ -1,0 +1,134 @@
+/* The card store of the moth trap.
+ *
+ * Every function returns the number of document 01: 0 for done, else the cause. A refused call leaves every byte as it was,
+ * but for TRAPCARD_POWER when the power ended in the call itself: then the orders carried out have happened, open and group
+ * stand, and the record is down until a cut and a recover.
+ *
+ * A buffer is a pointer and a length in bytes, of any alignment. A buffer that is const here is never written. The proofs
+ * assume of the caller: pointers that are not null, with true lengths, also where a length is 0; buffers that do not overlap
+ * where one of them is written (trapcard_alike may be given one card twice); and that nobody else writes them meanwhile.
+ * Out-parameters are set on every return, to 0 where there is nothing to say.
+ *
+ * The record is TRAPCARD_RECORD bytes: mode, N, open count, group count, log count, waiting count, power count, 4 bytes each,
+ * then the log's sum, 8 bytes; all little-endian. Another record length is TRAPCARD_SIZE in every call that takes one.
+ */
+#ifndef TRAPCARD_H
+#define TRAPCARD_H
+
+#include <stddef.h>
+#include <stdint.h>
+
+#ifdef __cplusplus
+extern "C" {
+#endif
+
+/* Sizes in bytes. The settled bytes are N blocks, TRAPCARD_LEAST to TRAPCARD_MOST of them. */
+#define TRAPCARD_BLOCK 512u
+#define TRAPCARD_RECORD 36u
+#define TRAPCARD_WAITING 17544u
+#define TRAPCARD_WORK 33024u
+#define TRAPCARD_LEAST 35u
+#define TRAPCARD_MOST 65536u
+
+/* The first data block; the last is N - 1. The most entries that open, group and log hold. */
+#define TRAPCARD_FIRST 34u
+#define TRAPCARD_SLOTS 32u
+
+/* Modes, the record's first number. */
+#define TRAPCARD_CLOSED 0u
+#define TRAPCARD_OPEN 1u
+#define TRAPCARD_DOWN 2u
+
+/* The numbers of document 01. */
+#define TRAPCARD_DONE 0u      /* done */
+#define TRAPCARD_SIZE 1u      /* a length is wrong, or N out of bounds */
+#define TRAPCARD_STATE 2u     /* the record does not fit the bytes */
+#define TRAPCARD_SHUT 3u      /* mode closed */
+#define TRAPCARD_POWER 4u     /* mode down, or power gone in the call */
+#define TRAPCARD_OPENED 5u    /* recover when open */
+#define TRAPCARD_ADDRESS 6u   /* not a data block */
+#define TRAPCARD_FULL 7u      /* over 32 entries in open or group */
+#define TRAPCARD_FOREIGN 8u   /* the header is not this card's */
+#define TRAPCARD_UNSOUND 9u   /* neither list is good */
+#define TRAPCARD_MARKS 10u    /* marks not as many as waiting, or a mark over 1 */
+
+/* The buffer in which trapcard_get found its block. */
+#define TRAPCARD_NOWHERE 0u
+#define TRAPCARD_IN_SETTLED 1u
+#define TRAPCARD_IN_WORK 2u
+
+/* Makes a fresh card: zeros everywhere, an empty log, the record open with power 1,000,000. Returns 0 or 1, and looks at
+ * nothing but lengths. Not safe against power loss: a card that was cut off while it was formatted is formatted again. */
+uint32_t trapcard_format(uint8_t *record, size_t record_len, uint8_t *settled, size_t settled_len, uint8_t *waiting,
+                         size_t waiting_len, uint8_t *work, size_t work_len);
+
+/* Sets the power count: how many orders to the card still happen. Returns 0, 1 or 2. Changes the record alone. */
+uint32_t trapcard_power(uint8_t *record, size_t record_len, const uint8_t *settled, size_t settled_len, const uint8_t *waiting,
+                        size_t waiting_len, const uint8_t *work, size_t work_len, uint32_t count);
+
+/* Puts a block of 512 bytes into the open transaction, in place of one with that address. Returns 0, 1 to 4, 6 or 7. Changes
+ * the record and work memory; nothing reaches the card, so a power loss forgets it. */
+uint32_t trapcard_put(uint8_t *record, size_t record_len, const uint8_t *settled, size_t settled_len, const uint8_t *waiting,
+                      size_t waiting_len, uint8_t *work, size_t work_len, uint32_t address, const uint8_t *block,
+                      size_t block_len);
+
+/* Finds the newest block at an address: of open, group, log or the home block. Returns 0, 1 to 4 or 6. Sets *buffer to
+ * TRAPCARD_IN_SETTLED or TRAPCARD_IN_WORK and *offset to the byte where its 512 bytes start there, or both to 0 when refused.
+ * Changes nothing; the place is good until the next call that writes that buffer. */
+uint32_t trapcard_get(const uint8_t *record, size_t record_len, const uint8_t *settled, size_t settled_len,
+                      const uint8_t *waiting, size_t waiting_len, const uint8_t *work, size_t work_len, uint32_t address,
+                      uint32_t *buffer, uint64_t *offset);
+
+/* Moves the open entries into the group, each in place of one with its address, and empties open. Returns 0, 1 to 4 or 7.
+ * Changes the record and work memory; a power loss forgets the group. */
+uint32_t trapcard_commit(uint8_t *record, size_t record_len, const uint8_t *settled, size_t settled_len,
+                         const uint8_t *waiting, size_t waiting_len, uint8_t *work, size_t work_len);
+
+/* Empties the open transaction. Returns 0 or 1 to 4. Changes the record alone. */
+uint32_t trapcard_abandon(uint8_t *record, size_t record_len, const uint8_t *settled, size_t settled_len,
+                          const uint8_t *waiting, size_t waiting_len, const uint8_t *work, size_t work_len);
+
+/* Saves the group as one: after 0 it is on the card, and every later recovery finds it. Returns 0 or 1 to 4. If power ends in
+ * the call, or at any moment before it returns, the next recovery finds all of the group or none of it. *orders: the orders
+ * carried out. */
+uint32_t trapcard_sync(uint8_t *record, size_t record_len, uint8_t *settled, size_t settled_len, uint8_t *waiting,
+                       size_t waiting_len, const uint8_t *work, size_t work_len, uint32_t *orders);
+
+/* Writes the log home and empties it. Returns 0 or 1 to 4. The disk that a recovery finds is the same before, after and
+ * wherever power ends in the call. *orders: the orders carried out. */
+uint32_t trapcard_apply(uint8_t *record, size_t record_len, uint8_t *settled, size_t settled_len, uint8_t *waiting,
+                        size_t waiting_len, const uint8_t *work, size_t work_len, uint32_t *orders);
+
+/* Opens a closed record on a card: the log written last if all of it is there, else the one before it. Returns 0, 1, 2, 4, 5,
+ * 8 or 9. Two orders suffice; if power ends in the call, recover again after the cut. *orders: the orders carried out. */
+uint32_t trapcard_recover(uint8_t *record, size_t record_len, uint8_t *settled, size_t settled_len, uint8_t *waiting,
+                          size_t waiting_len, const uint8_t *work, size_t work_len, uint32_t *orders);
+
+/* The power loss itself, for tests: one mark for each waiting write, oldest first, 1 kept or 0 lost. Kept writes settle, the
+ * queue is empty, the record closed. Returns 0, 1, 2 or 10. */
+uint32_t trapcard_cut(uint8_t *record, size_t record_len, uint8_t *settled, size_t settled_len, const uint8_t *waiting,
+                      size_t waiting_len, const uint8_t *work, size_t work_len, const uint8_t *marks, size_t marks_len);
+
+/* The sum of all data bytes after the log is laid over, from the settled bytes alone. Returns 0, 1, 8 or 9. Changes nothing. */
+uint32_t trapcard_tally(const uint8_t *settled, size_t settled_len, uint64_t *sum);
+
+/* Whether two cards have equal N and equal data blocks after each log is laid over: *yes is 1 or 0. Returns 0, 1, 8 or 9, the
+ * first card's refusal first. Changes nothing. */
+uint32_t trapcard_alike(const uint8_t *settled_a, size_t settled_a_len, const uint8_t *settled_b, size_t settled_b_len,
+                        uint32_t *yes);
+
+/* The 512 bytes at a place that trapcard_get gave, or a null pointer for TRAPCARD_NOWHERE. */
+static inline const uint8_t *trapcard_block(const uint8_t *settled, const uint8_t *work, uint32_t buffer, uint64_t offset)
+{
+    if (buffer == TRAPCARD_IN_SETTLED)
+        return settled + offset;
+    if (buffer == TRAPCARD_IN_WORK)
+        return work + offset;
+    return NULL;
+}
+
+#ifdef __cplusplus
+}
+#endif
+
+#endif
