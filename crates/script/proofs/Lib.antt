@@ -4,3 +4,4 @@ pub mod Texts
 pub mod Transcripts
 pub mod Replies
 pub mod Sessions
+pub mod Cases

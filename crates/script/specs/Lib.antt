@@ -8,3 +8,4 @@ pub mod Performs
 pub mod Transcript
 pub mod Steps
 pub mod Held
+pub mod Cases

@@ -1,5 +1,5 @@
-// The script byte by byte. What is kept of a line lies in a lent buffer of 81 bytes with its count by value: a part of it is
-// lent on as the line, which a part of an array in a struct could not be.
+// The script byte by byte. What is kept of a line lies in a lent buffer of 81 bytes, and its count goes by value: so the line
+// is lent on as a part of that buffer, and no step copies it.
 use crate::command::LINE;
 use crate::command::parse;
 use crate::execute::execute;

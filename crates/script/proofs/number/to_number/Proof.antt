@@ -15,28 +15,42 @@ returns c = let h : length (c .before .before .args .s .now) < 1 = omega arith i
 
 returns-2 : tie.Need-returns-2
 unfolding numberOf
-returns-2 c = let h : 1 ≤ length (c .before .before .before .args .s .now) = omega arith in (rw (le-leb _ _ h, lt-leb _ _ (c .if2 .taken)), tt)
+returns-2 c =
+    let h : 1 ≤ length (c .before .before .before .args .s .now) = omega arith in
+    let k : 10 < length (c .before .before .before .args .s .now) = omega arith in
+    (rw (le-leb _ _ h, lt-leb _ _ k), tt)
 
 all-digits-requires : tie.Need-all-digits-requires
 all-digits-requires c κs = search needs
 
 returns-3 : tie.Need-returns-3
 unfolding numberOf
-returns-3 c = let h : 1 ≤ length (c .before .before .before .before .before .args .s .now) = omega arith in (rw (le-leb _ _ h, le-leb _ _ (c .before .before .if2 .left), sym (c .before .all-digits .ensures) ∙ not-true _ (c .if3 .taken)), tt)
+returns-3 c =
+    let h : 1 ≤ length (c .before .before .before .before .before .args .s .now) = omega arith in
+    let k : length (c .before .before .before .before .before .args .s .now) ≤ 10 = omega arith in
+    (rw (le-leb _ _ h, le-leb _ _ k, sym (c .before .all-digits .ensures) ∙ not-true _ (c .if3 .taken)), tt)
 
 value-requires : tie.Need-value-requires
-value-requires c κs = (c .before .before .if2 .left, sym (c .before .all-digits .ensures) ∙ not-false _ (c .if3 .left))
+value-requires c κs = (omega arith, sym (c .before .all-digits .ensures) ∙ not-false _ (c .if3 .left))
 
 returns-4 : tie.Need-returns-4
 unfolding numberOf
-returns-4 c = let h : 1 ≤ length (c .before .before .before .before .before .before .before .args .s .now) = omega arith in (rw (le-leb _ _ h, le-leb _ _ (c .before .before .before .before .if2 .left), sym (c .before .before .before .all-digits .ensures) ∙ not-false _ (c .before .before .if3 .left), ← c .before .value .ensures, lt-leb _ _ (c .if4 .taken)), tt)
+returns-4 c =
+    let h : 1 ≤ length (c .before .before .before .before .before .before .before .args .s .now) = omega arith in
+    let k : length (c .before .before .before .before .before .before .before .args .s .now) ≤ 10 = omega arith in
+    let over : c .before .before .before .before .before .before .before .args .most < c .before .value .result = omega arith in
+    (rw (le-leb _ _ h, le-leb _ _ k, sym (c .before .before .before .all-digits .ensures) ∙ not-false _ (c .before .before .if3 .left), ← c .before .value .ensures, lt-leb _ _ over), tt)
 
 cast-t8 : tie.Need-cast-t8
 cast-t8 c = search needs
 
 returns-5 : tie.Need-returns-5
 unfolding numberOf
-returns-5 c = let h : 1 ≤ length (c .before .before .before .before .before .before .before .args .s .now) = omega arith in (rw (le-leb _ _ h, le-leb _ _ (c .before .before .before .before .if2 .left), sym (c .before .before .before .all-digits .ensures) ∙ not-false _ (c .before .before .if3 .left), ← c .before .value .ensures, le-leb _ _ (c .if4 .left)), c .if4 .left)
+returns-5 c =
+    let h : 1 ≤ length (c .before .before .before .before .before .before .before .args .s .now) = omega arith in
+    let k : length (c .before .before .before .before .before .before .before .args .s .now) ≤ 10 = omega arith in
+    let most : c .before .value .result ≤ c .before .before .before .before .before .before .before .args .most = omega arith in
+    (rw (le-leb _ _ h, le-leb _ _ k, sym (c .before .before .before .all-digits .ensures) ∙ not-false _ (c .before .before .if3 .left), ← c .before .value .ensures, le-leb _ _ most), most)
 
 pub to-number-spec : {M : Type 1} → statement M
 to-number-spec =

@@ -8,7 +8,7 @@ use Rattle.script.proofs.session.keep.Tie as tie
 returns : tie.Need-returns
 returns c =
     let a = c .before .args in
-    (c .before .pre .0, keep-full (a .len) (a .byte) (a .line .now) (omega arith) (omega arith))
+    (omega arith, keep-full (a .len) (a .byte) (a .line .now) (omega arith) (omega arith))
 
 slice-write-line : tie.Need-slice-write-line
 slice-write-line c = search needs

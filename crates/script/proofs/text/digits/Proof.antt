@@ -33,7 +33,7 @@ loop-holds c =
 sub-i : tie.Need-sub-i Inv-loop μ-loop
 sub-i c =
     let l = c .before .loop in
-    let place = digits-place (l .i) (l .rest) (c .loop-test .taken) (l .inv .2) in
+    let place = digits-place (l .i) (l .rest) (omega arith) (l .inv .2) in
     omega arith
 
 cast-buffer-2 : tie.Need-cast-buffer-2 Inv-loop μ-loop
@@ -51,11 +51,11 @@ loop-less c = omega arith
 loop-again : tie.Need-loop-again Inv-loop μ-loop
 loop-again c =
     let l = c .before .loop in
-    let place = digits-place (l .i) (l .rest) (c .loop-test .taken) (l .inv .2) in (
+    let place = digits-place (l .i) (l .rest) (omega arith) (l .inv .2) in (
       omega arith,
       simp length-set (l .inv .1),
       digits-fewer (l .i) (l .rest) place (l .inv .2),
-      digits-turn (l .i) (l .rest) (l .buffer) place (c .loop-test .taken) (omega arith) ∙ l .inv .3,
+      digits-turn (l .i) (l .rest) (l .buffer) place (omega arith) (omega arith) ∙ l .inv .3,
     )
 
 same-length : tie.Need-same-length Inv-loop μ-loop
