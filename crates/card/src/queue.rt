@@ -25,6 +25,14 @@ pub struct Ordered {
     pub queue: Queue,
 }
 
+// The address of a waiting write.
+pub fn address(waiting: &[u8], i: usize) -> u32
+    requires { ⌜ entryBytes * i + entryBytes ≤ length (now waiting) ⌝ }
+    ensures { λ r. ⌜ r ≡ entryAt (now (waiting .entry)) i .address ⌝ }
+{
+    entry::address(waiting, i)
+}
+
 impl Queue {
     // An order at power 0 does not happen.
     fn refused(self) -> Ordered

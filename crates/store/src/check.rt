@@ -9,7 +9,6 @@ use crate::record::OPENED;
 use crate::record::Record;
 use card::PLACES;
 use cells::BLOCK;
-use cells::entry;
 use journal::LEAST;
 use journal::MOST;
 use journal::SLOTS;
@@ -124,7 +123,7 @@ impl Record {
         self.blocks as usize != settled.len() / BLOCK
     }
 
-    // Row 2: a waiting address not below N. It is the one place of this crate that reads waiting bytes, and it reads addresses.
+    // Row 2: a waiting address not below N.
     fn wrong_waiting(self, waiting: &[u8]) -> bool
         requires { ⌜ entryBytes * self .waiting ≤ length (now waiting) ⌝ }
         ensures { λ r. ⌜ ((s k : List ℕ) → r ≡ Causes.wrongWaiting (stateOf self s (now (waiting .entry)) k)) ⌝ }
@@ -132,7 +131,7 @@ impl Record {
         let mut i = self.waiting as usize;
         while 0 < i {
             i -= 1;
-            if self.blocks <= entry::address(waiting, i) {
+            if self.blocks <= card::queue::address(waiting, i) {
                 return true;
             }
         }
