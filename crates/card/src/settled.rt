@@ -1,4 +1,4 @@
-// The settled bytes: a block read where it lies; and, without orders, a block settled and all bytes wiped.
+// The settled bytes: a block read where it lies, or no bytes of them; and, without orders, a block settled and all bytes wiped.
 use cells::BLOCK;
 use cells::bytes::copy;
 use cells::bytes::zero;
@@ -17,6 +17,13 @@ pub fn read<'a>(settled: &'a [u8], address: u32) -> &'a [u8]
 {
     let at = BLOCK * (address as usize);
     &settled[at..at + BLOCK]
+}
+
+// The part of no bytes at the front.
+pub fn nothing<'a>(settled: &'a [u8]) -> &'a [u8]
+    ensures { λ r. ⌜ viewOf r ≡ partOf (settled .entry) 0 0 ⌝ }
+{
+    &settled[0..0]
 }
 
 // Settles one block, at no order: a part from the middle of the settled bytes is lent on to the copier.

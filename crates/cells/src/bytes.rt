@@ -1,6 +1,7 @@
-// Whole slices: the copier and the zero-fill.
+// Whole slices: the copier, the zero-fill and the comparison.
 ghost use mathlib.Core.Path.{_≡_};
 ghost use lib.ListN.{length, replicate};
+ghost use Rattle.cells.specs.Same as Same;
 
 // Copies src over dst, which is as long.
 pub fn copy(dst: &mut [u8], src: &[u8])
@@ -23,4 +24,21 @@ pub fn zero(s: &mut [u8])
         s[i] = 0;
         i += 1;
     }
+}
+
+// Whether a and b are the same bytes.
+pub fn same(a: &[u8], b: &[u8]) -> bool
+    ensures { λ r. ⌜ r ≡ Same.same (now (a .entry)) (now (b .entry)) ⌝ }
+{
+    if a.len() != b.len() {
+        return false;
+    }
+    let mut i = 0;
+    while i < a.len() {
+        if a[i] != b[i] {
+            return false;
+        }
+        i += 1;
+    }
+    true
 }

@@ -4,10 +4,10 @@ use mathlib.Core.Path.{_≡_, ap, sym, _∙_}
 use mathlib.Core.List.{List, _++_, append-nil}
 use native.Mathlib.Omega.{arith}
 use lib.ListN.{length, take, drop, length-append, length-drop, take-append-drop, drop-of-length-le}
-use lib.Seq.{sets, sets-eq, take-all, take-at, drop-drop, drop-append-add, length-take-le}
+use lib.Seq.{sets, sets-eq, take-all, drop-drop, length-take-le}
 use Rattle.cells.specs.Cell.Laws.{sets-append, bytes-take, bytes-drop}
 use Rattle.cells.specs.Little.{le, num, Bytes}
-use Rattle.cells.specs.Little.Laws.{length-le, num-le, le-num}
+use Rattle.cells.specs.Little.Laws.{length-le, le-num, front, next}
 use Rattle.store.specs.declared.record.Record.{Record}
 use Rattle.firmware.specs.Face.{recordBytes, encodeRecord, decodeRecord}
 
@@ -35,17 +35,6 @@ stored r b l =
     ∙ ap (λ (x : List ℕ). encodeRecord r ++ x) (drop-of-length-le b past) ∙ append-nil (encodeRecord r)
 
 -- ---- what is written is read
-
--- the number that stands in front
-front : (w v : ℕ) (rest : List ℕ) → v < 256 ^ w → num (take w (le w v ++ rest)) ≡ v
-front w v rest h = ap num (take-at (le w v) rest w (length-le w v)) ∙ num-le w v h
-
--- the number behind four more bytes
-next : (v at w : ℕ) (rest : List ℕ) {x : ℕ} → num (take w (drop at rest)) ≡ x → num (take w (drop (4 + at) (le 4 v ++ rest))) ≡ x
-next v at w rest e = ap (λ (l : List ℕ). num (take w l)) behind ∙ e
-  where
-    behind : drop (4 + at) (le 4 v ++ rest) ≡ drop at rest
-    behind = ap (λ (k : ℕ). drop (k + at) (le 4 v ++ rest)) (sym (length-le 4 v)) ∙ drop-append-add (le 4 v) rest at
 
 -- the numbers of a record fit their bytes
 pub record Fitting (r : Record) : Type 0 where
@@ -75,33 +64,33 @@ decode-encode r f = λ j. record {
     mode = front 4 (r .mode) _ (f .mode)
 
     blocks : num (take 4 (drop 4 (encodeRecord r))) ≡ r .blocks
-    blocks = next (r .mode) 0 4 _ (front 4 (r .blocks) _ (f .blocks))
+    blocks = next 4 (r .mode) 0 4 _ (front 4 (r .blocks) _ (f .blocks))
 
     opened : num (take 4 (drop 8 (encodeRecord r))) ≡ r .opened
-    opened = next (r .mode) 4 4 _ (next (r .blocks) 0 4 _ (front 4 (r .opened) _ (f .opened)))
+    opened = next 4 (r .mode) 4 4 _ (next 4 (r .blocks) 0 4 _ (front 4 (r .opened) _ (f .opened)))
 
     grouped : num (take 4 (drop 12 (encodeRecord r))) ≡ r .grouped
-    grouped = next (r .mode) 8 4 _ (next (r .blocks) 4 4 _ (next (r .opened) 0 4 _ (front 4 (r .grouped) _ (f .grouped))))
+    grouped = next 4 (r .mode) 8 4 _ (next 4 (r .blocks) 4 4 _ (next 4 (r .opened) 0 4 _ (front 4 (r .grouped) _ (f .grouped))))
 
     logged : num (take 4 (drop 16 (encodeRecord r))) ≡ r .logged
     logged =
-        next (r .mode) 12 4 _ (next (r .blocks) 8 4 _ (next (r .opened) 4 4 _ (next (r .grouped) 0 4 _
+        next 4 (r .mode) 12 4 _ (next 4 (r .blocks) 8 4 _ (next 4 (r .opened) 4 4 _ (next 4 (r .grouped) 0 4 _
         (front 4 (r .logged) _ (f .logged)))))
 
     waiting : num (take 4 (drop 20 (encodeRecord r))) ≡ r .waiting
     waiting =
-        next (r .mode) 16 4 _ (next (r .blocks) 12 4 _ (next (r .opened) 8 4 _ (next (r .grouped) 4 4 _
-        (next (r .logged) 0 4 _ (front 4 (r .waiting) _ (f .waiting))))))
+        next 4 (r .mode) 16 4 _ (next 4 (r .blocks) 12 4 _ (next 4 (r .opened) 8 4 _ (next 4 (r .grouped) 4 4 _
+        (next 4 (r .logged) 0 4 _ (front 4 (r .waiting) _ (f .waiting))))))
 
     power : num (take 4 (drop 24 (encodeRecord r))) ≡ r .power
     power =
-        next (r .mode) 20 4 _ (next (r .blocks) 16 4 _ (next (r .opened) 12 4 _ (next (r .grouped) 8 4 _
-        (next (r .logged) 4 4 _ (next (r .waiting) 0 4 _ (front 4 (r .power) _ (f .power)))))))
+        next 4 (r .mode) 20 4 _ (next 4 (r .blocks) 16 4 _ (next 4 (r .opened) 12 4 _ (next 4 (r .grouped) 8 4 _
+        (next 4 (r .logged) 4 4 _ (next 4 (r .waiting) 0 4 _ (front 4 (r .power) _ (f .power)))))))
 
     sum : num (take 8 (drop 28 (encodeRecord r))) ≡ r .sum
     sum =
-        next (r .mode) 24 8 _ (next (r .blocks) 20 8 _ (next (r .opened) 16 8 _ (next (r .grouped) 12 8 _
-        (next (r .logged) 8 8 _ (next (r .waiting) 4 8 _ (next (r .power) 0 8 _
+        next 4 (r .mode) 24 8 _ (next 4 (r .blocks) 20 8 _ (next 4 (r .opened) 16 8 _ (next 4 (r .grouped) 12 8 _
+        (next 4 (r .logged) 8 8 _ (next 4 (r .waiting) 4 8 _ (next 4 (r .power) 0 8 _
         (ap (λ (l : List ℕ). num (take 8 l)) (sym (append-nil (le 8 (r .sum)))) ∙ front 8 (r .sum) _ (f .sum))))))))
 
 -- ---- what is read is written back

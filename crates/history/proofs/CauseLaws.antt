@@ -1,7 +1,7 @@
 -- What checks 1 and 2 say in plain facts, and what `cause` comes to in a state that passes them.
 use Prim.Native.Nat.{ℕ, _%_, _^_, _≤_, _<_}
 use mathlib.Core.Path.{_≡_, refl, ap, sym}
-use mathlib.Core.Bool.{Bool, true, false, cond, not, _&&_, _||_, and-false, false≢true}
+use mathlib.Core.Bool.{Bool, true, false, cond, not, _&&_, _||_, and-false}
 use mathlib.Core.Logic.{_≢_}
 use mathlib.Core.List.{List, [], _∷_}
 use native.Mathlib.Omega.{arith}
@@ -13,9 +13,10 @@ use Rattle.cells.specs.Entry.{blockBytes, entryAt}
 use Rattle.card.specs.Card.{places, blocksIn}
 use Rattle.card.specs.Held.{Below}
 use Rattle.card.proofs.All.{All}
-use Rattle.journal.specs.Layout.{slots, mostBlocks}
+use Rattle.journal.specs.Layout.{slots, mostBlocks, wrongSize}
 use Rattle.journal.specs.Log.{entries}
 use Rattle.journal.specs.Choice.{choose, choiceNumber}
+use Rattle.journal.proofs.Logs.{neither, allData-all, all-allData}
 use Rattle.store.specs.State.{State, closed, opened, down}
 use Rattle.store.specs.Lists.{openFrom, groupFrom, listed, listOf, find}
 use Rattle.store.specs.Request as Request
@@ -24,17 +25,17 @@ use Rattle.store.specs.Causes as Causes
 use Rattle.store.specs.Causes.{wrongSizes, wrongCounts, wrongWaiting, wrongLists, wrongRecord, wrongBlock, some, readsRecord, needsOpen, isRecover, isFound, Row, table, first, cause}
 use Rattle.store.specs.Simple.{putAt}
 use Rattle.store.specs.Commit.{joined}
-use Rattle.store.proofs.Causes.{neither, SizeFacts, sizes-facts, counts-facts, waiting-facts, Passes, cause-passes as Causes·cause-passes}
+use Rattle.store.proofs.Causes.{other, SizeFacts, sizes-facts, counts-facts, waiting-facts, Passes, cause-passes as Causes·cause-passes}
 use Rattle.store.proofs.Places.{data-lt}
 use Rattle.history.specs.Call.{Call, power, put, get, commit, abandon, sync, apply, recover, cut}
 use Rattle.history.specs.Plain.{Plain, overOne, refusal}
 use Rattle.history.specs.Statements.{requestOf}
-use Rattle.history.proofs.WorkLists.{none-some, find-has, Distinct, twice-distinct, distinct-twice, Data, strays-all, all-strays, straySlots-all, all-straySlots, data-small, PutOpen, put-open, Merged, joined-group, newcomers-merge}
+use Rattle.history.proofs.WorkLists.{none-some, find-has, Distinct, twice-distinct, distinct-twice, Data, strays-all, all-strays, data-small, PutOpen, put-open, Merged, joined-group, newcomers-merge}
 
 -- ---- 1: the sizes
 
 pub facts-sizes : (st : State) → SizeFacts st → wrongSizes st ≡ false
-unfolding wrongSizes
+unfolding wrongSizes wrongSize
 facts-sizes st f =
     let whole : length (st .settled) % blockBytes ≡ 0 = omega arith in
     rw (eq-eqb _ _ whole, le-ltb _ _ (f .least), le-ltb _ _ (f .most), eq-eqb _ _ (f .waiting), eq-eqb _ _ (f .work))
@@ -60,11 +61,6 @@ pub record RecordFacts (st : State) : Type 0 where
   pub waiting-below : Below (st .rec .blocks) (st .waiting) (st .rec .waiting)
   pub lists : st .rec .mode ≡ opened → ListFacts st
 
--- two tests that do not both pass: where one does, the other fails
-other : (a b : Bool) → a && b ≡ false → a ≡ true → b ≡ false
-other true b e p = e
-other false b e p = absurd (false≢true p)
-
 pub lists-facts : (st : State) → wrongLists st ≡ false → ListFacts st
 unfolding wrongLists
 lists-facts st e =
@@ -75,7 +71,7 @@ lists-facts st e =
     record {
       open-data = strays-all (st .work) (st .rec .blocks) openFrom (st .rec .opened) (d .0);
       group-data = strays-all (st .work) (st .rec .blocks) groupFrom (st .rec .grouped) (d .1);
-      log-data = straySlots-all (st .settled) (st .rec .blocks) (st .rec .logged) (c .1);
+      log-data = allData-all (st .rec .blocks) (entries (st .settled) (st .rec .logged)) (not-false _ (c .1));
       open-distinct = twice-distinct (st .work) openFrom (st .rec .opened) (b .1);
       group-distinct = twice-distinct (st .work) groupFrom (st .rec .grouped) (a .1);
     }
@@ -86,7 +82,7 @@ facts-lists st f =
     rw (
       all-strays (st .work) (st .rec .blocks) openFrom (st .rec .opened) (f .open-data),
       all-strays (st .work) (st .rec .blocks) groupFrom (st .rec .grouped) (f .group-data),
-      all-straySlots (st .settled) (st .rec .blocks) (st .rec .logged) (f .log-data),
+      all-allData (st .rec .blocks) (entries (st .settled) (st .rec .logged)) (f .log-data),
       distinct-twice (st .work) openFrom (st .rec .opened) (f .open-distinct),
       distinct-twice (st .work) groupFrom (st .rec .grouped) (f .group-distinct),
     )

@@ -156,7 +156,8 @@ refused-at abandon w G place made h m = refl
 refused-at sync w G place made h m = refl
 refused-at apply w G place made h m = refl
 refused-at recover w G place made h m = refl
-refused-at (cut ms) w G place made h m = rw (refused-cut ms w h m)
+refused-at (cut ms) w G place made h m =
+    ap (λ (t : Bool). cond t (decided G (made && eqb (getD ms place 0) 1 && foundWritten (cut ms) w) (made && allOnes ms)) (cutShort G place made)) (refused-cut ms w h m)
 
 observe-refused : (c : Call) (w : World) (f : Fate) → refusal c (w .plain) ≢ 0 → WorldSim w → observe c w f ≡ f
 unfolding observe

@@ -16,12 +16,12 @@ use Rattle.card.specs.Card.{blockAt, blocksIn}
 use Rattle.journal.specs.Layout.{headerAt, isData}
 use Rattle.journal.specs.Header.{encode, emptyHeader}
 use Rattle.journal.proofs.Headers.{length-encode}
-use Rattle.journal.proofs.Logs.{sumOf-nil}
+use Rattle.journal.proofs.Logs.{neither, sumOf-nil}
 use Rattle.store.specs.Request as Request
 use Rattle.store.specs.State.{State, Outcome}
 use Rattle.store.specs.Causes.{cause}
 use Rattle.store.specs.Simple.{formatted, formatCall, finished, refused}
-use Rattle.store.proofs.Causes.{neither, SizeFacts, sizes-facts}
+use Rattle.store.proofs.Causes.{SizeFacts, sizes-facts}
 use Rattle.history.specs.Call.{Call, power, put, get, commit, abandon, sync, apply, recover, cut}
 use Rattle.history.specs.Plain.{fresh}
 use Rattle.history.specs.Dispatch.{dispatch}

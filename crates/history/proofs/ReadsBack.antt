@@ -18,11 +18,11 @@ use Rattle.journal.specs.declared.choice.Choice.{Choice}
 use Rattle.journal.specs.Log.{headerOf, entries, sumOf}
 use Rattle.journal.specs.Choice.{takenCount}
 use Rattle.journal.proofs.Choices.{both}
+use Rattle.journal.proofs.Logs.{neither}
 use Rattle.store.specs.Request as Request
 use Rattle.store.specs.State.{State, Outcome, closed, opened, withQueue, withRecord}
 use Rattle.store.specs.Causes.{cause}
 use Rattle.store.specs.Simple.{powerCall, finished}
-use Rattle.store.proofs.Causes.{neither}
 use Rattle.history.specs.Call.{Call, power, put, get, commit, abandon, sync, apply, recover, cut}
 use Rattle.history.specs.Plain.{Plain, Done, refusal, served, plainStep, plainSync, plainApply, plainRecover}
 use Rattle.history.specs.Dispatch.{dispatch}

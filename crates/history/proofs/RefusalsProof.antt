@@ -7,7 +7,7 @@ use mathlib.Core.Bool.{Bool, true, false, cond}
 use mathlib.Core.List.{List, [], _∷_, _++_, append-assoc, append-nil}
 use native.Mathlib.Omega.{arith}
 use native.Mathlib.Decide.{decLe}
-use borrow.Author.Tests.{eq-eqb, ne-eqb, eqb-true, eqb-false, leb-true, leb-false, not-true}
+use borrow.Author.Tests.{eqb-true, eqb-false, leb-true, leb-false, not-true}
 use lib.Dec.{eqb, leb, lit<}
 use lib.ListN.{length}
 use Rattle.cells.specs.Upto.Laws.{length-upTo}
@@ -36,6 +36,7 @@ use Rattle.store.specs.Causes.{waitingBytes, cause}
 use Rattle.store.specs.Simple.{refused, finished, unless, formatCall, powerCall, putCall, abandonCall}
 use Rattle.store.specs.Commit.{commitCall}
 use Rattle.store.specs.Saves.{carried, groupOf, applies, innerOrders, syncCall, applyCall, recoverCall, cutCall}
+use Rattle.store.proofs.Calls.{call-refused, call-done}
 use Rattle.store.proofs.Causes.{sizes-facts}
 use Rattle.history.specs.Refusals.{called, ordersOf, untouched, Answers}
 use Rattle.history.proofs.Batches.{batch, Fit, batch-short, batch-done, append-fit}
@@ -217,12 +218,6 @@ form (cut ms) st = quiet _ refl refl
 
 -- ---- the theorem
 
-unless-refused : (k : ℕ) (st : State) (o : Outcome) → k ≢ 0 → unless k st o ≡ refused k st
-unless-refused k st o h = rw (ne-eqb k 0 h)
-
-unless-done : (k : ℕ) (st : State) (o : Outcome) → k ≡ 0 → unless k st o ≡ o
-unless-done k st o h = rw (eq-eqb k 0 h)
-
 -- two orders suffice to recover
 recover-few : (N : ℕ) (c : Choice) → length (recoverOrders N c) ≤ 2
 recover-few N (Whole n h) = omega arith
@@ -239,15 +234,15 @@ recover-two st =
 
 answers : (q : Request) (st : State) → Form q st → Answers q st
 answers q st (quiet now call none) = record {
-  refuses = λ h. call ∙ unless-refused (cause q st) st (finished now) h;
+  refuses = λ h. call ∙ sym (call-refused (cause q st) _ st (finished now) refl h);
   gone = λ e h. absurd (omega (arith, leb-false (length (ordersOf q st)) (st .rec .power) h, ap length none));
-  serves = λ e h. ap (λ (o : Outcome). o .answer) (call ∙ unless-done (cause q st) st (finished now) e);
+  serves = λ e h. ap (λ (o : Outcome). o .answer) (call ∙ sym (call-done (cause q st) _ st (finished now) refl e));
   two-suffice = recover-two st;
 }
 answers q st (gives done gone call opens groups batched) = record {
-  refuses = λ h. call ∙ unless-refused (cause q st) st (carried (ordersOf q st) done gone st) h;
+  refuses = λ h. call ∙ sym (call-refused (cause q st) _ st (carried (ordersOf q st) done gone st) refl h);
   gone = λ e h.
-      let short = call ∙ unless-done (cause q st) st (carried (ordersOf q st) done gone st) e ∙ carried-short (ordersOf q st) done gone st (leb-false _ _ h) in
+      let short = call ∙ sym (call-done (cause q st) _ st (carried (ordersOf q st) done gone st) refl e) ∙ carried-short (ordersOf q st) done gone st (leb-false _ _ h) in
       record {
         answer = ap (λ (o : Outcome). o .answer) short;
         orders = ap (λ (o : Outcome). o .orders) short;
@@ -259,7 +254,7 @@ answers q st (gives done gone call opens groups batched) = record {
       };
   serves = λ e h.
       ap (λ (o : Outcome). o .answer)
-      (call ∙ unless-done (cause q st) st (carried (ordersOf q st) done gone st) e ∙ carried-done (ordersOf q st) done gone st (leb-true _ _ h));
+      (call ∙ sym (call-done (cause q st) _ st (carried (ordersOf q st) done gone st) refl e) ∙ carried-done (ordersOf q st) done gone st (leb-true _ _ h));
   two-suffice = recover-two st;
 }
 

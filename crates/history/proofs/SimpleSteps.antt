@@ -19,6 +19,7 @@ use Rattle.store.specs.Request as Request
 use Rattle.store.specs.Request.{Request}
 use Rattle.store.specs.Causes.{workBytes, wrongSizes, wrongCounts, wrongWaiting, wrongLists, needsOpen, cause}
 use Rattle.store.specs.Simple.{finished, powerCall, putAt, putCall, abandonCall}
+use Rattle.store.specs.declared.place.Place.{Place}
 use Rattle.store.specs.Get.{newest, getPlace, bytesAt}
 use Rattle.store.specs.Commit.{Group, joined, commitCall}
 use Rattle.store.proofs.Causes.{sizes-facts, Passes}
@@ -313,7 +314,8 @@ get-step a w m =
     (λ e.
     let q = cause-passes (Request.get a) st e in
     let o = is-open st l d m (Request.get a) refl q in
-    let b : blockOf a st ≡ plainGet a d = rw (eq-eqb _ 0 e) (newest-plain a st l d o (lists-in st l d m (o .mode)) (not-false _ (q .address))) in
+    let place : getPlace a st ≡ newest a st = rw (eq-eqb _ 0 e) in
+    let b : blockOf a st ≡ plainGet a d = ap (λ (p : Place). bytesAt p st) place ∙ newest-plain a st l d o (lists-in st l d m (o .mode)) (not-false _ (q .address)) in
     record {
       now = st;
       call = ap (λ (k : ℕ). record { answer = k; orders = 0; state = st }) e;

@@ -21,6 +21,7 @@ use Rattle.store.specs.Simple.{refused, powerCall, putCall, abandonCall}
 use Rattle.store.specs.Commit.{commitCall}
 use Rattle.store.specs.Saves.{syncCall, applyCall, recoverCall, cutCall}
 use Rattle.store.proofs.Causes.{sizes-facts}
+use Rattle.store.proofs.Calls.{call-refused}
 use Rattle.history.specs.Call.{Call, power, put, get, commit, abandon, sync, apply, recover, cut}
 use Rattle.history.specs.Plain.{Plain, Done, refusal, served, plainStep, plainGet}
 use Rattle.history.specs.Dispatch.{dispatch, blockOf}
@@ -129,15 +130,15 @@ same-cause st l d m c = cause-refusal st d (m .basics .sizes) (m .basics .counts
 
 pub dispatch-refused : (c : Call) (st : State) → cause (requestOf c) st ≢ 0 → dispatch c st ≡ refused (cause (requestOf c) st) st
 unfolding powerCall putCall commitCall abandonCall syncCall applyCall recoverCall cutCall
-dispatch-refused (power k) st h = rw (ne-eqb _ 0 h)
-dispatch-refused (put a b) st h = rw (ne-eqb _ 0 h)
+dispatch-refused (power k) st h = sym (call-refused _ _ st _ refl h)
+dispatch-refused (put a b) st h = sym (call-refused _ _ st _ refl h)
 dispatch-refused (get a) st h = refl
-dispatch-refused commit st h = rw (ne-eqb _ 0 h)
-dispatch-refused abandon st h = rw (ne-eqb _ 0 h)
-dispatch-refused sync st h = rw (ne-eqb _ 0 h)
-dispatch-refused apply st h = rw (ne-eqb _ 0 h)
-dispatch-refused recover st h = rw (ne-eqb _ 0 h)
-dispatch-refused (cut ms) st h = rw (ne-eqb _ 0 h)
+dispatch-refused commit st h = sym (call-refused _ _ st _ refl h)
+dispatch-refused abandon st h = sym (call-refused _ _ st _ refl h)
+dispatch-refused sync st h = sym (call-refused _ _ st _ refl h)
+dispatch-refused apply st h = sym (call-refused _ _ st _ refl h)
+dispatch-refused recover st h = sym (call-refused _ _ st _ refl h)
+dispatch-refused (cut ms) st h = sym (call-refused _ _ st _ refl h)
 
 -- no orders, no header
 pub noted-none : (hs : List Head) (l : Ledger) → noted hs 0 l ≡ l

@@ -7,13 +7,14 @@ use mathlib.Core.List.{List}
 use borrow.Author.Tests.{eq-eqb, ne-eqb}
 use Rattle.journal.specs.declared.choice.Choice.{Choice}
 use Rattle.journal.specs.declared.choice.Choice.the-variants.{Whole, Fallback, Foreign, Neither}
+use Rattle.journal.specs.Layout.{wrongSize}
 use Rattle.journal.specs.Choice.{choiceNumber}
 use Rattle.store.specs.State.{State}
 use Rattle.store.specs.Held.{stateOf}
 use Rattle.store.specs.Request as Request
 use Rattle.store.specs.Causes.{cause}
 use Rattle.store.specs.Get.{getPlace}
-use Rattle.inspect.specs.Reading.{wrongSize, chosen, inspection}
+use Rattle.inspect.specs.Reading.{chosen, inspection}
 use Rattle.inspect.specs.Tally.{tallyOf}
 use Rattle.inspect.specs.Alike.{alikeOf}
 use Rattle.firmware.specs.Face.{decodeRecord, faceOf, handed, gotOf, gotIn, compared}

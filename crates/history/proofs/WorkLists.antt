@@ -25,13 +25,14 @@ use Rattle.journal.specs.Layout.{slots, slotAt, isData, mostBlocks}
 use Rattle.journal.specs.Log.{slotEntry, entries}
 use Rattle.journal.specs.Lookup.{lastOf, lastSlot}
 use Rattle.journal.proofs.Lookups.{foundIn, overlay-found}
+use Rattle.journal.proofs.Logs.{neither}
 use Rattle.store.specs.State.{State, withOpened, withRecord, withWork}
 use Rattle.store.specs.Lists.{openFrom, groupFrom, listed, listOf, find}
-use Rattle.store.specs.Causes.{workBytes, some, strays, straySlots, isFound, twice, newcomers}
+use Rattle.store.specs.Causes.{workBytes, some, strays, isFound, twice, newcomers}
 use Rattle.store.specs.Simple.{putAt}
 use Rattle.store.specs.Get.{newest, bytesAt, openPlace, groupPlace, logPlace}
 use Rattle.store.specs.Commit.{Group, joinAt, join, joined}
-use Rattle.store.proofs.Causes.{neither, some-none}
+use Rattle.store.proofs.Causes.{some-none}
 use Rattle.store.proofs.Lookups.{last-at}
 use Rattle.store.proofs.Places.{data-lt}
 use Rattle.history.specs.Plain.{has, insert, merge}
@@ -117,25 +118,13 @@ distinct-twice work from (suc n) d =
 abbrev pub Data : ℕ → Entry → Type 0
 Data N e = isData N (e .address) ≡ true
 
-stray-all : (N : ℕ) (f : ℕ → Entry) (n : ℕ) → some (λ i. not (isData N (f i .address))) n ≡ false → All (Data N) (upTo f n)
-stray-all N f n e = all-upTo (Data N) f n (λ i h. not-false _ (some-none (λ j. not (isData N (f j .address))) n e i h))
-
-all-stray : (N : ℕ) (f : ℕ → Entry) (n : ℕ) → All (Data N) (upTo f n) → some (λ i. not (isData N (f i .address))) n ≡ false
-all-stray N f n p = none-some (λ i. not (isData N (f i .address))) n (λ i h. ap not (upTo-all (Data N) f n p i h))
-
 pub strays-all : (work : List ℕ) (N from n : ℕ) → strays work N from n ≡ false → All (Data N) (listOf work from n)
-strays-all work N from n e = stray-all N (listed work from) n e
+strays-all work N from n e =
+    all-upTo (Data N) (listed work from) n (λ i h. not-false _ (some-none (λ j. not (isData N (listed work from j .address))) n e i h))
 
 pub all-strays : (work : List ℕ) (N from n : ℕ) → All (Data N) (listOf work from n) → strays work N from n ≡ false
-all-strays work N from n p = all-stray N (listed work from) n p
-
-pub straySlots-all : (s : List ℕ) (N n : ℕ) → straySlots s N n ≡ false → All (Data N) (entries s n)
-unfolding slotEntry
-straySlots-all s N n e = stray-all N (slotEntry s) n e
-
-pub all-straySlots : (s : List ℕ) (N n : ℕ) → All (Data N) (entries s n) → straySlots s N n ≡ false
-unfolding slotEntry
-all-straySlots s N n p = all-stray N (slotEntry s) n p
+all-strays work N from n p =
+    none-some (λ i. not (isData N (listed work from i .address))) n (λ i h. ap not (upTo-all (Data N) (listed work from) n p i h))
 
 -- ---- an entry replaces the one of its address or joins at the end
 

@@ -15,7 +15,7 @@ use Rattle.card.specs.Disk.{Disk, lay, overlay}
 use Rattle.card.specs.Card.{blockAt, blocksIn}
 use Rattle.journal.specs.declared.lookup.Found.{Found}
 use Rattle.journal.specs.declared.lookup.Found.the-variants.{At, Absent}
-use Rattle.journal.specs.Layout.{descriptorAt, isData}
+use Rattle.journal.specs.Layout.{descriptorAt, isData, wrongSize}
 use Rattle.store.specs.Request as Request
 use Rattle.store.specs.declared.record.Record.{Record}
 use Rattle.store.specs.State.{State, Outcome, opened}
@@ -363,7 +363,7 @@ module _ (st : State) (f : formatCall st .answer ≡ 0) (size : blocksIn (st .se
 
 sized : (r : Record) (s q k : List ℕ) → length s ≡ 32768 → length q ≡ 17544 → length k ≡ 33024
     → (formatCall (record { rec = r; settled = s; waiting = q; work = k }) .answer ≡ 0) × (blocksIn s ≡ 64)
-unfolding formatCall wrongSizes
+unfolding formatCall wrongSizes wrongSize
 sized r s q k a b c = (rw (a, b, c), ap (λ (x : ℕ). x / blockBytes) a)
 
 naughts : ℕ → List ℕ

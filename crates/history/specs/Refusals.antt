@@ -8,6 +8,7 @@ use lib.Dec.{eqb, leb}
 use lib.ListN.{length}
 use Rattle.cells.specs.Little.{Bytes}
 use Rattle.card.specs.Card.{Order, write, flush, blockAt}
+use Rattle.journal.specs.Layout.{wrongSize}
 use Rattle.journal.specs.Orders.{applyOrders, syncOrders}
 use Rattle.journal.specs.Choice.{choose, choiceNumber, recoverOrders}
 use Rattle.store.specs.Request as Request
@@ -17,7 +18,7 @@ use Rattle.store.specs.Causes.{cause}
 use Rattle.store.specs.Simple.{refused, formatCall, powerCall, putCall, abandonCall}
 use Rattle.store.specs.Commit.{commitCall}
 use Rattle.store.specs.Saves.{groupOf, syncCall, applyCall, recoverCall, cutCall}
-use Rattle.inspect.specs.Reading.{wrongSize, chosen, inspection}
+use Rattle.inspect.specs.Reading.{chosen, inspection}
 use Rattle.inspect.specs.Tally.{tallyOf}
 use Rattle.firmware.specs.Face.{recordBytes, decodeRecord, faceOf, faced, gotOf, got, tallied, comparedOf, compared}
 use Rattle.history.specs.Dispatch.{getCall}

@@ -1,60 +1,38 @@
--- The laws of comparing: bytes from the front on, data blocks from the last one down; and what a yes means.
+-- The laws of comparing: data blocks from the last one down; and what a yes means.
 use Prim.Native.Nat.{ℕ, zero, suc, _+_, _-_, _≤_, _<_}
-use mathlib.Core.Path.{_≡_, refl, ap₂, sym, _∙_}
-use mathlib.Core.Bool.{Bool, true, false, cond, _&&_, and-true, and-false, false≢true}
+use mathlib.Core.Path.{_≡_, refl, sym, _∙_}
+use mathlib.Core.Bool.{Bool, true, false, cond, _&&_, and-true, and-false}
 use mathlib.Core.Logic.{_≢_, _↔_}
-use mathlib.Core.List.{List, [], _∷_}
+use mathlib.Core.List.{List}
 use native.Mathlib.Decide.{ℕ-discrete}
-use native.Mathlib.Numerals.{add-one}
 use native.Mathlib.Omega.{arith}
 use borrow.Author.Tests.{eq-eqb, ne-eqb, eqb-true, eqb-false}
 use lib.Dec.{eqb}
-use lib.ListN.{length, getD, drop, drop-of-length-le}
-use lib.Seq.{drop-cons}
+use Rattle.cells.specs.Same.{same}
+use Rattle.cells.specs.Same.Laws.{same-equal, same-self}
 use Rattle.card.specs.Disk.{Disk}
 use Rattle.card.specs.Card.{blocksIn}
 use Rattle.journal.specs.Layout.{firstData, isData}
 use Rattle.journal.proofs.Logs.{both, data-bounds, bounds-data}
 use Rattle.inspect.specs.declared.reading.Reading.{Reading}
 use Rattle.inspect.specs.Reading.{inspection, laid, laidOver, dataBlocks}
-use Rattle.inspect.specs.Alike.{sameBytes, sameData, refusal, alikeOf, Same}
+use Rattle.inspect.specs.Alike.{sameData, refusal, alikeOf, Same}
 use Rattle.inspect.proofs.Readings.{Taken}
-
--- ---- bytes, i of them passed
-
-module _ (x y : List ℕ) (size : length x ≡ length y) (i : ℕ) where
-  front : i < length x → sameBytes (drop i x) (drop i y) ≡ eqb (getD x i 0) (getD y i 0) && sameBytes (drop (i + 1) x) (drop (i + 1) y)
-  unfolding sameBytes
-  front h =
-      let k : i < length y = omega arith in
-      rw (drop-cons x i 0 h, drop-cons y i 0 k, add-one)
-
-  pub bytes-stop : i < length x → getD x i 0 ≢ getD y i 0 → sameBytes (drop i x) (drop i y) ≡ false
-  bytes-stop h e = front h ∙ rw (ne-eqb _ _ e)
-
-  pub bytes-on : i < length x → getD x i 0 ≡ getD y i 0 → sameBytes (drop i x) (drop i y) ≡ sameBytes (drop (i + 1) x) (drop (i + 1) y)
-  bytes-on h e = front h ∙ rw (eq-eqb _ _ e)
-
-  pub bytes-over : length x ≤ i → sameBytes (drop i x) (drop i y) ≡ true
-  unfolding sameBytes
-  bytes-over h =
-      let k : length y ≤ i = omega arith in
-      rw (drop-of-length-le x h, drop-of-length-le y k)
 
 -- ---- data blocks, those below a left
 
 module _ (c d : Disk) (a : ℕ) where
-  last : firstData < a → sameData c d (dataBlocks a) ≡ sameData c d (dataBlocks (a - 1)) && sameBytes (c (a - 1)) (d (a - 1))
+  last : firstData < a → sameData c d (dataBlocks a) ≡ sameData c d (dataBlocks (a - 1)) && same (c (a - 1)) (d (a - 1))
   unfolding sameData
   last h =
       let less : dataBlocks a ≡ suc (dataBlocks (a - 1)) = omega arith in
       let here : firstData + dataBlocks (a - 1) ≡ a - 1 = omega arith in
       rw (less, here)
 
-  pub data-stop : firstData < a → sameBytes (c (a - 1)) (d (a - 1)) ≡ false → sameData c d (dataBlocks a) ≡ false
+  pub data-stop : firstData < a → same (c (a - 1)) (d (a - 1)) ≡ false → sameData c d (dataBlocks a) ≡ false
   data-stop h e = last h ∙ rw (e, and-false)
 
-  pub data-on : firstData < a → sameBytes (c (a - 1)) (d (a - 1)) ≡ true → sameData c d (dataBlocks a) ≡ sameData c d (dataBlocks (a - 1))
+  pub data-on : firstData < a → same (c (a - 1)) (d (a - 1)) ≡ true → sameData c d (dataBlocks a) ≡ sameData c d (dataBlocks (a - 1))
   data-on h e = last h ∙ rw (e, and-true)
 
   pub data-over : a ≤ firstData → sameData c d (dataBlocks a) ≡ true
@@ -63,26 +41,12 @@ module _ (c d : Disk) (a : ℕ) where
 
 -- ---- what the tests mean
 
-same-equal : (x y : List ℕ) → sameBytes x y ≡ true → x ≡ y
-unfolding sameBytes
-same-equal [] [] e = refl
-same-equal [] (b ∷ y) e = absurd (false≢true e)
-same-equal (a ∷ x) [] e = absurd (false≢true e)
-same-equal (a ∷ x) (b ∷ y) e =
-    let p = both _ _ e in
-    ap₂ (λ (h : ℕ) (l : List ℕ). h ∷ l) (eqb-true a b (p .0)) (same-equal x y (p .1))
-
-same-self : (x : List ℕ) → sameBytes x x ≡ true
-unfolding sameBytes
-same-self [] = refl
-same-self (a ∷ x) = rw (eq-eqb a a refl) (same-self x)
-
 data-equal : (c d : Disk) (k : ℕ) → sameData c d k ≡ true → (i : ℕ) → i < k → c (firstData + i) ≡ d (firstData + i)
 unfolding sameData
 data-equal c d (suc k) e i h = go (ℕ-discrete i k) (data-equal c d k (both _ _ e .0) i)
   where
     go : Dec (i ≡ k) → (i < k → c (firstData + i) ≡ d (firstData + i)) → c (firstData + i) ≡ d (firstData + i)
-    go (yes p) below = rw p (same-equal (c (firstData + k)) (d (firstData + k)) (both (sameData c d k) (sameBytes (c (firstData + k)) (d (firstData + k))) e .1))
+    go (yes p) below = rw p (same-equal (c (firstData + k)) (d (firstData + k)) (both (sameData c d k) (same (c (firstData + k)) (d (firstData + k))) e .1))
     go (no p) below = below (omega arith)
 
 equal-data : (c d : Disk) (k : ℕ) → ((i : ℕ) → i < k → c (firstData + i) ≡ d (firstData + i)) → sameData c d k ≡ true

@@ -1,7 +1,7 @@
 -- The laws of a card that was read: its size, its refusal, its blocks.
 use Prim.Native.Nat.{ℕ, _%_, _≤_, _<_}
 use mathlib.Core.Path.{_≡_, refl, ap, sym, _∙_}
-use mathlib.Core.Bool.{Bool, true, false, cond, not, _||_, true≢false}
+use mathlib.Core.Bool.{Bool, true, false, cond, not, _||_}
 use mathlib.Core.List.{List}
 use native.Mathlib.Omega.{arith}
 use borrow.Author.Tests.{ltb-false}
@@ -11,20 +11,17 @@ use Rattle.cells.specs.Entry.{blockBytes}
 use Rattle.card.specs.Card.{blocksIn, blockAt}
 use Rattle.journal.specs.declared.choice.Choice.{Choice}
 use Rattle.journal.specs.declared.lookup.Found.the-variants.{At, Absent}
-use Rattle.journal.specs.Layout.{slots, firstData, slotAt, leastBlocks, mostBlocks}
+use Rattle.journal.specs.Layout.{slots, firstData, slotAt, leastBlocks, mostBlocks, wrongSize}
 use Rattle.journal.specs.Lookup.{lastSlot}
 use Rattle.journal.specs.Choice.{choiceNumber, takenCount}
 use Rattle.journal.proofs.Lookups.{overlay-slots}
 use Rattle.journal.proofs.Choices.{taken-count}
+use Rattle.journal.proofs.Logs.{neither}
 use Rattle.inspect.specs.declared.reading.Reading.{Reading}
-use Rattle.inspect.specs.Reading.{wrongSize, chosen, inspection, laid}
+use Rattle.inspect.specs.Reading.{chosen, inspection, laid}
 use Rattle.inspect.specs.Held.{Read}
 
 -- ---- the size
-
-neither : (a b : Bool) → a || b ≡ false → (a ≡ false) × (b ≡ false)
-neither true b e = absurd (true≢false e)
-neither false b e = (refl, e)
 
 -- a card whose N is within bounds
 pub record Sized (s : List ℕ) : Type 0 where

@@ -1,26 +1,20 @@
 -- "alike, for two cards, the first one's refusal first: yes exactly if N and all data blocks so laid are equal."
 use Prim.Native.Nat.{ℕ, zero, suc, _+_}
 use mathlib.Core.Path.{_≡_}
-use mathlib.Core.Bool.{Bool, true, false, cond, _&&_}
-use mathlib.Core.List.{List, [], _∷_}
+use mathlib.Core.Bool.{Bool, true, cond, _&&_}
+use mathlib.Core.List.{List}
 use lib.Dec.{eqb}
+use Rattle.cells.specs.Same.{same}
 use Rattle.card.specs.Disk.{Disk}
 use Rattle.card.specs.Card.{blocksIn}
 use Rattle.journal.specs.Layout.{firstData, isData}
 use Rattle.inspect.specs.declared.answer.Alike.{Alike}
 use Rattle.inspect.specs.Reading.{inspection, laidOver, dataBlocks}
 
--- two runs of bytes are equal
-unfoldable pub sameBytes : List ℕ → List ℕ → Bool
-sameBytes [] [] = true
-sameBytes [] (y ∷ ys) = false
-sameBytes (x ∷ xs) [] = false
-sameBytes (x ∷ xs) (y ∷ ys) = eqb x y && sameBytes xs ys
-
 -- the first k data blocks of two disks are equal
 unfoldable pub sameData : Disk → Disk → ℕ → Bool
 sameData c d zero = true
-sameData c d (suc k) = sameData c d k && sameBytes (c (firstData + k)) (d (firstData + k))
+sameData c d (suc k) = sameData c d k && same (c (firstData + k)) (d (firstData + k))
 
 -- "the first one's refusal first"
 abbrev pub refusal : List ℕ → List ℕ → ℕ

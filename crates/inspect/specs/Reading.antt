@@ -1,20 +1,13 @@
 -- "Two calls read settled bytes alone, choose the list as recover does, and refuse 1, 8, 9."
-use Prim.Native.Nat.{ℕ, _-_, _%_}
-use mathlib.Core.Bool.{Bool, cond, not, _||_}
+use Prim.Native.Nat.{ℕ, _-_}
+use mathlib.Core.Bool.{cond}
 use mathlib.Core.List.{List}
-use lib.Dec.{eqb, ltb}
-use lib.ListN.{length}
-use Rattle.cells.specs.Entry.{blockBytes}
 use Rattle.card.specs.Disk.{Disk, overlay}
 use Rattle.card.specs.Card.{blocksIn, blockAt}
 use Rattle.journal.specs.declared.choice.Choice.{Choice}
-use Rattle.journal.specs.Layout.{firstData, leastBlocks, mostBlocks}
+use Rattle.journal.specs.Layout.{firstData, wrongSize}
 use Rattle.journal.specs.Log.{entries}
 use Rattle.journal.specs.Choice.{choose, choiceNumber, takenCount}
-
--- 1: "a lent buffer's length is wrong, N out of bounds"
-unfoldable pub wrongSize : List ℕ → Bool
-wrongSize s = not (eqb (length s % blockBytes) 0) || ltb (blocksIn s) leastBlocks || ltb mostBlocks (blocksIn s)
 
 -- "choose the list as recover does": N is that of the settled bytes
 abbrev pub chosen : List ℕ → Choice

@@ -2,29 +2,14 @@
 use crate::answer::Alike;
 use crate::reading::inspect;
 use crate::reading::laid_block;
+use cells::bytes::same;
 use journal::FIRST_DATA;
 ghost use mathlib.Core.Path.{_≡_};
 ghost use Prim.Native.Nat.{_≤_, _<_};
-ghost use lib.ListN.{length};
 ghost use Rattle.card.specs.Card.{blocksIn};
 ghost use Rattle.journal.specs.Layout.{slots, firstData};
 ghost use Rattle.inspect.specs.Reading.{dataBlocks, laid};
-ghost use Rattle.inspect.specs.Alike.{sameBytes, sameData, alikeOf};
-
-// Whether two blocks are equal.
-fn same_bytes(x: &[u8], y: &[u8]) -> bool
-    requires { ⌜ length (now x) ≡ length (now y) ⌝ }
-    ensures { λ r. ⌜ r ≡ sameBytes (now (x .entry)) (now (y .entry)) ⌝ }
-{
-    let mut i = 0;
-    while i < x.len() {
-        if x[i] != y[i] {
-            return false;
-        }
-        i += 1;
-    }
-    true
-}
+ghost use Rattle.inspect.specs.Alike.{sameData, alikeOf};
 
 // Whether all data blocks of two cards of the same N are equal, n entries laid over the first and m over the second.
 fn same_data(a: &[u8], n: u32, b: &[u8], m: u32, blocks: u32) -> bool
@@ -38,7 +23,7 @@ fn same_data(a: &[u8], n: u32, b: &[u8], m: u32, blocks: u32) -> bool
     let mut i = blocks;
     while FIRST_DATA < i {
         i -= 1;
-        if !same_bytes(laid_block(a, i, n), laid_block(b, i, m)) {
+        if !same(laid_block(a, i, n), laid_block(b, i, m)) {
             return false;
         }
     }

@@ -1,20 +1,19 @@
 // A card as recover would find it: its size, the list chosen, and each block with that list laid over.
 use card::settled::read;
 use cells::BLOCK;
-use journal::LEAST;
-use journal::MOST;
 use journal::choice::Choice;
 use journal::choice::choose;
 use journal::log::slot_block;
 use journal::lookup::Found;
 use journal::lookup::last_slot;
+use journal::size::wrong_size;
 ghost use mathlib.Core.Path.{_≡_};
 ghost use Prim.Native.Nat.{_≤_, _<_};
 ghost use lib.ListN.{length};
 ghost use Rattle.cells.specs.Entry.{blockBytes};
 ghost use Rattle.card.specs.Card.{blocksIn};
 ghost use Rattle.journal.specs.Layout.{slots, firstData};
-ghost use Rattle.inspect.specs.Reading.{wrongSize, laid};
+ghost use Rattle.inspect.specs.Reading.{laid};
 ghost use Rattle.inspect.specs.Held.{Read};
 
 // A card that was read: the refusal, or 0; and where it is 0, N and the count of the list taken.
@@ -22,19 +21,6 @@ pub struct Reading {
     pub number: u32,
     pub blocks: u32,
     pub count: u32,
-}
-
-// Whether the settled bytes are no whole blocks, too few or too many.
-fn wrong_size(settled: &[u8]) -> bool
-    ensures { λ r. ⌜ r ≡ wrongSize (now (settled .entry)) ⌝ }
-{
-    if settled.len() % BLOCK != 0 {
-        return true;
-    }
-    if settled.len() / BLOCK < LEAST {
-        return true;
-    }
-    MOST < settled.len() / BLOCK
 }
 
 // A card that is refused.

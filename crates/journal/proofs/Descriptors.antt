@@ -47,7 +47,8 @@ pub length-describe : (old : List ℕ) (n : ℕ) (es : List Entry) → 4 * n ≤
     → length (describe old n es) ≡ blockBytes
 unfolding describe
 length-describe old n es h k =
-    rw (length-append, length-append, length-take-le (4 * n) old h, length-addressBytes, length-replicate) (omega arith)
+    let tail : length (replicate {A = ℕ} (blockBytes - 4 * (n + length es)) 0) ≡ blockBytes - 4 * (n + length es) = length-replicate _ _ in
+    rw (length-append, length-append, length-take-le (4 * n) old h, length-addressBytes) (omega arith)
 
 drop-zeros : (k n : ℕ) → drop k (replicate {A = ℕ} n 0) ≡ replicate (n - k) 0
 drop-zeros zero n = let e : n - 0 ≡ n = omega arith in rw e

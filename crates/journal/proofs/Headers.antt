@@ -4,10 +4,10 @@ use mathlib.Core.Path.{_≡_, ap, sym, _∙_}
 use mathlib.Core.List.{List, [], _∷_, _++_, append-assoc}
 use lib.Dec.{lit<, lit≤}
 use lib.ListN.{length, take, drop, replicate, length-append, length-replicate}
-use lib.Seq.{sets, sets-eq, take-at, drop-append-add}
+use lib.Seq.{sets, sets-eq}
 use Rattle.cells.specs.Cell.Laws.{sets-append}
 use Rattle.cells.specs.Little.{le, num, Bytes}
-use Rattle.cells.specs.Little.Laws.{length-le, num-le, bytes-le}
+use Rattle.cells.specs.Little.Laws.{length-le, bytes-le, front, next}
 use Rattle.cells.specs.Entry.{blockBytes}
 use Rattle.journal.specs.declared.header.Header.{Header}
 use Rattle.journal.specs.Header.{encode, decode, header}
@@ -17,14 +17,6 @@ unfolding encode
 length-encode h = simp (length-append, length-le, length-replicate)
 
 -- ---- what is written is read
-
--- the number that stands in front
-front : (w v : ℕ) (rest : List ℕ) → v < 256 ^ w → num (take w (le w v ++ rest)) ≡ v
-front w v rest h = ap num (take-at (le w v) rest w (length-le w v)) ∙ num-le w v h
-
--- what lies behind it
-behind : (w v : ℕ) (rest : List ℕ) (at : ℕ) → drop (w + at) (le w v ++ rest) ≡ drop at rest
-behind w v rest at = ap (λ (k : ℕ). drop (k + at) (le w v ++ rest)) (sym (length-le w v)) ∙ drop-append-add (le w v) rest at
 
 -- the numbers of a header fit their bytes
 pub record Fitting (h : Header) : Type 0 where
@@ -37,10 +29,6 @@ pub record Fitting (h : Header) : Type 0 where
 
 pub fitting : (N p ps n ns : ℕ) → N < 2 ^ 32 → p < 2 ^ 32 → ps < 2 ^ 64 → n < 2 ^ 32 → ns < 2 ^ 64 → Fitting (header N p ps n ns)
 fitting N p ps n ns a b c d e = record { format = lit< tt; blocks = a; previous = b; count = d; presum = c; sum = e }
-
--- the number behind four more bytes
-next : (v at w : ℕ) (rest : List ℕ) {x : ℕ} → num (take w (drop at rest)) ≡ x → num (take w (drop (4 + at) (le 4 v ++ rest))) ≡ x
-next v at w rest e = ap (λ (l : List ℕ). num (take w l)) (behind 4 v rest at) ∙ e
 
 pub decode-encode : (h : Header) → Fitting h → decode (encode h) ≡ h
 unfolding decode encode
@@ -57,21 +45,21 @@ decode-encode h f = λ j. record {
     format = front 4 (h .format) _ (f .format)
 
     blocks : num (take 4 (drop 4 (encode h))) ≡ h .blocks
-    blocks = next (h .format) 0 4 _ (front 4 (h .blocks) _ (f .blocks))
+    blocks = next 4 (h .format) 0 4 _ (front 4 (h .blocks) _ (f .blocks))
 
     previous : num (take 4 (drop 8 (encode h))) ≡ h .previous
-    previous = next (h .format) 4 4 _ (next (h .blocks) 0 4 _ (front 4 (h .previous) _ (f .previous)))
+    previous = next 4 (h .format) 4 4 _ (next 4 (h .blocks) 0 4 _ (front 4 (h .previous) _ (f .previous)))
 
     count : num (take 4 (drop 12 (encode h))) ≡ h .count
-    count = next (h .format) 8 4 _ (next (h .blocks) 4 4 _ (next (h .previous) 0 4 _ (front 4 (h .count) _ (f .count))))
+    count = next 4 (h .format) 8 4 _ (next 4 (h .blocks) 4 4 _ (next 4 (h .previous) 0 4 _ (front 4 (h .count) _ (f .count))))
 
     presum : num (take 8 (drop 16 (encode h))) ≡ h .presum
-    presum = next (h .format) 12 8 _ (next (h .blocks) 8 8 _ (next (h .previous) 4 8 _ (next (h .count) 0 8 _ (front 8 (h .presum) _ (f .presum)))))
+    presum = next 4 (h .format) 12 8 _ (next 4 (h .blocks) 8 8 _ (next 4 (h .previous) 4 8 _ (next 4 (h .count) 0 8 _ (front 8 (h .presum) _ (f .presum)))))
 
     sum : num (take 8 (drop 24 (encode h))) ≡ h .sum
     sum =
-        next (h .format) 20 8 _ (next (h .blocks) 16 8 _ (next (h .previous) 12 8 _ (next (h .count) 8 8 _
-        (ap (λ (l : List ℕ). num (take 8 l)) (behind 8 (h .presum) _ 0) ∙ front 8 (h .sum) _ (f .sum)))))
+        next 4 (h .format) 20 8 _ (next 4 (h .blocks) 16 8 _ (next 4 (h .previous) 12 8 _ (next 4 (h .count) 8 8 _
+        (next 8 (h .presum) 0 8 _ (front 8 (h .sum) _ (f .sum))))))
 
 -- ---- stored number by number, in a block of zeros
 

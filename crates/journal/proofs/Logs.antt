@@ -1,7 +1,7 @@
 -- The laws of the log's entries, their sum and the tests on them.
 use Prim.Native.Nat.{ℕ, zero, suc, _+_, _*_, _-_, _^_, _≤_, _<_}
 use mathlib.Core.Path.{_≡_, refl, ap, sym, _∙_}
-use mathlib.Core.Bool.{Bool, true, false, _&&_, and-true, and-false, false≢true}
+use mathlib.Core.Bool.{Bool, true, false, _&&_, _||_, and-true, and-false, true≢false, false≢true}
 use mathlib.Core.Logic.{_≢_}
 use mathlib.Core.List.{List, [], _∷_, _++_, append-nil}
 use native.Mathlib.Numerals.{add-one}
@@ -23,7 +23,7 @@ use Rattle.cells.specs.Part.{View, viewOf, partOf}
 use Rattle.fnv.specs.Fnv.{start, sumFrom}
 use Rattle.fnv.proofs.Laws.{sumFrom-nil, sumFrom-append, sumFrom-lt}
 use Rattle.card.specs.Card.{blockAt, blocksIn}
-use Rattle.card.proofs.All.{All, all-upTo}
+use Rattle.card.proofs.All.{All, all-upTo, upTo-all}
 use Rattle.card.proofs.Runs.{Whole, Short}
 use Rattle.journal.specs.Layout.{slotAt, descriptorAt, firstData, slots, isData}
 use Rattle.journal.specs.Log.{slotAddress, slotEntry, entries, entriesFrom, sumOf, allData, good}
@@ -34,6 +34,10 @@ pub both : (a b : Bool) → a && b ≡ true → (a ≡ true) × (b ≡ true)
 both true true e = (refl, refl)
 both true false e = (refl, e)
 both false b e = absurd (false≢true e)
+
+pub neither : (a b : Bool) → a || b ≡ false → (a ≡ false) × (b ≡ false)
+neither true b e = absurd (true≢false e)
+neither false b e = (refl, e)
 
 -- ---- blocks
 
@@ -93,6 +97,11 @@ pub all-allData : (N : ℕ) (es : List Entry) → All (λ e. isData N (e .addres
 unfolding allData
 all-allData N [] h = refl
 all-allData N (e ∷ es) h = rw (h .0, all-allData N es (h .1))
+
+-- each slot of such a log
+pub slot-data : (s : List ℕ) (N n i : ℕ) → i < n → allData N (entries s n) ≡ true → isData N (slotAddress s i) ≡ true
+unfolding slotEntry
+slot-data s N n i h e = upTo-all (λ x. isData N (x .address) ≡ true) (slotEntry s) n (allData-all N (entries s n) e) i h
 
 -- what makes a list good
 pub good-sum : (N : ℕ) (es : List Entry) (sum : ℕ) → good N es sum ≡ true → sumOf start es ≡ sum

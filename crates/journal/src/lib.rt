@@ -5,6 +5,7 @@ pub mod choice;
 pub mod header;
 pub mod log;
 pub mod lookup;
+pub mod size;
 
 // Block 0 is the header, block 1 the descriptor, block 2 + i holds slot i's block.
 pub const HEADER_AT: u32 = 0;

@@ -66,7 +66,7 @@ pub fn sum_entries(settled: &[u8], n: u32) -> u64
 }
 
 // Whether each of the first n addresses is that of a data block.
-fn all_data(settled: &[u8], blocks: u32, n: u32) -> bool
+pub fn all_data(settled: &[u8], blocks: u32, n: u32) -> bool
     requires { ⌜ firstData < blocksIn (now settled) ⌝ }
     requires { ⌜ n ≤ slots ⌝ }
     ensures { λ r. ⌜ r ≡ allData blocks (entries (now (settled .entry)) n) ⌝ }

@@ -1,7 +1,7 @@
 -- The table of lines holds: computed from the definitions.
 use mathlib.Core.Path.{refl}
 use Rattle.script.specs.Fields.{push, fields}
-use Rattle.script.specs.Words.{same}
+use Rattle.cells.specs.Same.{same}
 use Rattle.script.specs.Numbers.{allDigits, valueFrom, numberOf}
 use Rattle.script.specs.Commands.{alone, withOne, withTwo, understood, parse}
 use Rattle.script.specs.Answers.{digits, decimal}

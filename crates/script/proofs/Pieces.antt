@@ -1,7 +1,7 @@
 -- The laws of fields, words and digits: a loop meets one byte at a time, the one in front of what is left.
 use Prim.Native.Nat.{ℕ, suc, _+_, _*_, _-_, _≤_, _<_}
 use mathlib.Core.Path.{_≡_, refl}
-use mathlib.Core.Bool.{Bool, true, false, cond, _&&_}
+use mathlib.Core.Bool.{Bool, true, false, cond, and-eq-true-iff}
 use mathlib.Core.List.{List, [], _∷_}
 use native.Mathlib.Omega.{arith}
 use native.Mathlib.Numerals.{add-one}
@@ -11,23 +11,8 @@ use lib.ListN.{length, take, drop, getD, length-drop}
 use lib.Seq.{drop-cons, drop-length, take-all}
 use Rattle.script.specs.declared.command.Command.the-variants.{Bad}
 use Rattle.script.specs.Fields.{tab, push, fields, toTab}
-use Rattle.script.specs.Words.{same}
 use Rattle.script.specs.Numbers.{zeroDigit, isDigit, allDigits, valueFrom}
 use Rattle.script.specs.Commands.{understood}
-
--- ---- both parts of a conjunction
-
-pub and-false : (a : Bool) → a && false ≡ false
-and-false true = refl
-and-false false = refl
-
-pub and-left : (a b : Bool) → a && b ≡ true → a ≡ true
-and-left true b e = refl
-and-left false b e = e
-
-pub and-right : (a b : Bool) → a && b ≡ true → b ≡ true
-and-right true b e = e
-and-right false b e = absurd (mathlib.Core.Bool.false≢true e)
 
 -- ---- the first tab
 
@@ -67,32 +52,6 @@ fields-more (b ∷ s) h = go (eqb b tab) h (λ p. fields-more s p)
     go true e rest = refl
     go false e rest = rw (rest (omega arith))
 
--- ---- words
-
-pub same-lengths : (s t : List ℕ) → (length s ≡ length t → ⊥) → same s t ≡ false
-unfolding same
-same-lengths [] [] h = absurd (h refl)
-same-lengths [] (y ∷ t) h = refl
-same-lengths (x ∷ s) [] h = refl
-same-lengths (x ∷ s) (y ∷ t) h = rw (same-lengths s t (λ e. h (omega arith))) (and-false (eqb x y))
-
-pub same-on : (s t : List ℕ) (i : ℕ) → i < length s → i < length t → getD s i 0 ≡ getD t i 0
-    → same (drop i s) (drop i t) ≡ same (drop (suc i) s) (drop (suc i) t)
-unfolding same
-same-on s t i h k e = rw (drop-cons s i 0 h, drop-cons t i 0 k, eq-eqb _ _ e)
-
-pub same-off : (s t : List ℕ) (i : ℕ) → i < length s → i < length t → (getD s i 0 ≡ getD t i 0 → ⊥)
-    → same (drop i s) (drop i t) ≡ false
-unfolding same
-same-off s t i h k e = rw (drop-cons s i 0 h, drop-cons t i 0 k, ne-eqb _ _ e)
-
-pub same-over : (s t : List ℕ) (i : ℕ) → i ≡ length s → i ≡ length t → same (drop i s) (drop i t) ≡ true
-unfolding same
-same-over s t i h k =
-    let p : drop i s ≡ [] = rw h (drop-length s) in
-    let q : drop i t ≡ [] = rw k (drop-length t) in
-    rw (p, q)
-
 -- ---- digits
 
 pub digits-on : (s : List ℕ) (i : ℕ) → i < length s → isDigit (getD s i 0) ≡ true → allDigits (drop i s) ≡ allDigits (drop (suc i) s)
@@ -109,11 +68,11 @@ digits-over s i h = let p : drop i s ≡ [] = rw h (drop-length s) in rw p
 
 pub digits-here : (s : List ℕ) (i : ℕ) → i < length s → allDigits (drop i s) ≡ true → isDigit (getD s i 0) ≡ true
 unfolding allDigits
-digits-here s i h e = and-left _ _ (rw (drop-cons s i 0 h) at e)
+digits-here s i h e = and-eq-true-iff _ _ .0 (rw (drop-cons s i 0 h) at e) .0
 
 pub digits-behind : (s : List ℕ) (i : ℕ) → i < length s → allDigits (drop i s) ≡ true → allDigits (drop (suc i) s) ≡ true
 unfolding allDigits
-digits-behind s i h e = and-right (isDigit (getD s i 0)) _ (rw (drop-cons s i 0 h) at e)
+digits-behind s i h e = and-eq-true-iff (isDigit (getD s i 0)) _ .0 (rw (drop-cons s i 0 h) at e) .1
 
 pub value-on : (s : List ℕ) (i v : ℕ) → i < length s → valueFrom v (drop i s) ≡ valueFrom (10 * v + (getD s i 0 - zeroDigit)) (drop (suc i) s)
 unfolding valueFrom

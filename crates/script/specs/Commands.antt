@@ -4,12 +4,13 @@ use mathlib.Core.Bool.{cond}
 use mathlib.Core.List.{List, [], _∷_}
 use lib.Dec.{ltb}
 use lib.ListN.{length}
+use Rattle.cells.specs.Same.{same}
 use Rattle.script.specs.declared.number.Number.{Number}
 use Rattle.script.specs.declared.number.Number.the-variants.{Of, Not}
 use Rattle.script.specs.declared.command.Command.{Command}
 use Rattle.script.specs.declared.command.Command.the-variants.{Format, Power, Put, Get, Commit, Abandon, Sync, Apply, Recover, Cut, Bad}
 use Rattle.script.specs.Fields.{fields}
-use Rattle.script.specs.Words.{same, formatWord, powerWord, putWord, getWord, commitWord, abandonWord, syncWord, applyWord, recoverWord, cutWord}
+use Rattle.script.specs.Words.{formatWord, powerWord, putWord, getWord, commitWord, abandonWord, syncWord, applyWord, recoverWord, cutWord}
 use Rattle.script.specs.Numbers.{most4Bytes, most1Byte, numberOf, isMarks}
 
 -- "lines of at most 80 bytes (a longer one is 11 …)"

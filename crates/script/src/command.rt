@@ -1,9 +1,9 @@
 // What a line says: a word and its fields.
-use crate::field::same;
 use crate::field::to_tab;
 use crate::number::Number;
 use crate::number::is_marks;
 use crate::number::to_number;
+use cells::bytes::same;
 ghost use mathlib.Core.Path.{_≡_};
 ghost use mathlib.Core.List.{_∷_};
 ghost use Rattle.script.specs.Fields.{fields};

@@ -1,9 +1,8 @@
-// Pieces of a line.
+// The fields of a line.
 ghost use mathlib.Core.Path.{_≡_};
 ghost use Prim.Native.Nat.{_≤_};
 ghost use lib.ListN.{length};
 ghost use Rattle.script.specs.Fields.{toTab};
-ghost use Rattle.script.specs.Words as Words;
 
 // Where the first tab stands, or the length where there is none.
 pub(crate) fn to_tab(s: &[u8]) -> usize
@@ -17,21 +16,4 @@ pub(crate) fn to_tab(s: &[u8]) -> usize
         i += 1;
     }
     i
-}
-
-// Whether a and b are the same bytes.
-pub(crate) fn same(a: &[u8], b: &[u8]) -> bool
-    ensures { λ r. ⌜ r ≡ Words.same (now (a .entry)) (now (b .entry)) ⌝ }
-{
-    if a.len() != b.len() {
-        return false;
-    }
-    let mut i = 0;
-    while i < a.len() {
-        if a[i] != b[i] {
-            return false;
-        }
-        i += 1;
-    }
-    true
 }

@@ -1,7 +1,7 @@
 -- The laws of the table of causes.
 use Prim.Native.Nat.{ℕ, zero, suc, _*_, _-_, _%_, _≤_, _<_}
 use mathlib.Core.Path.{_≡_, refl, ap, sym, _∙_}
-use mathlib.Core.Bool.{Bool, true, false, cond, not, _&&_, _||_, or-true, or-false, true≢false, false≢true}
+use mathlib.Core.Bool.{Bool, true, false, cond, not, _&&_, _||_, or-true, or-false, false≢true}
 use mathlib.Core.Logic.{_≢_}
 use native.Mathlib.Omega.{arith}
 use native.Mathlib.Decide.{ℕ-discrete}
@@ -11,8 +11,9 @@ use lib.ListN.{length, drop}
 use Rattle.cells.specs.Entry.{blockBytes, entryAt}
 use Rattle.card.specs.Card.{places, blocksIn}
 use Rattle.card.specs.Held.{Below}
-use Rattle.journal.specs.Layout.{slots, isData, leastBlocks, mostBlocks}
+use Rattle.journal.specs.Layout.{slots, isData, leastBlocks, mostBlocks, wrongSize}
 use Rattle.journal.specs.Log.{slotAddress}
+use Rattle.journal.proofs.Logs.{neither, slot-data}
 use Rattle.store.specs.State.{State, closed, opened, down}
 use Rattle.store.specs.Lists.{openFrom, groupFrom, listed, find}
 use Rattle.store.specs.Request.{Request, power, abandon}
@@ -45,12 +46,8 @@ search-over f i n rest e = ap (some f) (sym e) ∙ rest
 
 -- ---- tests that fail, as plain facts
 
-pub neither : (a b : Bool) → a || b ≡ false → (a ≡ false) × (b ≡ false)
-neither true b e = absurd (true≢false e)
-neither false b e = (refl, e)
-
 -- of two tests that do not both pass, one passes
-other : (a b : Bool) → a && b ≡ false → a ≡ true → b ≡ false
+pub other : (a b : Bool) → a && b ≡ false → a ≡ true → b ≡ false
 other true b e p = e
 other false b e p = absurd (false≢true p)
 
@@ -72,7 +69,7 @@ pub record SizeFacts (st : State) : Type 0 where
   pub work : length (st .work) ≡ workBytes
 
 pub sizes-facts : (st : State) → wrongSizes st ≡ false → SizeFacts st
-unfolding wrongSizes
+unfolding wrongSizes wrongSize
 sizes-facts st e =
     let a = neither _ _ e in
     let b = neither _ _ (a .0) in
@@ -134,7 +131,7 @@ lists-facts st e =
     record {
       open-data = λ i h. not-false _ (some-none (λ j. not (isData (st .rec .blocks) (listed (st .work) openFrom j .address))) (st .rec .opened) (d .0) i h);
       group-data = λ i h. not-false _ (some-none (λ j. not (isData (st .rec .blocks) (listed (st .work) groupFrom j .address))) (st .rec .grouped) (d .1) i h);
-      log-data = λ i h. not-false _ (some-none (λ j. not (isData (st .rec .blocks) (slotAddress (st .settled) j))) (st .rec .logged) (c .1) i h);
+      log-data = λ i h. slot-data (st .settled) (st .rec .blocks) (st .rec .logged) i h (not-false _ (c .1));
       open-once = some-none (λ j. isFound (find (st .work) openFrom j (listed (st .work) openFrom j .address))) (st .rec .opened) (b .1);
       group-once = some-none (λ j. isFound (find (st .work) groupFrom j (listed (st .work) groupFrom j .address))) (st .rec .grouped) (a .1);
     }

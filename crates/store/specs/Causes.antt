@@ -1,5 +1,5 @@
 -- The table of causes: "The first cause in table order is given, and each is given whenever it applies."
-use Prim.Native.Nat.{ℕ, zero, suc, _+_, _*_, _%_}
+use Prim.Native.Nat.{ℕ, zero, suc, _+_, _*_}
 use mathlib.Core.Bool.{Bool, true, false, cond, not, _&&_, _||_}
 use mathlib.Core.List.{List, [], _∷_}
 use lib.Dec.{eqb, leb, ltb}
@@ -8,8 +8,8 @@ use Rattle.cells.specs.Entry.{blockBytes, entryBytes, entryAt}
 use Rattle.card.specs.Card.{places, blocksIn}
 use Rattle.journal.specs.declared.lookup.Found.{Found}
 use Rattle.journal.specs.declared.lookup.Found.the-variants.{At, Absent}
-use Rattle.journal.specs.Layout.{slots, isData, leastBlocks, mostBlocks}
-use Rattle.journal.specs.Log.{slotAddress}
+use Rattle.journal.specs.Layout.{slots, isData, wrongSize}
+use Rattle.journal.specs.Log.{entries, allData}
 use Rattle.journal.specs.Choice.{choose, choiceNumber}
 use Rattle.store.specs.State.{State, closed, opened, down}
 use Rattle.store.specs.Lists.{openFrom, groupFrom, listed, find}
@@ -29,9 +29,7 @@ workBytes = entryBytes * (slots + slots)
 
 unfoldable pub wrongSizes : State → Bool
 wrongSizes st =
-    not (eqb (length (st .settled) % blockBytes) 0)
-    || ltb (blocksIn (st .settled)) leastBlocks
-    || ltb mostBlocks (blocksIn (st .settled))
+    wrongSize (st .settled)
     || not (eqb (length (st .waiting)) waitingBytes)
     || not (eqb (length (st .work)) workBytes)
 
@@ -74,9 +72,6 @@ wrongWaiting st = some (λ i. not (ltb (entryAt (st .waiting) i .address) (st .r
 abbrev pub strays : List ℕ → ℕ → ℕ → ℕ → Bool
 strays work N from n = some (λ i. not (isData N (listed work from i .address))) n
 
-abbrev pub straySlots : List ℕ → ℕ → ℕ → Bool
-straySlots s N n = some (λ i. not (isData N (slotAddress s i))) n
-
 -- "an address twice in open or twice in group"
 abbrev pub isFound : Found → Bool
 isFound (At i) = true
@@ -90,7 +85,7 @@ unfoldable pub wrongLists : State → Bool
 wrongLists st =
     strays (st .work) (st .rec .blocks) openFrom (st .rec .opened)
     || strays (st .work) (st .rec .blocks) groupFrom (st .rec .grouped)
-    || straySlots (st .settled) (st .rec .blocks) (st .rec .logged)
+    || not (allData (st .rec .blocks) (entries (st .settled) (st .rec .logged)))
     || twice (st .work) openFrom (st .rec .opened)
     || twice (st .work) groupFrom (st .rec .grouped)
 

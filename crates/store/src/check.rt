@@ -9,11 +9,10 @@ use crate::record::OPENED;
 use crate::record::Record;
 use card::PLACES;
 use cells::BLOCK;
-use journal::LEAST;
-use journal::MOST;
 use journal::SLOTS;
+use journal::log::all_data;
 use journal::log::is_data;
-use journal::log::slot_address;
+use journal::size::wrong_size;
 ghost use mathlib.Core.Path.{_≡_};
 ghost use mathlib.Core.List.{List};
 ghost use Prim.Native.Nat.{ℕ, _+_, _*_, _≤_, _<_};
@@ -36,13 +35,7 @@ const WORK_BYTES: usize = 33024;
 pub(crate) fn wrong_sizes(settled: &[u8], waiting: &[u8], work: &[u8]) -> bool
     ensures { λ r. ⌜ ((q : Declared.Record) → r ≡ Causes.wrongSizes (stateOf q (now (settled .entry)) (now (waiting .entry)) (now (work .entry)))) ⌝ }
 {
-    if settled.len() % BLOCK != 0 {
-        return true;
-    }
-    if settled.len() / BLOCK < LEAST {
-        return true;
-    }
-    if MOST < settled.len() / BLOCK {
+    if wrong_size(settled) {
         return true;
     }
     if waiting.len() != WAITING_BYTES {
@@ -60,22 +53,6 @@ fn strays(work: &[u8], blocks: u32, from: usize, n: u32) -> bool
     while 0 < i {
         i -= 1;
         if !is_data(blocks, address(work, from, i)) {
-            return true;
-        }
-    }
-    false
-}
-
-// Row 2, the log: likewise.
-fn stray_slots(settled: &[u8], blocks: u32, n: u32) -> bool
-    requires { ⌜ firstData < blocksIn (now settled) ⌝ }
-    requires { ⌜ n ≤ slots ⌝ }
-    ensures { λ r. ⌜ r ≡ Causes.straySlots (now (settled .entry)) blocks n ⌝ }
-{
-    let mut i = n;
-    while 0 < i {
-        i -= 1;
-        if !is_data(blocks, slot_address(settled, i)) {
             return true;
         }
     }
@@ -151,7 +128,7 @@ impl Record {
         if strays(work, self.blocks, GROUP, self.grouped) {
             return true;
         }
-        if stray_slots(settled, self.blocks, self.logged) {
+        if !all_data(settled, self.blocks, self.logged) {
             return true;
         }
         if twice(work, OPEN, self.opened) {

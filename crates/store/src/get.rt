@@ -5,6 +5,7 @@ use crate::lists::find;
 use crate::lists::place_of;
 use crate::place::Place;
 use crate::record::Record;
+use card::settled::nothing;
 use card::settled::read;
 use cells::BLOCK;
 use cells::ENTRY;
@@ -88,7 +89,7 @@ impl Record {
     }
 }
 
-// The block at a place: through the card, or an entry's. Nowhere is the front of the settled bytes, none of them.
+// The block at a place: through the card, or an entry's. Nowhere is no bytes, at the front of the settled ones.
 fn part<'a>(place: Place, settled: &'a [u8], work: &'a [u8]) -> &'a [u8]
     requires { ⌜ Within place (now settled) (now work) ⌝ }
     ensures { λ r. ⌜ viewOf r ≡ partAt place (settled .entry) (work .entry) ⌝ }
@@ -96,6 +97,6 @@ fn part<'a>(place: Place, settled: &'a [u8], work: &'a [u8]) -> &'a [u8]
     match place {
         Place::Settled(at) => read(settled, (at / BLOCK) as u32),
         Place::Work(at) => entry::block(work, at / ENTRY),
-        Place::Nowhere => &settled[0..0],
+        Place::Nowhere => nothing(settled),
     }
 }

@@ -1,15 +1,15 @@
 -- The laws of entries in a run of bytes.
-use Prim.Native.Nat.{ℕ, zero, suc, _+_, _*_, _-_, _^_, _≤_, _<_}
+use Prim.Native.Nat.{ℕ, _+_, _*_, _-_, _^_, _≤_, _<_}
 use mathlib.Core.Path.{_≡_, refl, ap, sym, _∙_}
 use mathlib.Core.Logic.{_≢_}
 use mathlib.Core.List.{List, [], _∷_, _++_, append-assoc, append-nil}
 use native.Mathlib.Omega.{arith}
 use lib.ListN.{length, take, drop, length-append, length-drop}
-use lib.Seq.{take-at, drop-at, take-add, take-take, drop-drop, sets, length-take-le, take-all}
+use lib.Seq.{take-at, drop-at, take-take, drop-drop, sets, length-take-le}
 use Rattle.cells.specs.Cell.{cell, setCell}
 use Rattle.cells.specs.Cell.Laws.{length-cell, cell-part, cell-same, cell-other, length-setCell, sets-append, sets-cell, drop-take, bytes-take, bytes-cell}
 use Rattle.cells.specs.Little.{le, num, Bytes}
-use Rattle.cells.specs.Little.Laws.{length-le, num-le, num-lt, bytes-le}
+use Rattle.cells.specs.Little.Laws.{length-le, num-le, num-lt}
 use Rattle.cells.specs.Entry.{blockBytes, entryBytes, Entry, toBytes, flat, entryAt, setEntry}
 
 -- equal parts make equal entries

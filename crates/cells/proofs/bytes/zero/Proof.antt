@@ -1,6 +1,6 @@
 -- `cells::bytes::zero` meets its contract. The invariant: zeros, then what is left of s.
 use Prim.Native.Nat.{ℕ, _≤_, _<_, _-_}
-use mathlib.Core.Path.{_≡_, refl, ap, sym, _∙_}
+use mathlib.Core.Path.{_≡_, refl, ap, _∙_}
 use mathlib.Core.List.{List, _++_, append-nil}
 use borrow.Author.Fill.{fill-more}
 use native.Mathlib.Omega.{arith}

@@ -2,10 +2,12 @@
 use Prim.Native.Nat.{_-_, _≤_}
 use mathlib.Core.Path.{_≡_, refl, ap₂, sym, _∙_}
 use native.Mathlib.Omega.{arith}
+use borrow.Author.Needs.{needs}
 use borrow.Author.Tests.{not-true, not-false}
+use Rattle.cells.specs.Same.{same}
 use Rattle.journal.specs.Layout.{firstData}
 use Rattle.inspect.specs.Reading.{dataBlocks, laid}
-use Rattle.inspect.specs.Alike.{sameBytes, sameData}
+use Rattle.inspect.specs.Alike.{sameData}
 use Rattle.inspect.proofs.Comparisons.{data-stop, data-on, data-over}
 use Rattle.inspect.proofs.alike.same_data.Statement.{statement}
 use Rattle.inspect.proofs.alike.same_data.Tie as tie
@@ -18,9 +20,9 @@ abbrev μ-loop : tie.MeasureT-loop
 μ-loop a n b m blocks i₀ i = i
 
 -- the two blocks that were compared
-compared : (c : tie.After-same-bytes Inv-loop μ-loop) → let l = c .before .before .before .before in let g = l .before .before .before .args in
-    c .same-bytes .result ≡ sameBytes (laid (g .a .now) (g .n) (l .loop .i - 1)) (laid (g .b .now) (g .m) (l .loop .i - 1))
-compared c = c .same-bytes .ensures ∙ ap₂ sameBytes (c .before .before .laid-block .ensures .0) (c .before .laid-block2 .ensures .0)
+compared : (c : tie.After-same Inv-loop μ-loop) → let l = c .before .before .before .before in let g = l .before .before .before .args in
+    c .same .result ≡ same (laid (g .a .now) (g .n) (l .loop .i - 1)) (laid (g .b .now) (g .m) (l .loop .i - 1))
+compared c = c .same .ensures ∙ ap₂ same (c .before .before .laid-block .ensures .0) (c .before .laid-block2 .ensures .0)
 
 loop-holds : tie.Need-loop-holds Inv-loop μ-loop
 loop-holds c = (omega arith, omega arith, refl)
@@ -34,8 +36,8 @@ laid-block-requires c κs = omega arith
 laid-block-requires-2 : tie.Need-laid-block-requires-2 Inv-loop μ-loop
 laid-block-requires-2 c κs = omega arith
 
-same-bytes-requires : tie.Need-same-bytes-requires Inv-loop μ-loop
-same-bytes-requires c κs = c .before .laid-block .ensures .1 ∙ sym (c .laid-block2 .ensures .1)
+same-requires : tie.Need-same-requires Inv-loop μ-loop
+same-requires c κs = search needs
 
 returns : tie.Need-returns Inv-loop μ-loop
 returns c =
@@ -70,7 +72,7 @@ same-data-spec =
     sub-i
     laid-block-requires
     laid-block-requires-2
-    same-bytes-requires
+    same-requires
     returns
     loop-less
     loop-again

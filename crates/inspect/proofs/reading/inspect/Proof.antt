@@ -6,7 +6,8 @@ use borrow.Author.Needs.{needs}
 use lib.Dec.{lit<}
 use Rattle.journal.specs.declared.choice.Choice.{Choice}
 use Rattle.journal.specs.declared.choice.Choice.the-variants.{Whole, Fallback, Foreign, Neither}
-use Rattle.inspect.specs.Reading.{wrongSize, chosen}
+use Rattle.journal.specs.Layout.{wrongSize}
+use Rattle.inspect.specs.Reading.{chosen}
 use Rattle.inspect.proofs.Readings.{right-size, wrong-refused, right-chosen, read-refused, read-accepted}
 use Rattle.inspect.proofs.reading.inspect.Statement.{statement}
 use Rattle.inspect.proofs.reading.inspect.Tie as tie

@@ -1,6 +1,9 @@
 -- `journal::choice::is_foreign` meets its contract.
-use mathlib.Core.Path.{sym}
+use mathlib.Core.Path.{_≡_, sym}
+use mathlib.Core.Bool.{false}
 use borrow.Author.Tests.{eq-eqb, ne-eqb, le-leb, lt-leb}
+use lib.Dec.{leb}
+use Rattle.journal.specs.Layout.{slots}
 use Rattle.journal.proofs.Choices.{not-leb}
 use Rattle.journal.proofs.choice.is_foreign.Statement.{statement}
 use Rattle.journal.proofs.choice.is_foreign.Tie as tie
@@ -12,7 +15,10 @@ returns-2 : tie.Need-returns-2
 returns-2 c = rw (eq-eqb _ _ (c .before .before .if1 .left), ne-eqb _ _ (c .if2 .taken))
 
 returns-3 : tie.Need-returns-3
-returns-3 c = rw (eq-eqb _ _ (c .before .before .before .before .if1 .left), eq-eqb _ _ (c .before .before .if2 .left), lt-leb _ _ (c .if3 .taken))
+returns-3 c =
+    let h = c .before .before .before .before .before .before .args .h in
+    let many : leb (h .count) slots ≡ false = lt-leb _ _ (c .if3 .taken) in
+    rw (eq-eqb _ _ (c .before .before .before .before .if1 .left), eq-eqb _ _ (c .before .before .if2 .left), many)
 
 returns-4 : tie.Need-returns-4
 returns-4 c =

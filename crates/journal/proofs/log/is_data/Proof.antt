@@ -1,10 +1,16 @@
 -- `journal::log::is_data` meets its contract.
+use mathlib.Core.Path.{_≡_}
+use mathlib.Core.Bool.{true}
 use borrow.Author.Tests.{le-leb, lt-leb}
+use lib.Dec.{leb}
+use Rattle.journal.specs.Layout.{firstData}
 use Rattle.journal.proofs.log.is_data.Statement.{statement}
 use Rattle.journal.proofs.log.is_data.Tie as tie
 
 returns : tie.Need-returns
-returns c = rw (le-leb _ _ (c .if1 .taken))
+returns c =
+    let from : leb firstData (c .before .args .a) ≡ true = le-leb _ _ (c .if1 .taken) in
+    rw from
 
 returns-2 : tie.Need-returns-2
 returns-2 c = rw (lt-leb _ _ (c .if1 .left))

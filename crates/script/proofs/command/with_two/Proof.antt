@@ -1,8 +1,10 @@
 -- `script::command::with_two` meets its contract.
-use mathlib.Core.Path.{sym, _∙_}
+use mathlib.Core.Path.{_≡_, sym, _∙_}
 use native.Mathlib.Omega.{arith}
 use borrow.Author.Tests.{not-true, not-false}
 use borrow.Author.Needs.{needs}
+use Rattle.script.specs.declared.number.Number.the-variants.{Not}
+use Rattle.script.specs.Numbers.{most1Byte, numberOf}
 use Rattle.script.specs.Commands.{withTwo}
 use Rattle.script.proofs.command.with_two.Statement.{statement}
 use Rattle.script.proofs.command.with_two.Tie as tie
@@ -41,7 +43,10 @@ enum-told-2 c = search needs
 
 returns-3 : tie.Need-returns-3
 unfolding withTwo
-returns-3 c = rw (sym (c .before .before .before .before .before .before .before .before .same .ensures) ∙ not-false _ (c .before .before .before .before .before .before .before .if1 .left), ← c .before .before .before .before .before .before .to-number .ensures .0, c .before .before .before .before .address .given .1, ← c .before .before .to-number2 .ensures .0, c .enum-told2 .given .1)
+returns-3 c =
+    let y = c .before .before .before .before .before .before .before .before .before .before .before .before .before .args .y .now in
+    let none : numberOf most1Byte y ≡ Not = sym (c .before .before .to-number2 .ensures .0) ∙ c .enum-told2 .given .1 in
+    rw (sym (c .before .before .before .before .before .before .before .before .same .ensures) ∙ not-false _ (c .before .before .before .before .before .before .before .if1 .left), ← c .before .before .before .before .before .before .to-number .ensures .0, c .before .before .before .before .address .given .1, none)
 
 cast-t13 : tie.Need-cast-t13
 cast-t13 c = let h = rw (c .before .byte .given .1) at (c .before .before .before .to-number2 .ensures .1) in omega arith

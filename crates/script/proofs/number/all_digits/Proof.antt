@@ -1,10 +1,12 @@
 -- `script::number::all_digits` meets its contract.
 use Prim.Native.Nat.{_-_, _≤_}
 use mathlib.Core.Path.{_≡_, refl, sym, _∙_}
+use mathlib.Core.Bool.{false}
 use native.Mathlib.Omega.{arith}
 use native.Mathlib.Numerals.{add-one}
 use borrow.Author.Tests.{le-leb, lt-leb}
-use lib.ListN.{length, drop}
+use lib.Dec.{leb}
+use lib.ListN.{length, drop, getD}
 use Rattle.script.specs.Numbers.{allDigits}
 use Rattle.script.proofs.Pieces.{digits-on, digits-off, digits-over}
 use Rattle.script.proofs.number.all_digits.Statement.{statement}
@@ -32,7 +34,8 @@ returns-2 : tie.Need-returns-2 Inv-loop μ-loop
 returns-2 c =
     let l = c .before .before .before .before .loop in
     let s = c .before .before .before .before .before .args .s .now in
-    sym (digits-off s (l .i) (omega arith) (rw (le-leb _ _ (c .before .if1 .left), lt-leb _ _ (c .if2 .taken)))) ∙ l .inv .1
+    let over : leb (getD s (l .i) 0) 57 ≡ false = lt-leb _ _ (c .if2 .taken) in
+    sym (digits-off s (l .i) (omega arith) (rw (le-leb _ _ (c .before .if1 .left), over))) ∙ l .inv .1
 
 add-i : tie.Need-add-i Inv-loop μ-loop
 add-i c = omega arith

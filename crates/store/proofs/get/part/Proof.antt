@@ -33,14 +33,8 @@ block-requires c κs = let w = in-work (c .before) in omega arith
 enum-told : tie.Need-enum-told
 enum-told c = search needs
 
-sub-result : tie.Need-sub-result
-sub-result c = search needs
-
-part-result-start : tie.Need-part-result-start
-part-result-start c = search needs
-
-part-result-end : tie.Need-part-result-end
-part-result-end c = search needs
+nothing-requires : tie.Need-nothing-requires
+nothing-requires c κs = search needs
 
 returns : tie.Need-returns
 returns c =
@@ -57,7 +51,7 @@ returns-2 c =
     rw (c .before .before .place2 .given .1) (c .block .ensures ∙ rw whole)
 
 returns-3 : tie.Need-returns-3
-returns-3 c = rw (c .before .enum-told .given .1)
+returns-3 c = rw (c .before .enum-told .given .1) (c .nothing .ensures)
 
 pub part-spec : {M : Type 1} → statement M
 part-spec =
@@ -69,9 +63,7 @@ part-spec =
     enum-known-place-2
     block-requires
     enum-told
-    sub-result
-    part-result-start
-    part-result-end
+    nothing-requires
     returns
     returns-2
     returns-3)

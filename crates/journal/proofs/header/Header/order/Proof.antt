@@ -1,6 +1,7 @@
 -- `journal::header::Header::order` meets its contract.
 use Prim.Native.Nat.{ℕ}
 use mathlib.Core.Path.{_≡_, refl, ap, _∙_}
+use mathlib.Core.Bool.{false}
 use mathlib.Core.List.{List, [], _∷_}
 use native.Mathlib.Omega.{arith}
 use borrow.Author.Tests.{not-true, not-false}
@@ -42,7 +43,8 @@ returns : tie.Need-returns
 returns c =
     let w = c .before .before .before .before in
     let a = w .before .before .before .before .before .before .before .before .args in
-    stopped _ (write (headerEntry (a .self)) ∷ []) (flush ∷ []) refl 1 1 2 refl refl (cardOf (a .settled .now) (a .waiting .now) (a .q)) _ (written w) (w .write .result .happened) (w .write .ensures .0) (not-true _ (c .if1 .taken))
+    let gone : w .write .result .happened ≡ false = not-true (w .write .result .happened) (c .if1 .taken) in
+    stopped _ (write (headerEntry (a .self)) ∷ []) (flush ∷ []) refl 1 1 2 refl refl (cardOf (a .settled .now) (a .waiting .now) (a .q)) _ (written w) (w .write .result .happened) (w .write .ensures .0) gone
 
 flush-requires : tie.Need-flush-requires
 flush-requires c κs =

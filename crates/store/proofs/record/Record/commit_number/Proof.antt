@@ -8,7 +8,7 @@ use lib.ListN.{drop}
 use Rattle.store.specs.State.{State}
 use Rattle.store.specs.Held.{stateOf}
 use Rattle.store.specs.Request.{commit, abandon}
-use Rattle.store.specs.Causes.{table, first, cause}
+use Rattle.store.specs.Causes.{newcomers, table, first, cause}
 use Rattle.store.proofs.Causes.{Sound, cause-4, passes-sound}
 use borrow.Author.Needs.{needs}
 use Rattle.store.proofs.record.Record.commit_number.Statement.{statement}
@@ -37,7 +37,10 @@ add-if2 : tie.Need-add-if2
 add-if2 c = let s = checked (c .before .before) in omega arith
 
 returns-2 : tie.Need-returns-2
-returns-2 c = rw (table-of (c .before .before .before .before), eq-eqb _ _ (c .before .before .before .if1 .left), ← c .before .before .newcomers .ensures .0, lt-ltb _ _ (c .if2 .taken))
+returns-2 c =
+    let st = given (c .before .before .before .before .before .before .before .before) in
+    let merged : c .before .before .newcomers .result ≡ newcomers (st .work) (st .rec .grouped) (st .rec .opened) = c .before .before .newcomers .ensures .0 in
+    rw (table-of (c .before .before .before .before), eq-eqb _ _ (c .before .before .before .if1 .left), ← merged, lt-ltb _ _ (c .if2 .taken))
 
 returns-3 : tie.Need-returns-3
 returns-3 c = rw (table-of (c .before .before .before .before), eq-eqb _ _ (c .before .before .before .if1 .left), ← c .before .before .newcomers .ensures .0, le-ltb _ _ (c .if2 .left))

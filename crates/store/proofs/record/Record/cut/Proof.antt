@@ -11,7 +11,8 @@ use Rattle.store.specs.Request.{cut}
 use Rattle.store.specs.Simple.{finished}
 use Rattle.store.specs.Saves.{cutCall}
 use Rattle.store.proofs.Calls.{call-refused, call-done}
-use Rattle.store.proofs.Causes.{neither, cause-passes, passes-sound}
+use Rattle.journal.proofs.Logs.{neither}
+use Rattle.store.proofs.Causes.{cause-passes, passes-sound}
 use Rattle.store.proofs.Saves.{cut-state}
 use borrow.Author.Needs.{needs}
 use Rattle.store.proofs.record.Record.cut.Statement.{statement}

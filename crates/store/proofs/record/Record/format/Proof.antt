@@ -77,7 +77,8 @@ unfolding formatCall formatted
 returns-2 c =
     let wiped = c .before .before .before .before .before .before .before .before .before .before .before .before .before .before in
     let e = wiped .before .before .before in
-    rw (c .answer2 .ensures, c .before .fresh .ensures, c .before .before .before .before .before .before .before .before .settle-header .ensures, wiped .wipe .ensures .0, wiped .wipe .ensures .1, c .before .before .before .before .zero .ensures)
+    let empty : wiped .wipe .last .1 .0 ≡ replicate (length (given (e .before .before .before .before .before .before .before .before) .waiting)) 0 = wiped .wipe .ensures .1 in
+    rw (c .answer2 .ensures, c .before .fresh .ensures, c .before .before .before .before .before .before .before .before .settle-header .ensures, wiped .wipe .ensures .0, empty, c .before .before .before .before .zero .ensures)
     (call-done 0 (cause format (given (e .before .before .before .before .before .before .before .before))) (given (e .before .before .before .before .before .before .before .before)) _ (rw (sized e)) refl)
 
 pub format-spec : {M : Type 1} → statement M

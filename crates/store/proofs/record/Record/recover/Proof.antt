@@ -6,7 +6,7 @@ use borrow.Author.Tests.{eq-eqb, ne-eqb, eqb-false}
 use lib.Dec.{eqb}
 use lib.ListN.{drop}
 use Rattle.journal.specs.declared.choice.Choice.{Choice}
-use Rattle.store.specs.State.{State}
+use Rattle.store.specs.State.{State, down}
 use Rattle.store.specs.Held.{stateOf}
 use Rattle.store.specs.Request.{power, recover}
 use Rattle.store.specs.Causes.{table, first, cause}
@@ -58,8 +58,9 @@ returns-2 : tie.Need-returns-2
 unfolding recoverCall
 returns-2 c =
     let b = c .before .before .before .before in
+    let gone : given (b .before .before .before .before .before .before) .rec .mode ≡ down = c .before .if2 .taken in
     rw (c .refused2 .ensures)
-    (call-refused 4 _ _ _ (sym (table-of b ∙ rw (eq-eqb _ _ (c .before .before .before .if1 .left), eq-eqb _ _ (c .before .if2 .taken)))) (eqb-false 4 0 refl))
+    (call-refused 4 _ _ _ (sym (table-of b ∙ rw (eq-eqb _ _ (c .before .before .before .if1 .left), eq-eqb _ _ gone))) (eqb-false 4 0 refl))
 
 refused-requires-3 : tie.Need-refused-requires-3
 refused-requires-3 c κs = search needs

@@ -1,5 +1,5 @@
 -- `store::record::Record::wrong_waiting` meets its contract.
-use Prim.Native.Nat.{ℕ, _≤_}
+use Prim.Native.Nat.{ℕ, _-_, _≤_}
 use mathlib.Core.Path.{_≡_, refl}
 use mathlib.Core.Bool.{Bool, not}
 use mathlib.Core.List.{List}
@@ -39,7 +39,9 @@ unfolding wrongWaiting
 returns c =
     let l = c .before .before .before .before .loop in
     let a = c .before .before .before .before .before .before .before .args in
-    λ s k. search-hit (foreign (a .waiting .now) (a .self .blocks)) (l .i) (a .self .waiting) (l .inv .1) (omega arith) (rw (← c .before .before .address .ensures, le-ltb _ _ (c .if1 .taken)))
+    let here : c .before .before .address .result ≡ entryAt (a .waiting .now) (l .i - 1) .address = c .before .before .address .ensures in
+    let far : a .self .blocks ≤ entryAt (a .waiting .now) (l .i - 1) .address = omega arith in
+    λ s k. search-hit (foreign (a .waiting .now) (a .self .blocks)) (l .i) (a .self .waiting) (l .inv .1) (omega arith) (rw (le-ltb _ _ far))
 
 loop-less : tie.Need-loop-less Inv-loop μ-loop
 loop-less c = omega arith

@@ -1,13 +1,13 @@
--- `script::field::same` meets its contract.
+-- `cells::bytes::same` meets its contract. The invariant: what is left is the same exactly if all is.
 use Prim.Native.Nat.{_-_, _≤_}
 use mathlib.Core.Path.{_≡_, refl, sym, _∙_}
 use native.Mathlib.Omega.{arith}
 use native.Mathlib.Numerals.{add-one}
 use lib.ListN.{length, drop}
-use Rattle.script.specs.Words.{same}
-use Rattle.script.proofs.Pieces.{same-lengths, same-on, same-off, same-over}
-use Rattle.script.proofs.field.same.Statement.{statement}
-use Rattle.script.proofs.field.same.Tie as tie
+use Rattle.cells.specs.Same.{same}
+use Rattle.cells.specs.Same.Laws.{same-lengths, same-on, same-off, same-over}
+use Rattle.cells.proofs.bytes.same.Statement.{statement}
+use Rattle.cells.proofs.bytes.same.Tie as tie
 
 abbrev Inv-loop : tie.InvT-loop
 Inv-loop a b i₀ i = (i ≤ length a) × (length a ≡ length b) × (same (drop i a) (drop i b) ≡ same a b)

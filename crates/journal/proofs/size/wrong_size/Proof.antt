@@ -1,11 +1,10 @@
--- `inspect::reading::wrong_size` meets its contract.
+-- `journal::size::wrong_size` meets its contract.
 use native.Mathlib.Omega.{arith}
 use borrow.Author.Tests.{eq-eqb, ne-eqb, lt-ltb, le-ltb}
 use Rattle.card.specs.Card.{blocksIn}
-use Rattle.journal.specs.Layout.{leastBlocks}
-use Rattle.inspect.specs.Reading.{wrongSize}
-use Rattle.inspect.proofs.reading.wrong_size.Statement.{statement}
-use Rattle.inspect.proofs.reading.wrong_size.Tie as tie
+use Rattle.journal.specs.Layout.{leastBlocks, wrongSize}
+use Rattle.journal.proofs.size.wrong_size.Statement.{statement}
+use Rattle.journal.proofs.size.wrong_size.Tie as tie
 
 returns : tie.Need-returns
 unfolding wrongSize

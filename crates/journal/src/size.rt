@@ -1,0 +1,19 @@
+// The size of a card.
+use crate::LEAST;
+use crate::MOST;
+use cells::BLOCK;
+ghost use mathlib.Core.Path.{_≡_};
+ghost use Rattle.journal.specs.Layout.{wrongSize};
+
+// Whether the settled bytes are no whole blocks, too few or too many.
+pub fn wrong_size(settled: &[u8]) -> bool
+    ensures { λ r. ⌜ r ≡ wrongSize (now (settled .entry)) ⌝ }
+{
+    if settled.len() % BLOCK != 0 {
+        return true;
+    }
+    if settled.len() / BLOCK < LEAST {
+        return true;
+    }
+    MOST < settled.len() / BLOCK
+}
