@@ -181,8 +181,13 @@ module _ (ms : List ℕ) (w : World) (m : WorldSim w) (h : refusal (cut ms) (w .
         sim = λ e. sim-at store-cut ledger-cut (ap (λ (o : Done). o .plain) plain-cut) (cut-sim ms (w .store) (w .plain) _ _ _ _ b (leads-cut .clean (sym exception-cut ∙ e)));
         safe =
             let c = leads-cut .safe in
-            rw store-cut
-            (record { ledger = record { written = c .w; pending = nothing }; plain = plainAt (w .store) (w .plain) (c .S) (c .n) (c .F); sim = cut-sim ms (w .store) (w .plain) (c .w) (c .S) (c .n) (c .F) b (c .card) });
+            rw (store-cut, ledger-cut)
+            (record {
+              ledger = record { written = c .w; pending = nothing };
+              plain = plainAt (w .store) (w .plain) (c .S) (c .n) (c .F);
+              sim = cut-sim ms (w .store) (w .plain) (c .w) (c .S) (c .n) (c .F) b (c .card);
+              even = record { written = sym (c .size); pending = tt };
+            });
       }
 
 pub cut-step : (ms : List ℕ) (w : World) → WorldSim w → StepOK (cut ms) w

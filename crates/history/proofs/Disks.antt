@@ -121,12 +121,13 @@ abbrev pub ClosedCard : ℕ → Disk → List Entry → Disk → ℕ → Bool �
 ClosedCard N d w S n false = WholeCard N d w S n
 ClosedCard N d w S n true = FallCard N d w S n
 
--- a card that some list, some disk and some count belong to
-pub record SafeCard (N : ℕ) (d : Disk) : Type 0 where
+-- a card that some list of k entries, some disk and some count belong to
+pub record SafeCard (N : ℕ) (d : Disk) (k : ℕ) : Type 0 where
   pub w : List Entry
   pub S : Disk
   pub n : ℕ
   pub F : Bool
+  pub size : length w ≡ k
   pub card : ClosedCard N d w S n F
 
 -- ---- a disk that agrees below N
@@ -217,6 +218,9 @@ module _ (N : ℕ) (d e : Disk) (w : List Entry) (S : Disk) (n h : ℕ) (G : Lis
     sum = rw (← append-sum) (sum-lt (logD d n ++ G));
   }
 
+  append-size : length (logD d n ++ G) ≡ n + length G
+  append-size = lib.ListN.length-append (logD d n) G ∙ ap (λ (k : ℕ). k + length G) (length-upTo (slotE d) n)
+
   append-log : logD e n ≡ logD d n
   append-log = same-log n e d (t .log)
 
@@ -244,17 +248,17 @@ module _ (N : ℕ) (d e : Disk) (w : List Entry) (S : Disk) (n h : ℕ) (G : Lis
     all = rw append-log (r .all);
     bad = b;
     other = z;
-    size = lib.ListN.length-append (logD d n) G ∙ ap (λ (k : ℕ). k + length G) (length-upTo (slotE d) n);
+    size = append-size;
     total = append-sum;
     front = lib.Seq.take-at (logD d n) G n (length-upTo (slotE d) n) ∙ sym append-log;
     disk = λ a x. rw append-log (r .disk a x ∙ sym (overlay-agree (logD d n) e d a (t .homes a x)));
   }
 
   -- it has the sum by a collision: whatever is found then is a log all the same
-  pub append-safe : logD d n ++ G ≢ logD e (n + length G) → SafeCard N e
+  pub append-safe : logD d n ++ G ≢ logD e (n + length G) → SafeCard N e (length (logD d n ++ G))
   append-safe z = go (good N (logD e (n + length G)) (sumOf h G)) refl
     where
-      go : (t : Bool) → good N (logD e (n + length G)) (sumOf h G) ≡ t → SafeCard N e
+      go : (t : Bool) → good N (logD e (n + length G)) (sumOf h G) ≡ t → SafeCard N e (length (logD d n ++ G))
       go true b =
           let parts = both (eqb (sumOf start (logD e (n + length G))) (sumOf h G)) (allData N (logD e (n + length G))) b in
           let q : sumOf start (logD e (n + length G)) ≡ sumOf h G = borrow.Author.Tests.eqb-true _ _ (parts .0) in
@@ -263,9 +267,10 @@ module _ (N : ℕ) (d e : Disk) (w : List Entry) (S : Disk) (n h : ℕ) (G : Lis
             S = overlay (logD e (n + length G)) e;
             n = n + length G;
             F = false;
+            size = length-upTo (slotE e) (n + length G) ∙ sym append-size;
             card = record { p = n; ps = h; head = rw q append-head; all = parts .1; same = refl; disk = λ a x. refl };
           }
-      go false b = record { w = logD d n ++ G; S = S; n = n; F = true; card = append-bad z b }
+      go false b = record { w = logD d n ++ G; S = S; n = n; F = true; size = refl; card = append-bad z b }
 
 -- ---- a checkpoint
 

@@ -25,9 +25,11 @@ use Rattle.store.proofs.Causes.{SizeFacts, sizes-facts}
 use Rattle.history.specs.Call.{Call, power, put, get, commit, abandon, sync, apply, recover, cut}
 use Rattle.history.specs.Plain.{fresh}
 use Rattle.history.specs.Dispatch.{dispatch}
+use Rattle.history.specs.Ledger.{Ledger, entered}
 use Rattle.history.specs.History.{World, begun, next, after, exception}
 use Rattle.history.proofs.Disks.{emptied, data-above, data-below}
 use Rattle.history.proofs.CauseLaws.{facts-sizes, facts-record, cause-passes}
+use Rattle.history.proofs.Evens.{even-refl, even-trans, entered-even}
 use Rattle.history.proofs.Relation.{Safe}
 use Rattle.history.proofs.Steps.{WorldSim, StepOK}
 use Rattle.history.proofs.SimpleSteps.{power-step, put-step, get-step, commit-step, abandon-step}
@@ -54,8 +56,15 @@ unfolding next
 next-sim c w m h = step c w m .sim h
 
 -- what no collision breaks
-pub next-safe : (c : Call) (st : State) → Safe st → Safe (dispatch c st .state)
-next-safe c st s = step c (record { store = st; ledger = s .ledger; plain = s .plain; excepted = false }) (s .sim) .safe
+pub next-safe : (c : Call) (st : State) (l : Ledger) → Safe st l → Safe (dispatch c st .state) (entered c st l)
+next-safe c st l s =
+    let r = step c (record { store = st; ledger = s .ledger; plain = s .plain; excepted = false }) (s .sim) .safe in
+    record {
+      ledger = r .ledger;
+      plain = r .plain;
+      sim = r .sim;
+      even = even-trans (entered c st l) (entered c st (s .ledger)) (r .ledger) (entered-even c st l (s .ledger) (s .even)) (r .even);
+    }
 
 -- ---- a list of them
 
@@ -79,10 +88,10 @@ unfolding after
 after-sim [] w m h = m
 after-sim (c ∷ cs) w m h = after-sim cs (next c w) (next-sim c w m (clean-first c cs w h)) h
 
-pub after-safe : (cs : List Call) (w : World) → Safe (w .store) → Safe (after cs w .store)
+pub after-safe : (cs : List Call) (w : World) → Safe (w .store) (w .ledger) → Safe (after cs w .store) (after cs w .ledger)
 unfolding after next
 after-safe [] w s = s
-after-safe (c ∷ cs) w s = after-safe cs (next c w) (next-safe c (w .store) s)
+after-safe (c ∷ cs) w s = after-safe cs (next c w) (next-safe c (w .store) (w .ledger) s)
 
 -- ---- a fresh card
 
@@ -165,5 +174,5 @@ module _ (st : State) (h : formatCall st .answer ≡ 0) where
         });
       })
 
-  pub begun-safe : Safe (begun st .store)
-  begun-safe = record { ledger = begun st .ledger; plain = begun st .plain; sim = begun-sim }
+  pub begun-safe : Safe (begun st .store) (begun st .ledger)
+  begun-safe = record { ledger = begun st .ledger; plain = begun st .plain; sim = begun-sim; even = even-refl (begun st .ledger) }

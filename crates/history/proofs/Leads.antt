@@ -11,6 +11,8 @@ use lib.ListN.{length, getD, take, length-append}
 use Rattle.cells.specs.Upto.Laws.{length-upTo}
 use Rattle.cells.specs.Entry.{Entry}
 use Rattle.cells.specs.Entry.Laws.{entry-eq}
+use Rattle.cells.specs.Same.{same}
+use Rattle.cells.specs.Same.Laws.{same-equal, same-self}
 use Rattle.fnv.specs.Fnv.{start}
 use Rattle.card.specs.Disk.{Disk, lay, overlay}
 use Rattle.card.specs.Card.{blockAt, blocksIn, kept}
@@ -25,25 +27,11 @@ use Rattle.journal.specs.Log.{headerOf, entries, sumOf, allData, good}
 use Rattle.journal.proofs.Headers.{decode-encode}
 use Rattle.journal.proofs.Logs.{length-blockAt}
 use Rattle.journal.proofs.OrderLists.{headerEntry, appendWrites}
-use Rattle.history.specs.Ledger.{sameBytes, sameLog, collides}
+use Rattle.history.specs.Ledger.{sameLog, collides}
 use Rattle.history.proofs.Disks.{slotE, logD, entries-disk, Head, WholeCard, FallCard, ClosedCard, SafeCard, same-log, same-agree, closed-agree, data-above, data-below, append-head, append-found, append-bad, append-safe, append-sum, Appended, homes-kept, emptied, fallen}
 use Rattle.history.proofs.Crashes.{lost, header-lost, found-written, all-appended, length-front}
 
 -- ---- equal logs
-
-pub same-bytes : (a b : List ℕ) → sameBytes a b ≡ true → a ≡ b
-unfolding sameBytes
-same-bytes [] [] h = refl
-same-bytes [] (y ∷ b) h = absurd (mathlib.Core.Bool.false≢true h)
-same-bytes (x ∷ a) [] h = absurd (mathlib.Core.Bool.false≢true h)
-same-bytes (x ∷ a) (y ∷ b) h =
-    let p = Rattle.journal.proofs.Choices.both (eqb x y) (sameBytes a b) h in
-    ap₂ (λ (u : ℕ) (v : List ℕ). u ∷ v) (eqb-true _ _ (p .0)) (same-bytes a b (p .1))
-
-pub bytes-same : (a : List ℕ) → sameBytes a a ≡ true
-unfolding sameBytes
-bytes-same [] = refl
-bytes-same (x ∷ a) = rw (eq-eqb x x refl) (bytes-same a)
 
 pub same-logs : (a b : List Entry) → sameLog a b ≡ true → a ≡ b
 unfolding sameLog
@@ -51,14 +39,14 @@ same-logs [] [] h = refl
 same-logs [] (y ∷ b) h = absurd (mathlib.Core.Bool.false≢true h)
 same-logs (x ∷ a) [] h = absurd (mathlib.Core.Bool.false≢true h)
 same-logs (x ∷ a) (y ∷ b) h =
-    let p = Rattle.journal.proofs.Choices.both (eqb (x .address) (y .address) && sameBytes (x .block) (y .block)) (sameLog a b) h in
-    let q = Rattle.journal.proofs.Choices.both (eqb (x .address) (y .address)) (sameBytes (x .block) (y .block)) (p .0) in
-    ap₂ (λ (u : Entry) (v : List Entry). u ∷ v) (entry-eq (eqb-true _ _ (q .0)) (same-bytes (x .block) (y .block) (q .1))) (same-logs a b (p .1))
+    let p = Rattle.journal.proofs.Choices.both (eqb (x .address) (y .address) && same (x .block) (y .block)) (sameLog a b) h in
+    let q = Rattle.journal.proofs.Choices.both (eqb (x .address) (y .address)) (same (x .block) (y .block)) (p .0) in
+    ap₂ (λ (u : Entry) (v : List Entry). u ∷ v) (entry-eq (eqb-true _ _ (q .0)) (same-equal (x .block) (y .block) (q .1))) (same-logs a b (p .1))
 
 pub logs-same : (a : List Entry) → sameLog a a ≡ true
 unfolding sameLog
 logs-same [] = refl
-logs-same (x ∷ a) = rw (eq-eqb (x .address) (x .address) refl, bytes-same (x .block)) (logs-same a)
+logs-same (x ∷ a) = rw (eq-eqb (x .address) (x .address) refl, same-self (x .block)) (logs-same a)
 
 -- lists that are as long, are not the same and do not collide have other sums
 pub other-sums : (a b : List Entry) → sameLog a b ≡ false → length a ≡ length b → collides a b ≡ false → eqb (sumOf start a) (sumOf start b) ≡ false
@@ -81,10 +69,10 @@ foundIn s = entries s (headerOf s .count)
 
 pub record Leads (N : ℕ) (s : List ℕ) (w : List Entry) (S : Disk) (n : ℕ) (F : Bool) : Type 0 where
   pub clean : collides (foundIn s) w ≡ false → ClosedCard N (blockAt s) w S n F
-  pub safe : SafeCard N (blockAt s)
+  pub safe : SafeCard N (blockAt s) (length w)
 
 pub closed-leads : (N : ℕ) (s : List ℕ) (w : List Entry) (S : Disk) (n : ℕ) (F : Bool) → ClosedCard N (blockAt s) w S n F → Leads N s w S n F
-closed-leads N s w S n F r = record { clean = λ h. r; safe = record { w = w; S = S; n = n; F = F; card = r } }
+closed-leads N s w S n F r = record { clean = λ h. r; safe = record { w = w; S = S; n = n; F = F; size = refl; card = r } }
 
 -- on a disk that agrees with e below N
 pub agree-leads : (N : ℕ) (s : List ℕ) (e : Disk) (w : List Entry) (S : Disk) (n : ℕ) (F : Bool) → firstData < N → ((a : ℕ) → a < N → blockAt s a ≡ e a)

@@ -5,6 +5,7 @@ pub mod Crashes
 pub mod Leads
 pub mod WorkLists
 pub mod CauseLaws
+pub mod Evens
 pub mod Relation
 pub mod PlainLaws
 pub mod Steps

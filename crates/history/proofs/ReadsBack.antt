@@ -28,16 +28,16 @@ use Rattle.history.specs.Plain.{Plain, Done, refusal, served, plainStep,
 use Rattle.history.specs.Dispatch.{dispatch}
 use Rattle.history.specs.Ledger.{Ledger, heads, noted, entered, taken, logFound, sameLog}
 use Rattle.history.specs.History.{World, begun, next, after, storeNext, ledgerNext, foundWritten, acceptedCut, exception}
-use Rattle.history.specs.Statements.{requestOf, noCut, Taken, ReadBack, Summed, WrittenSummed}
+use Rattle.history.specs.Statements.{requestOf, noCut, Taken, ReadBack, WrittenSummed}
 use Rattle.history.proofs.Disks.{slotE, logD, entries-disk, WholeCard, FallCard}
 use Rattle.history.proofs.Leads.{read-head, same-logs, logs-same}
 use Rattle.history.proofs.CauseLaws.{cause-passes}
-use Rattle.history.proofs.Relation.{OpenSim, ClosedSim, DownSim, Sim}
+use Rattle.history.proofs.Relation.{OpenSim, ClosedSim, DownSim, Sim, Safe}
 use Rattle.history.proofs.PlainLaws.{sync-nothing, sync-finished, sync-short, apply-nothing, apply-finished, apply-short, recover-whole, recover-fallback, recover-short}
 use Rattle.history.proofs.Steps.{plainNext, WorldSim, same-cause, dispatch-refused, entered-refused, plain-served, noted-none, small-N, choose-fallback}
 use Rattle.history.proofs.CutStep.{served-cut, store-cut}
 use Rattle.history.proofs.RecoverStep.{is-closed}
-use Rattle.history.proofs.Induct.{step, next-sim, after-sim, begun-sim, clean-first, clean-before}
+use Rattle.history.proofs.Induct.{step, next-sim, next-safe, after-sim, after-safe, begun-sim, begun-safe, clean-first, clean-before}
 use Rattle.history.proofs.Served.{when-open, sync-cases}
 
 -- ---- a call after which the record is closed, that was no accepted cut, found it so
@@ -308,7 +308,12 @@ read-back st f cs ms ds a n x h =
 
 -- ---- the log written, by the header that a cut left
 
-summed : (w : World) → WorldSim w → w .store .rec .mode ≡ closed → Summed w
+-- count and sum, where no collision came between
+pub record Totals (st : State) (l : Ledger) : Type 0 where
+  pub count : headerOf (st .settled) .count ≡ length (l .written)
+  pub sum : headerOf (st .settled) .sum ≡ sumOf start (l .written)
+
+summed : (w : World) → WorldSim w → w .store .rec .mode ≡ closed → Totals (w .store) (w .ledger)
 summed w m z = by (w .plain .F) refl (closed-phase (m .phase))
   where
     closed-phase : OpenSim (w .store) (w .ledger) (w .plain) ⊎ (ClosedSim (w .store) (w .ledger) (w .plain) ⊎ DownSim (w .store) (w .ledger) (w .plain)) → ClosedSim (w .store) (w .ledger) (w .plain)
@@ -319,7 +324,7 @@ summed w m z = by (w .plain .F) refl (closed-phase (m .phase))
     low : w .store .rec .blocks < 2 ^ 32
     low = small-N (w .store) (w .plain) (m .basics)
 
-    whole : WholeCard (w .store .rec .blocks) (blockAt (w .store .settled)) (w .ledger .written) (w .plain .S) (w .plain .n) → Summed w
+    whole : WholeCard (w .store .rec .blocks) (blockAt (w .store .settled)) (w .ledger .written) (w .plain .S) (w .plain .n) → Totals (w .store) (w .ledger)
     whole r =
         let hd = read-head (w .store .settled) (w .store .rec .blocks) (r .p) (r .ps) (w .plain .n) _ low (r .head) in
         record {
@@ -327,12 +332,12 @@ summed w m z = by (w .plain .F) refl (closed-phase (m .phase))
           sum = ap (λ (x : Header). x .sum) hd ∙ ap (sumOf start) (sym (r .same));
         }
 
-    fall : FallCard (w .store .rec .blocks) (blockAt (w .store .settled)) (w .ledger .written) (w .plain .S) (w .plain .n) → Summed w
+    fall : FallCard (w .store .rec .blocks) (blockAt (w .store .settled)) (w .ledger .written) (w .plain .S) (w .plain .n) → Totals (w .store) (w .ledger)
     fall r =
         let hd = read-head (w .store .settled) (w .store .rec .blocks) (w .plain .n) _ (r .c) (r .ns) low (r .head) in
         record { count = ap (λ (x : Header). x .count) hd ∙ sym (r .size); sum = ap (λ (x : Header). x .sum) hd ∙ sym (r .total) }
 
-    by : (F : Bool) → w .plain .F ≡ F → ClosedSim (w .store) (w .ledger) (w .plain) → Summed w
+    by : (F : Bool) → w .plain .F ≡ F → ClosedSim (w .store) (w .ledger) (w .plain) → Totals (w .store) (w .ledger)
     by false f o = whole (rw f at (o .card))
     by true f o = fall (rw f at (o .card))
 
@@ -348,10 +353,27 @@ accepted-serves ms w m a = go (ℕ-discrete (refusal (cut ms) (w .plain)) 0)
         absurd (k (sym (ap (λ (o : Outcome). o .answer) (dispatch-refused (cut ms) (w .store) k)) ∙ eqb-true _ _ a))
 
 pub written-summed : WrittenSummed
-unfolding next
-written-summed st f cs ms a x =
-    let v = after cs (begun st) in
-    let p = neither (after cs (begun st) .excepted) (exception (cut ms) (after cs (begun st))) x in
-    let m = after-sim cs (begun st) (begun-sim st f) (p .0) in
-    summed (next (cut ms) (after cs (begun st))) (next-sim (cut ms) (after cs (begun st)) m (p .1))
-    (ap (λ (s : State). s .rec .mode) (store-cut ms (after cs (begun st)) m (accepted-serves ms (after cs (begun st)) m a)))
+unfolding next acceptedCut
+written-summed st f cs ms a = record {
+  count = totals .count ∙ sym (s .even .written);
+  sum = λ x.
+      let p = neither (after cs (begun st) .excepted) (exception (cut ms) (after cs (begun st))) x in
+      let m = after-sim cs (begun st) (begun-sim st f) (p .0) in
+      summed (next (cut ms) (after cs (begun st))) (next-sim (cut ms) (after cs (begun st)) m (p .1))
+      (shut (after cs (begun st)) m a) .sum;
+}
+  where
+    shut : (w : World) → WorldSim w → acceptedCut (cut ms) w ≡ true → storeNext (cut ms) w .rec .mode ≡ closed
+    shut w m a = ap (λ (s : State). s .rec .mode) (store-cut ms w m (accepted-serves ms w m a))
+
+    -- what no collision broke before the cut, and what none breaks after it
+    t : Safe (after cs (begun st) .store) (after cs (begun st) .ledger)
+    t = after-safe cs (begun st) (begun-safe st f)
+
+    s : Safe (next (cut ms) (after cs (begun st)) .store) (next (cut ms) (after cs (begun st)) .ledger)
+    s = next-safe (cut ms) (after cs (begun st) .store) (after cs (begun st) .ledger) t
+
+    totals : Totals (next (cut ms) (after cs (begun st)) .store) (s .ledger)
+    totals =
+        summed (record { store = next (cut ms) (after cs (begun st)) .store; ledger = s .ledger; plain = s .plain; excepted = false }) (s .sim)
+        (shut (record { store = after cs (begun st) .store; ledger = t .ledger; plain = t .plain; excepted = false }) (t .sim) a)

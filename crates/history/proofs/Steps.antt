@@ -31,6 +31,7 @@ use Rattle.history.specs.Statements.{requestOf, Agrees}
 use Rattle.history.proofs.Disks.{logD, entries-disk, WholeCard, FallCard, ClosedCard}
 use Rattle.history.proofs.Leads.{read-head}
 use Rattle.history.proofs.CauseLaws.{record-facts, cause-refusal}
+use Rattle.history.proofs.Evens.{even-refl}
 use Rattle.history.proofs.Relation.{Basics, OpenSim, ClosedSim, DownSim, Sim, Safe}
 
 -- ---- what a step has to show
@@ -44,7 +45,7 @@ WorldSim w = Sim (w .store) (w .ledger) (w .plain)
 pub record StepOK (c : Call) (w : World) : Type 0 where
   pub agrees : Agrees c w
   pub sim : exception c w ≡ false → Sim (storeNext c w) (ledgerNext c w) (plainNext c w)
-  pub safe : Safe (storeNext c w)
+  pub safe : Safe (storeNext c w) (ledgerNext c w)
 
 -- n, when open
 pub sim-n : (st : State) (l : Ledger) (d : Plain) → Sim st l d → st .rec .mode ≡ opened → st .rec .logged ≡ d .n
@@ -76,7 +77,7 @@ sim-step c w s =
         n = sim-n (storeNext c w) (ledgerNext c w) (plainNext c w) (s .sim);
       };
       sim = λ e. s .sim;
-      safe = record { ledger = ledgerNext c w; plain = plainNext c w; sim = s .sim };
+      safe = record { ledger = ledgerNext c w; plain = plainNext c w; sim = s .sim; even = even-refl (ledgerNext c w) };
     }
 
 -- the relation carried along equations

@@ -12,6 +12,7 @@ use Rattle.store.specs.Causes.{cause}
 use Rattle.history.specs.Call.{Call, recover, sync}
 use Rattle.history.specs.Plain.{Done, refusal, served}
 use Rattle.history.specs.Dispatch.{dispatch}
+use Rattle.history.specs.Ledger.{Ledger}
 use Rattle.history.specs.History.{World, begun, after, foundWritten}
 use Rattle.history.specs.Statements.{requestOf, Sound, Safety, Refinement, ReadBack, WrittenSummed, Logged, Written, CrashAtomicity}
 use Rattle.history.specs.Refusals.{Refusals}
@@ -29,7 +30,7 @@ use Rattle.history.proofs.Surfaces as Surfaces
 
 -- ---- Safety
 
-module _ (st : State) (s : Safe st) where
+module _ (st : State) (l : Ledger) (s : Safe st l) where
   world : World
   world = record { store = st; ledger = s .ledger; plain = s .plain; excepted = false }
 
@@ -83,7 +84,7 @@ module _ (st : State) (s : Safe st) where
   }
 
 pub safety : Safety
-safety st h cs = sound (after cs (begun st) .store) (after-safe cs (begun st) (begun-safe st h))
+safety st h cs = sound (after cs (begun st) .store) (after cs (begun st) .ledger) (after-safe cs (begun st) (begun-safe st h))
 
 -- ---- Refinement
 
@@ -98,8 +99,8 @@ read-back = ReadsBack.read-back
 pub written-summed : WrittenSummed
 written-summed = ReadsBack.written-summed
 
-sync-logged : (st : State) → Safe st → st .rec .grouped ≢ 0 → dispatch sync st .answer ≡ 0 → Logged st (dispatch sync st .state)
-sync-logged st s z h = go (ℕ-discrete (cause Request.sync st) 0)
+sync-logged : (st : State) (l : Ledger) → Safe st l → st .rec .grouped ≢ 0 → dispatch sync st .answer ≡ 0 → Logged st (dispatch sync st .state)
+sync-logged st l s z h = go (ℕ-discrete (cause Request.sync st) 0)
   where
     w : World
     w = record { store = st; ledger = s .ledger; plain = s .plain; excepted = false }
@@ -111,7 +112,7 @@ sync-logged st s z h = go (ℕ-discrete (cause Request.sync st) 0)
         (is-open st (s .ledger) (s .plain) (s .sim) Request.sync refl (cause-passes Request.sync st k)) z h
 
 pub written : Written
-written st f cs z h = sync-logged (after cs (begun st) .store) (after-safe cs (begun st) (begun-safe st f)) z h
+written st f cs z h = sync-logged (after cs (begun st) .store) (after cs (begun st) .ledger) (after-safe cs (begun st) (begun-safe st f)) z h
 
 -- ---- Crash atomicity
 

@@ -10,6 +10,7 @@ use lib.ListN.{length, getD, replicate, length-replicate}
 use Rattle.cells.specs.Cell.{cell}
 use Rattle.cells.specs.Little.{num}
 use Rattle.cells.specs.Entry.{blockBytes, Entry}
+use Rattle.cells.specs.Same.Laws.{same-self}
 use Rattle.fnv.specs.Fnv.{start}
 use Rattle.card.specs.Disk.{Disk, lay, overlay}
 use Rattle.card.specs.Card.{blockAt, blocksIn}
@@ -32,7 +33,7 @@ use Rattle.history.specs.Statements as S
 use Rattle.history.specs.Statements.{EndsFinished, noneFinished, shortSync, allOnes, Fate, quiet, cutShort, decided, observe, fate, outcome}
 use Rattle.history.specs.Worked.{sevens, nines, at40, filed, crashed, metByRecover, answers, Script, Worked}
 use Rattle.history.proofs.Disks.{slotE, logD}
-use Rattle.history.proofs.Leads.{foundIn, bytes-same}
+use Rattle.history.proofs.Leads.{foundIn}
 use Rattle.history.proofs.Relation.{cutSettled, cutWritten}
 use Rattle.history.proofs.Steps.{WorldSim}
 use Rattle.history.proofs.CutStep.{found-cut, exception-cut}
@@ -85,7 +86,7 @@ log-found = at40 sevens ∷ record { address = 0; block = nines } ∷ []
 
 other-log : sameLog log-found log-written ≡ false
 unfolding sameLog
-other-log = rw (bytes-same sevens)
+other-log = rw (same-self sevens)
 
 no-collision : collides log-found log-written ≡ false
 unfolding collides

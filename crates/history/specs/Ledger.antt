@@ -7,6 +7,7 @@ use mathlib.Core.List.{List, [], _∷_, _++_}
 use lib.Dec.{eqb, leb}
 use lib.ListN.{length, getD}
 use Rattle.cells.specs.Entry.{Entry}
+use Rattle.cells.specs.Same.{same}
 use Rattle.fnv.specs.Fnv.{start}
 use Rattle.journal.specs.Log.{headerOf, entries, sumOf}
 use Rattle.journal.specs.Choice.{choose, takenCount}
@@ -98,17 +99,11 @@ entered (cut ms) st l =
 unfoldable pub logFound : State → List Entry
 logFound st = entries (st .settled) (headerOf (st .settled) .count)
 
-unfoldable pub sameBytes : List ℕ → List ℕ → Bool
-sameBytes [] [] = true
-sameBytes [] (y ∷ ys) = false
-sameBytes (x ∷ xs) [] = false
-sameBytes (x ∷ xs) (y ∷ ys) = eqb x y && sameBytes xs ys
-
 unfoldable pub sameLog : List Entry → List Entry → Bool
 sameLog [] [] = true
 sameLog [] (f ∷ fs) = false
 sameLog (e ∷ es) [] = false
-sameLog (e ∷ es) (f ∷ fs) = eqb (e .address) (f .address) && sameBytes (e .block) (f .block) && sameLog es fs
+sameLog (e ∷ es) (f ∷ fs) = eqb (e .address) (f .address) && same (e .block) (f .block) && sameLog es fs
 
 -- a checksum collision: another list than the one written, as long, with the same sum
 unfoldable pub collides : List Entry → List Entry → Bool

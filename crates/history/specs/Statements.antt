@@ -91,16 +91,16 @@ ReadBack =
     → dispatch recover (after ds (next (cut ms) (after cs (begun st))) .store) .answer ≡ 0
     → Taken (next (cut ms) (after cs (begun st))) (dispatch recover (after ds (next (cut ms) (after cs (begun st))) .store) .state)
 
--- a check on the log written: at every accepted cut with no exception so far it has the header's n entries and the header's sum of n
+-- a check on the log written: at every accepted cut it has the header's n entries and, with no exception so far, the header's sum
+-- of n
 pub record Summed (w : World) : Type 0 where
   pub count : headerOf (w .store .settled) .count ≡ length (w .ledger .written)
-  pub sum : headerOf (w .store .settled) .sum ≡ sumOf start (w .ledger .written)
+  pub sum : w .excepted ≡ false → headerOf (w .store .settled) .sum ≡ sumOf start (w .ledger .written)
 
 abbrev pub WrittenSummed : Type 0
 WrittenSummed =
     (st : State) → formatCall st .answer ≡ 0 → (cs : List Call) (ms : List ℕ)
     → acceptedCut (cut ms) (after cs (begun st)) ≡ true
-    → next (cut ms) (after cs (begun st)) .excepted ≡ false
     → Summed (next (cut ms) (after cs (begun st)))
 
 -- what a finished sync of a nonempty group leaves on the card is the checksummed log: p and its sum, n and its sum, and the log

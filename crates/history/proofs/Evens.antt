@@ -1,0 +1,82 @@
+-- Ledgers whose lists are as long: what a collision leaves of the log written.
+use Prim.Native.Nat.{ℕ, suc}
+use mathlib.Core.Path.{_≡_, refl, _∙_}
+use mathlib.Core.Bool.{Bool, true, false, cond}
+use mathlib.Core.List.{List, [], _∷_}
+use lib.Dec.{eqb, leb}
+use lib.ListN.{length, getD}
+use Rattle.cells.specs.Entry.{Entry}
+use Rattle.store.specs.State.{State}
+use Rattle.history.specs.Call.{Call, power, put, get, commit, abandon, sync, apply, recover, cut}
+use Rattle.history.specs.Dispatch.{dispatch}
+use Rattle.history.specs.Ledger.{Head, Pending, nothing, waits, Ledger, heads, noted, resolved, entered}
+
+abbrev pub EvenPending : Pending → Pending → Type 0
+EvenPending nothing nothing = Unit {0}
+EvenPending nothing (waits q b) = ⊥
+EvenPending (waits p a) nothing = ⊥
+EvenPending (waits p a) (waits q b) = (p ≡ q) × (length a ≡ length b)
+
+pub record Even (l m : Ledger) : Type 0 where
+  pub written : length (l .written) ≡ length (m .written)
+  pub pending : EvenPending (l .pending) (m .pending)
+
+pending-refl : (p : Pending) → EvenPending p p
+pending-refl nothing = tt
+pending-refl (waits p a) = (refl, refl)
+
+pub even-refl : (l : Ledger) → Even l l
+even-refl l = record { written = refl; pending = pending-refl (l .pending) }
+
+pending-trans : (p q r : Pending) → EvenPending p q → EvenPending q r → EvenPending p r
+pending-trans nothing nothing r e f = f
+pending-trans nothing (waits q b) r e f = absurd e
+pending-trans (waits p a) nothing r e f = absurd e
+pending-trans (waits p a) (waits q b) nothing e f = absurd f
+pending-trans (waits p a) (waits q b) (waits r c) e f = (e .0 ∙ f .0, e .1 ∙ f .1)
+
+pub even-trans : (k l m : Ledger) → Even k l → Even l m → Even k m
+even-trans k l m e f = record { written = e .written ∙ f .written; pending = pending-trans (k .pending) (l .pending) (m .pending) (e .pending) (f .pending) }
+
+-- a call's headers are the same for both
+noted-even : (hs : List Head) (k : ℕ) (l m : Ledger) → Even l m → Even (noted hs k l) (noted hs k m)
+unfolding noted
+noted-even [] k l m e = e
+noted-even (h ∷ hs) k l m e =
+    go (leb k (h .at)) (eqb k (suc (h .at)))
+    (noted-even hs k (record { written = h .list; pending = nothing }) (record { written = h .list; pending = nothing }) (record { written = refl; pending = tt }))
+  where
+    go : (s t : Bool) → Even (noted hs k (record { written = h .list; pending = nothing })) (noted hs k (record { written = h .list; pending = nothing }))
+        → Even (cond s l (cond t (record { written = l .written; pending = waits (h .place) (h .list) }) (noted hs k (record { written = h .list; pending = nothing }))))
+        (cond s m (cond t (record { written = m .written; pending = waits (h .place) (h .list) }) (noted hs k (record { written = h .list; pending = nothing }))))
+    go true t r = e
+    go false true r = record { written = e .written; pending = (refl, refl) }
+    go false false r = r
+
+-- a cut decides the same for both
+resolved-even : (ms : List ℕ) (p q : Pending) (a b : List Entry) → EvenPending p q → length a ≡ length b → length (resolved ms p a) ≡ length (resolved ms q b)
+unfolding resolved
+resolved-even ms nothing nothing a b e f = f
+resolved-even ms nothing (waits q y) a b e f = absurd e
+resolved-even ms (waits p x) nothing a b e f = absurd e
+resolved-even ms (waits p x) (waits q y) a b e f = rw (e .0) (go (eqb (getD ms q 0) 1))
+  where
+    go : (t : Bool) → length (cond t x a) ≡ length (cond t y b)
+    go true = e .1
+    go false = f
+
+pub entered-even : (c : Call) (st : State) (l m : Ledger) → Even l m → Even (entered c st l) (entered c st m)
+unfolding entered
+entered-even (power k) st l m e = e
+entered-even (put a b) st l m e = e
+entered-even (get a) st l m e = e
+entered-even commit st l m e = e
+entered-even abandon st l m e = e
+entered-even sync st l m e = noted-even (heads sync st) (dispatch sync st .orders) l m e
+entered-even apply st l m e = noted-even (heads apply st) (dispatch apply st .orders) l m e
+entered-even recover st l m e = noted-even (heads recover st) (dispatch recover st .orders) l m e
+entered-even (cut ms) st l m e = go (eqb (dispatch (cut ms) st .answer) 0)
+  where
+    go : (t : Bool) → Even (cond t (record { written = resolved ms (l .pending) (l .written); pending = nothing }) l) (cond t (record { written = resolved ms (m .pending) (m .written); pending = nothing }) m)
+    go true = record { written = resolved-even ms (l .pending) (m .pending) (l .written) (m .written) (e .pending) (e .written); pending = tt }
+    go false = e
