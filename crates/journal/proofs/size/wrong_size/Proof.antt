@@ -1,6 +1,12 @@
 -- `journal::size::wrong_size` meets its contract.
+use Prim.Native.Nat.{_%_}
+use mathlib.Core.Path.{_≡_}
+use mathlib.Core.Bool.{false}
 use native.Mathlib.Omega.{arith}
 use borrow.Author.Tests.{eq-eqb, ne-eqb, lt-ltb, le-ltb}
+use lib.Dec.{eqb}
+use lib.ListN.{length}
+use Rattle.cells.specs.Entry.{blockBytes}
 use Rattle.card.specs.Card.{blocksIn}
 use Rattle.journal.specs.Layout.{leastBlocks, wrongSize}
 use Rattle.journal.proofs.size.wrong_size.Statement.{statement}
@@ -8,7 +14,9 @@ use Rattle.journal.proofs.size.wrong_size.Tie as tie
 
 returns : tie.Need-returns
 unfolding wrongSize
-returns c = rw (ne-eqb _ _ (c .if1 .taken))
+returns c =
+    let torn : eqb (length (c .before .args .settled .now) % blockBytes) 0 ≡ false = ne-eqb _ _ (c .if1 .taken) in
+    rw torn
 
 returns-2 : tie.Need-returns-2
 unfolding wrongSize
