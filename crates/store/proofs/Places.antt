@@ -1,9 +1,11 @@
--- The place of a get holds a whole block.
+-- The place of a get holds a whole block, and the part promised there has the bytes that the statements speak of.
 use Prim.Native.Nat.{ℕ, _<_}
 use mathlib.Core.Path.{_≡_, refl, sym}
 use mathlib.Core.Bool.{Bool, true, false, cond}
+use mathlib.Core.List.{List}
 use native.Mathlib.Omega.{arith}
 use borrow.Author.Tests.{eqb-true, ltb-true, not-false}
+use denote.Ref.{RefT}
 use lib.Dec.{eqb, leb, ltb}
 use Rattle.journal.specs.declared.lookup.Found.{Found}
 use Rattle.journal.specs.declared.lookup.Found.the-variants.{At, Absent}
@@ -11,13 +13,15 @@ use Rattle.journal.specs.Layout.{isData, firstData}
 use Rattle.journal.specs.Log.{slotAddress}
 use Rattle.journal.specs.Lookup.{lastSlot}
 use Rattle.journal.proofs.Choices.{both}
-use Rattle.store.specs.declared.place.Place.the-variants.{Nowhere}
+use Rattle.store.specs.declared.place.Place.{Place}
+use Rattle.store.specs.declared.place.Place.the-variants.{Settled, Work, Nowhere}
+use Rattle.store.specs.declared.record.Record.{Record}
 use Rattle.store.specs.State.{State}
-use Rattle.store.specs.Held.{Within}
+use Rattle.store.specs.Held.{stateOf, Within}
 use Rattle.store.specs.Lists.{openFrom, groupFrom, find}
 use Rattle.store.specs.Request.{get}
 use Rattle.store.specs.Causes.{cause}
-use Rattle.store.specs.Get.{logPlace, groupPlace, openPlace, newest, getPlace}
+use Rattle.store.specs.Get.{logPlace, groupPlace, openPlace, newest, getPlace, bytesAt, partAt}
 use Rattle.store.proofs.Causes.{Sound, cause-passes, passes-sound}
 use Rattle.store.proofs.Lookups.{last-at, find-at}
 
@@ -52,3 +56,8 @@ get-within a st = go (eqb (cause (get a) st) 0) refl
         let z : cause (get a) st ≡ 0 = eqb-true _ _ e in
         newest-within a st (passes-sound (get a) st 0 refl (sym z) refl) (not-false _ (cause-passes (get a) st 0 (sym z) refl .address))
     go false e = tt
+
+pub part-bytes : (p : Place) (r : Record) (settled work : RefT (List ℕ)) (w : List ℕ) → partAt p settled work .bytes ≡ bytesAt p (stateOf r (settled .now) w (work .now))
+part-bytes (Settled o) r s k w = refl
+part-bytes (Work o) r s k w = refl
+part-bytes Nowhere r s k w = refl
