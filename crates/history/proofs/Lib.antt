@@ -23,6 +23,7 @@ pub mod Served
 pub mod ReadsBack
 pub mod RefusalsProof
 pub mod Surfaces
+pub mod Links
 pub mod Fates
 pub mod Atomicity
 pub mod Theorems

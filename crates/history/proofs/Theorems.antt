@@ -1,4 +1,4 @@
--- The theorems about histories. Their types stand in specs/Statements.antt and specs/Refusals.antt.
+-- The theorems about histories. Their types stand in specs/Statements.antt, specs/Refusals.antt and specs/Linked.antt.
 use Prim.Native.Nat.{ℕ}
 use mathlib.Core.Path.{_≡_, refl, ap, sym, _∙_}
 use mathlib.Core.Logic.{_≢_, _⊎_}
@@ -16,6 +16,7 @@ use Rattle.history.specs.Ledger.{Ledger}
 use Rattle.history.specs.History.{World, begun, after, foundWritten}
 use Rattle.history.specs.Statements.{requestOf, Sound, Safety, Refinement, ReadBack, WrittenSummed, Logged, Written, CrashAtomicity}
 use Rattle.history.specs.Refusals.{Refusals}
+use Rattle.history.specs.Linked.{Linked}
 use Rattle.history.proofs.CauseLaws.{cause-one, cause-two, cause-passes}
 use Rattle.history.proofs.Relation.{Safe}
 use Rattle.history.proofs.Steps.{same-cause, dispatch-refused, plain-served}
@@ -27,6 +28,7 @@ use Rattle.history.proofs.ReadsBack as ReadsBack
 use Rattle.history.proofs.Atomicity as Atomicity
 use Rattle.history.proofs.RefusalsProof as RefusalsProof
 use Rattle.history.proofs.Surfaces as Surfaces
+use Rattle.history.proofs.Links as Links
 
 -- ---- Safety
 
@@ -128,3 +130,8 @@ refusals = record {
   faces = Surfaces.faces RefusalsProof.calls;
   gets = Surfaces.gets;
 }
+
+-- ---- Through C
+
+pub linked : Linked
+linked = Links.linked

@@ -6,4 +6,5 @@ pub mod Ledger
 pub mod History
 pub mod Statements
 pub mod Refusals
+pub mod Linked
 pub mod Worked

@@ -1,0 +1,287 @@
+-- Every record that a list of calls leaves fits its 36 bytes, and so C passes on the store's state.
+use Prim.Native.Nat.{ℕ, _+_, _^_, _≤_, _<_}
+use mathlib.Core.Path.{_≡_, refl, ap, sym, _∙_}
+use mathlib.Core.Logic.{_⊎_}
+use mathlib.Core.Bool.{Bool, true, false, cond}
+use mathlib.Core.List.{List, [], _∷_}
+use native.Mathlib.Omega.{arith}
+use native.Mathlib.Decide.{ℕ-discrete, decLe}
+use borrow.Author.Tests.{eq-eqb}
+use lib.Dec.{eqb, leb, lit<}
+use lib.ListN.{length}
+use Rattle.fnv.specs.Fnv.{start}
+use Rattle.card.specs.Card.{Order}
+use Rattle.journal.specs.Log.{entries}
+use Rattle.journal.proofs.Logs.{sumOf-lt}
+use Rattle.store.specs.declared.record.Record.{Record}
+use Rattle.store.specs.Request as Request
+use Rattle.store.specs.State.{State, Outcome, opened, down, withMode, withLog}
+use Rattle.store.specs.Held.{stateOf}
+use Rattle.store.specs.Causes.{needsOpen, cause}
+use Rattle.store.specs.Simple.{formatted, formatCall, powerCall}
+use Rattle.store.specs.Saves.{carried, applies, synced, innerOrders, syncing, syncCall, applyCall, recoverCall, cutCall}
+use Rattle.store.proofs.Causes.{sizes-facts}
+use Rattle.firmware.specs.Face.{recordBytes, decodeRecord, Face, faced, handed, Got, gotIn, got}
+use Rattle.firmware.proofs.Records.{length-encode, Fitting, decode-encode}
+use Rattle.firmware.proofs.Faces.{faced-outcome, got-place}
+use Rattle.history.specs.Call.{Call, power, put, get, commit, abandon, sync, apply, recover, cut}
+use Rattle.history.specs.Plain.{Plain, Done, refusal, served, plainStep, plainSync, plainApply, plainRecover, plainCut}
+use Rattle.history.specs.Dispatch.{dispatch}
+use Rattle.history.specs.Ledger.{Ledger, entered}
+use Rattle.history.specs.History.{World, begun, next, after, foundWritten}
+use Rattle.history.specs.Statements.{requestOf}
+use Rattle.history.specs.Linked.{faceNext, faceAfter, Passable, AllPassable, Holds, Links, Linked}
+use Rattle.history.proofs.CauseLaws.{record-facts, cause-passes}
+use Rattle.history.proofs.PlainLaws.{sync-nothing, sync-finished, sync-short, apply-nothing, apply-finished, apply-short, recover-whole, recover-fallback, recover-short}
+use Rattle.history.proofs.Relation.{OpenSim, ClosedSim, DownSim, Safe}
+use Rattle.history.proofs.Steps.{same-cause, dispatch-refused, plain-refused, plain-served}
+use Rattle.history.proofs.SimpleSteps.{is-open}
+use Rattle.history.proofs.Induct.{step, next-safe, begun-safe, formatted-now}
+use Rattle.history.proofs.Served.{sync-cases}
+
+-- ---- the power only sinks, or is set
+
+sync-power : (d : Plain) → plainSync d .plain .power ≤ d .power
+sync-power d =
+    sync-cases (λ o. o .plain .power ≤ d .power) d
+    (λ z. rw (sync-nothing d z) (omega arith))
+    (λ z p. rw (sync-finished d z p) (omega arith))
+    (λ z p. rw (sync-short d z p) (omega arith))
+
+apply-power : (d : Plain) → plainApply d .plain .power ≤ d .power
+apply-power d = go (ℕ-discrete (d .n) 0) (decLe (d .n + 3) (d .power))
+  where
+    go : Dec (d .n ≡ 0) → Dec (d .n + 3 ≤ d .power) → plainApply d .plain .power ≤ d .power
+    go (yes z) q = rw (apply-nothing d z) (omega arith)
+    go (no z) (yes q) = rw (apply-finished d z q) (omega arith)
+    go (no z) (no q) = rw (apply-short d z (omega arith)) (omega arith)
+
+recover-power : (d : Plain) → plainRecover d .plain .power ≤ d .power
+recover-power d = go (d .F) refl (decLe 2 (d .power))
+  where
+    go : (t : Bool) → d .F ≡ t → Dec (2 ≤ d .power) → plainRecover d .plain .power ≤ d .power
+    go false f q = rw (recover-whole d f) (omega arith)
+    go true f (yes q) = rw (recover-fallback d f q) (omega arith)
+    go true f (no q) = rw (recover-short d f (omega arith)) (omega arith)
+
+served-power : (c : Call) (t : Bool) (d : Plain) → Passable c → d .power < 2 ^ 32 → served c t d .plain .power < 2 ^ 32
+unfolding plainCut
+served-power (power k) t d p h = p
+served-power (put a b) t d p h = h
+served-power (get a) t d p h = h
+served-power commit t d p h = h
+served-power abandon t d p h = h
+served-power sync t d p h = omega (arith, sync-power d)
+served-power apply t d p h = omega (arith, apply-power d)
+served-power recover t d p h = omega (arith, recover-power d)
+served-power (cut ms) t d p h = h
+
+plain-power : (c : Call) (t : Bool) (d : Plain) → Passable c → d .power < 2 ^ 32 → plainStep c t d .plain .power < 2 ^ 32
+plain-power c t d p h = go (ℕ-discrete (refusal c d) 0)
+  where
+    go : Dec (refusal c d ≡ 0) → plainStep c t d .plain .power < 2 ^ 32
+    go (yes e) = rw (plain-served c t d e) (served-power c t d p h)
+    go (no e) = rw (plain-refused c t d e) h
+
+-- ---- the sum is one of a list, or as it was
+
+-- what a call leaves of it: open, kept, or the empty list's
+abbrev Sums : State → Outcome → Type 0
+Sums st o = (o .state .rec .mode ≡ opened) ⊎ ((o .state .rec .sum ≡ st .rec .sum) ⊎ (o .state .rec .sum ≡ start))
+
+-- done with a record that is open, or has such a sum; or gone with one
+carried-sums : (os : List Order) (done gone : Record) (st : State)
+    → (done .mode ≡ opened) ⊎ ((done .sum ≡ st .rec .sum) ⊎ (done .sum ≡ start))
+    → (gone .sum ≡ st .rec .sum) ⊎ (gone .sum ≡ start)
+    → Sums st (carried os done gone st)
+unfolding carried
+carried-sums os done gone st a b = go (leb (length os) (st .rec .power))
+  where
+    go : (t : Bool) → (cond t done (withMode down gone) .mode ≡ opened) ⊎ ((cond t done (withMode down gone) .sum ≡ st .rec .sum) ⊎ (cond t done (withMode down gone) .sum ≡ start))
+    go true = a
+    go false = _⊎_.inr b
+
+synced-mode : (st : State) → synced st .mode ≡ st .rec .mode
+synced-mode st = go (applies st)
+  where
+    go : (t : Bool) → cond t (withLog 0 start (st .rec)) (st .rec) .mode ≡ st .rec .mode
+    go true = refl
+    go false = refl
+
+sync-sums : (st : State) → st .rec .mode ≡ opened → Sums st (syncing st)
+sync-sums st o =
+    carried-sums _ _ _ st (_⊎_.inl (synced-mode st ∙ o)) (go (leb (length (innerOrders st)) (st .rec .power)) (applies st))
+  where
+    go : (b t : Bool) → (cond b (cond t (withLog 0 start (st .rec)) (st .rec)) (st .rec) .sum ≡ st .rec .sum) ⊎ (cond b (cond t (withLog 0 start (st .rec)) (st .rec)) (st .rec) .sum ≡ start)
+    go true true = _⊎_.inr refl
+    go true false = _⊎_.inl refl
+    go false t = _⊎_.inl refl
+
+apply-sums : (st : State) (os : List Order) → Sums st (carried os (cond (eqb (st .rec .logged) 0) (st .rec) (withLog 0 start (st .rec))) (st .rec) st)
+apply-sums st os = carried-sums os _ _ st (_⊎_.inr (go (eqb (st .rec .logged) 0))) (_⊎_.inl refl)
+  where
+    go : (t : Bool) → (cond t (st .rec) (withLog 0 start (st .rec)) .sum ≡ st .rec .sum) ⊎ (cond t (st .rec) (withLog 0 start (st .rec)) .sum ≡ start)
+    go true = _⊎_.inl refl
+    go false = _⊎_.inr refl
+
+module _ (st : State) (l : Ledger) (s : Safe st l) where
+  world : World
+  world = record { store = st; ledger = s .ledger; plain = s .plain; excepted = false }
+
+  -- a call on an open record that leaves the plain disk's mode leaves it open
+  still-open : (c : Call) (q : Request.Request) → requestOf c ≡ q → needsOpen q ≡ true → cause q st ≡ 0
+      → served c (foundWritten c world) (s .plain) .plain .mode ≡ s .plain .mode → dispatch c st .state .rec .mode ≡ opened
+  unfolding world
+  still-open c q e n h k =
+      let z : cause (requestOf c) st ≡ 0 = ap (λ (x : Request.Request). cause x st) e ∙ h in
+      let r : refusal c (s .plain) ≡ 0 = sym (same-cause st (s .ledger) (s .plain) (s .sim) c) ∙ z in
+      let o = is-open st (s .ledger) (s .plain) (s .sim) q n (cause-passes q st h) in
+      step c world (s .sim) .agrees .mode ∙ ap (λ (x : Done). x .plain .mode) (plain-served c (foundWritten c world) (s .plain) r) ∙ k ∙ s .sim .basics .mirrors .mode ∙ o .mode
+
+  served-sums : (c : Call) → cause (requestOf c) st ≡ 0 → Sums st (dispatch c st)
+  unfolding powerCall syncCall applyCall recoverCall cutCall
+  served-sums (power k) h = rw (eq-eqb _ 0 h) (_⊎_.inr (_⊎_.inl refl))
+  served-sums (put a b) h = _⊎_.inl (still-open (put a b) (Request.put a b) refl refl h refl)
+  served-sums (get a) h = _⊎_.inr (_⊎_.inl refl)
+  served-sums commit h = _⊎_.inl (still-open commit Request.commit refl refl h refl)
+  served-sums abandon h = _⊎_.inl (still-open abandon Request.abandon refl refl h refl)
+  served-sums sync h =
+      rw (eq-eqb _ 0 h) (sync-sums st (is-open st (s .ledger) (s .plain) (s .sim) Request.sync refl (cause-passes Request.sync st h) .mode))
+  served-sums apply h = rw (eq-eqb _ 0 h) (apply-sums st _)
+  served-sums recover h = rw (eq-eqb _ 0 h) (carried-sums _ _ _ st (_⊎_.inl refl) (_⊎_.inl refl))
+  served-sums (cut ms) h = rw (eq-eqb _ 0 h) (_⊎_.inr (_⊎_.inr refl))
+
+  sums : (c : Call) → Sums st (dispatch c st)
+  sums c = go (ℕ-discrete (cause (requestOf c) st) 0)
+    where
+      go : Dec (cause (requestOf c) st ≡ 0) → Sums st (dispatch c st)
+      go (yes h) = served-sums c h
+      go (no h) = rw (dispatch-refused c st h) (_⊎_.inr (_⊎_.inl refl))
+
+-- ---- every record fits
+
+-- the two numbers that no count bounds
+record Bounded (st : State) : Type 0 where
+  power : st .rec .power < 2 ^ 32
+  sum : st .rec .sum < 2 ^ 64
+
+next-bounded : (c : Call) (st : State) (l : Ledger) → Safe st l → Passable c → Bounded st → Bounded (dispatch c st .state)
+unfolding world
+next-bounded c st l s p b = record { power = rw (agrees .power) (plain-power c (foundWritten c (world st l s)) (s .plain) p (rw (s .sim .basics .power) (b .power))); sum = by-sum (sums st l s c) }
+  where
+    agrees : Rattle.history.specs.Statements.Agrees c (world st l s)
+    agrees = step c (world st l s) (s .sim) .agrees
+
+    of-list : (t : Safe (dispatch c st .state) (entered c st l)) → dispatch c st .state .rec .mode ≡ opened → dispatch c st .state .rec .sum < 2 ^ 64
+    of-list t z = go (t .sim .phase)
+      where
+        go : OpenSim (dispatch c st .state) (t .ledger) (t .plain) ⊎ (ClosedSim (dispatch c st .state) (t .ledger) (t .plain) ⊎ DownSim (dispatch c st .state) (t .ledger) (t .plain)) → dispatch c st .state .rec .sum < 2 ^ 64
+        go (_⊎_.inl o) = rw (o .sum) (sumOf-lt start (entries (dispatch c st .state .settled) (dispatch c st .state .rec .logged)) (lit< tt))
+        go (_⊎_.inr (_⊎_.inl o)) = absurd (omega (arith, o .mode))
+        go (_⊎_.inr (_⊎_.inr o)) = absurd (omega (arith, o .mode))
+
+    by-sum : Sums st (dispatch c st) → dispatch c st .state .rec .sum < 2 ^ 64
+    by-sum (_⊎_.inl z) = of-list (next-safe c st l s) z
+    by-sum (_⊎_.inr (_⊎_.inl z)) = rw z (b .sum)
+    by-sum (_⊎_.inr (_⊎_.inr z)) = rw z (lit< tt)
+
+fits : (st : State) (l : Ledger) → Safe st l → Bounded st → Fitting (st .rec)
+fits st l s b =
+    let r = record-facts st (s .sim .basics .counts) in
+    let z = sizes-facts st (s .sim .basics .sizes) in
+    record {
+      mode = omega (arith, r .mode);
+      blocks = omega (arith, r .blocks, z .most);
+      opened = omega (arith, r .open-count);
+      grouped = omega (arith, r .group-count);
+      logged = omega (arith, r .log-count);
+      waiting = omega (arith, r .waiting-count);
+      power = b .power;
+      sum = b .sum;
+    }
+
+-- ---- C passes on the state
+
+-- what C's bytes are decoded to
+held : (f : Face) (st : State) → Holds f st → Fitting (st .rec) → stateOf (decodeRecord (f .rec)) (f .settled) (f .waiting) (f .work) ≡ st
+held f st h t = λ j. record { rec = rec j; settled = h .settled j; waiting = h .waiting j; work = h .work j }
+  where
+    rec : decodeRecord (f .rec) ≡ st .rec
+    rec = ap decodeRecord (h .rec) ∙ decode-encode (st .rec) t
+
+sized : (f : Face) (st : State) → Holds f st → length (f .rec) ≡ recordBytes
+sized f st h = ap length (h .rec) ∙ length-encode (st .rec)
+
+-- a call that is lent the record's bytes
+faced-next : (call : State → Outcome) (f : Face) (st : State) → Holds f st → Fitting (st .rec) → faced call (f .rec) (f .settled) (f .waiting) (f .work) ≡ handed (call st)
+faced-next call f st h t =
+    sym (faced-outcome call (f .rec) (f .settled) (f .waiting) (f .work) (sized f st h)) ∙ ap (λ (x : State). handed (call x)) (held f st h t)
+
+got-next : (f : Face) (st : State) → Holds f st → Fitting (st .rec) → (a : ℕ) → got a (f .rec) (f .settled) (f .waiting) (f .work) ≡ gotIn a st
+got-next f st h t a = sym (got-place a (f .rec) (f .settled) (f .waiting) (f .work) (sized f st h)) ∙ ap (gotIn a) (held f st h t)
+
+-- what was handed out holds what was left
+handed-holds : (o : Outcome) (f : Face) → f ≡ handed o → Holds f (o .state)
+handed-holds o f e = record { rec = ap (λ (x : Face). x .rec) e; settled = ap (λ (x : Face). x .settled) e; waiting = ap (λ (x : Face). x .waiting) e; work = ap (λ (x : Face). x .work) e }
+
+linked-call : (c : Call) (f : Face) (st : State) → faceNext c f ≡ handed (dispatch c st) → ((a : ℕ) → got a (f .rec) (f .settled) (f .waiting) (f .work) ≡ gotIn a st) → Links c f st
+linked-call c f st e g = record {
+  number = ap (λ (x : Face). x .number) e;
+  orders = ap (λ (x : Face). x .orders) e;
+  place = g;
+  left = handed-holds (dispatch c st) (faceNext c f) e;
+}
+
+links : (c : Call) (f : Face) (st : State) → Holds f st → Fitting (st .rec) → Links c f st
+links (power k) f st h t = linked-call (power k) f st (faced-next (dispatch (power k)) f st h t) (got-next f st h t)
+links (put a b) f st h t = linked-call (put a b) f st (faced-next (dispatch (put a b)) f st h t) (got-next f st h t)
+links (get a) f st h t = record {
+  number = ap (λ (x : Got). x .number) (got-next f st h t a);
+  orders = refl;
+  place = got-next f st h t;
+  left = record { rec = h .rec; settled = h .settled; waiting = h .waiting; work = h .work };
+}
+links commit f st h t = linked-call commit f st (faced-next (dispatch commit) f st h t) (got-next f st h t)
+links abandon f st h t = linked-call abandon f st (faced-next (dispatch abandon) f st h t) (got-next f st h t)
+links sync f st h t = linked-call sync f st (faced-next (dispatch sync) f st h t) (got-next f st h t)
+links apply f st h t = linked-call apply f st (faced-next (dispatch apply) f st h t) (got-next f st h t)
+links recover f st h t = linked-call recover f st (faced-next (dispatch recover) f st h t) (got-next f st h t)
+links (cut ms) f st h t = linked-call (cut ms) f st (faced-next (dispatch (cut ms)) f st h t) (got-next f st h t)
+
+-- ---- a list of calls
+
+-- C's bytes and the store, and what both need to go on
+record Linking (f : Face) (w : World) : Type 0 where
+  holds : Holds f (w .store)
+  safe : Safe (w .store) (w .ledger)
+  bounded : Bounded (w .store)
+
+linking-next : (c : Call) (f : Face) (w : World) → Passable c → Linking f w → Linking (faceNext c f) (next c w)
+unfolding next
+linking-next c f w p m = record {
+  holds = links c f (w .store) (m .holds) (fits (w .store) (w .ledger) (m .safe) (m .bounded)) .left;
+  safe = next-safe c (w .store) (w .ledger) (m .safe);
+  bounded = next-bounded c (w .store) (w .ledger) (m .safe) p (m .bounded);
+}
+
+linking-after : (cs : List Call) (f : Face) (w : World) → AllPassable cs → Linking f w → Linking (faceAfter cs f) (after cs w)
+unfolding faceAfter after
+linking-after [] f w p m = m
+linking-after (c ∷ cs) f w p m = linking-after cs (faceNext c f) (next c w) (p .1) (linking-next c f w (p .0) m)
+
+pub linked : Linked
+unfolding begun formatted
+linked r s w k l h cs c ps p =
+    let m = linking-after cs (faced formatCall r s w k) (begun (stateOf (decodeRecord r) s w k)) ps start-linking in
+    links c (faceAfter cs (faced formatCall r s w k)) (after cs (begun (stateOf (decodeRecord r) s w k)) .store) (m .holds)
+    (fits (after cs (begun (stateOf (decodeRecord r) s w k)) .store) (after cs (begun (stateOf (decodeRecord r) s w k)) .ledger) (m .safe) (m .bounded))
+  where
+    fresh-bounded : Bounded (formatCall (stateOf (decodeRecord r) s w k) .state)
+    fresh-bounded = rw (formatted-now (stateOf (decodeRecord r) s w k) h) (record { power = lit< tt; sum = lit< tt })
+
+    start-linking : Linking (faced formatCall r s w k) (begun (stateOf (decodeRecord r) s w k))
+    start-linking = record {
+      holds = handed-holds (formatCall (stateOf (decodeRecord r) s w k)) (faced formatCall r s w k) (sym (faced-outcome formatCall r s w k l));
+      safe = begun-safe (stateOf (decodeRecord r) s w k) h;
+      bounded = fresh-bounded;
+    }

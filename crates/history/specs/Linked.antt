@@ -1,0 +1,66 @@
+-- What C passes on from call to call is the store's state as bytes: so the statements speak of the C library too.
+use Prim.Native.Nat.{ℕ, _^_, _<_}
+use mathlib.Core.Path.{_≡_}
+use mathlib.Core.List.{List, [], _∷_}
+use lib.ListN.{length}
+use Rattle.store.specs.State.{State}
+use Rattle.store.specs.Held.{stateOf}
+use Rattle.store.specs.Simple.{formatCall}
+use Rattle.firmware.specs.Face.{recordBytes, encodeRecord, decodeRecord, Face, faceOf, faced, gotIn, got}
+use Rattle.history.specs.Call.{Call, power, put, get, commit, abandon, sync, apply, recover, cut}
+use Rattle.history.specs.Dispatch.{dispatch}
+use Rattle.history.specs.History.{begun, after}
+
+-- "Each call gets the record and the settled, waiting and work bytes that the last one returned or left", the record as 36 bytes. A
+-- get has no lent byte to change
+abbrev pub faceNext : Call → Face → Face
+faceNext (power k) f = faced (dispatch (power k)) (f .rec) (f .settled) (f .waiting) (f .work)
+faceNext (put a b) f = faced (dispatch (put a b)) (f .rec) (f .settled) (f .waiting) (f .work)
+faceNext (get a) f = faceOf (got a (f .rec) (f .settled) (f .waiting) (f .work) .number) 0 (f .rec) (f .settled) (f .waiting) (f .work)
+faceNext commit f = faced (dispatch commit) (f .rec) (f .settled) (f .waiting) (f .work)
+faceNext abandon f = faced (dispatch abandon) (f .rec) (f .settled) (f .waiting) (f .work)
+faceNext sync f = faced (dispatch sync) (f .rec) (f .settled) (f .waiting) (f .work)
+faceNext apply f = faced (dispatch apply) (f .rec) (f .settled) (f .waiting) (f .work)
+faceNext recover f = faced (dispatch recover) (f .rec) (f .settled) (f .waiting) (f .work)
+faceNext (cut ms) f = faced (dispatch (cut ms)) (f .rec) (f .settled) (f .waiting) (f .work)
+
+unfoldable pub faceAfter : List Call → Face → Face
+faceAfter [] f = f
+faceAfter (c ∷ cs) f = faceAfter cs (faceNext c f)
+
+-- a count that C can pass is a 4-byte number
+abbrev pub Passable : Call → Type 0
+Passable (power k) = k < 2 ^ 32
+Passable (put a b) = Unit {0}
+Passable (get a) = Unit {0}
+Passable commit = Unit {0}
+Passable abandon = Unit {0}
+Passable sync = Unit {0}
+Passable apply = Unit {0}
+Passable recover = Unit {0}
+Passable (cut ms) = Unit {0}
+
+abbrev pub AllPassable : List Call → Type 0
+AllPassable [] = Unit {0}
+AllPassable (c ∷ cs) = Passable c × AllPassable cs
+
+-- the bytes are those of the state
+pub record Holds (f : Face) (st : State) : Type 0 where
+  pub rec : f .rec ≡ encodeRecord (st .rec)
+  pub settled : f .settled ≡ st .settled
+  pub waiting : f .waiting ≡ st .waiting
+  pub work : f .work ≡ st .work
+
+-- a call through C: the store's number, its orders, the place of a get, and the bytes of what it leaves
+pub record Links (c : Call) (f : Face) (st : State) : Type 0 where
+  pub number : faceNext c f .number ≡ dispatch c st .answer
+  pub orders : faceNext c f .orders ≡ dispatch c st .orders
+  pub place : (a : ℕ) → got a (f .rec) (f .settled) (f .waiting) (f .work) ≡ gotIn a st
+  pub left : Holds (faceNext c f) (dispatch c st .state)
+
+-- at every call of every list, from what a format through C that answers 0 left
+abbrev pub Linked : Type 0
+Linked =
+    (r s w k : List ℕ) → length r ≡ recordBytes → formatCall (stateOf (decodeRecord r) s w k) .answer ≡ 0
+    → (cs : List Call) (c : Call) → AllPassable cs → Passable c
+    → Links c (faceAfter cs (faced formatCall r s w k)) (after cs (begun (stateOf (decodeRecord r) s w k)) .store)
