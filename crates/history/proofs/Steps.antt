@@ -132,14 +132,14 @@ same-cause st l d m c = cause-refusal st d (m .basics .sizes) (m .basics .counts
 pub dispatch-refused : (c : Call) (st : State) → cause (requestOf c) st ≢ 0 → dispatch c st ≡ refused (cause (requestOf c) st) st
 unfolding powerCall putCall commitCall abandonCall syncCall applyCall recoverCall cutCall
 dispatch-refused (power k) st h = sym (call-refused _ _ st _ refl h)
-dispatch-refused (put a b) st h = sym (call-refused _ _ st _ refl h)
+dispatch-refused (put a b) st h = rw (ne-eqb _ 0 h)
 dispatch-refused (get a) st h = refl
-dispatch-refused commit st h = sym (call-refused _ _ st _ refl h)
-dispatch-refused abandon st h = sym (call-refused _ _ st _ refl h)
-dispatch-refused sync st h = sym (call-refused _ _ st _ refl h)
-dispatch-refused apply st h = sym (call-refused _ _ st _ refl h)
-dispatch-refused recover st h = sym (call-refused _ _ st _ refl h)
-dispatch-refused (cut ms) st h = sym (call-refused _ _ st _ refl h)
+dispatch-refused commit st h = rw (ne-eqb _ 0 h)
+dispatch-refused abandon st h = rw (ne-eqb _ 0 h)
+dispatch-refused sync st h = rw (ne-eqb _ 0 h)
+dispatch-refused apply st h = rw (ne-eqb _ 0 h)
+dispatch-refused recover st h = rw (ne-eqb _ 0 h)
+dispatch-refused (cut ms) st h = rw (ne-eqb _ 0 h)
 
 -- no orders, no header
 pub noted-none : (hs : List Head) (l : Ledger) → noted hs 0 l ≡ l
