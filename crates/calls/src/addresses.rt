@@ -12,7 +12,7 @@ fn both(name: &[u8], address: u32) {
     say::get(b"get after", after, &s, &w, &k, address);
 }
 
-pub fn bounds() {
+pub(crate) fn bounds() {
     both(b"put 0", 0);
     both(b"put 33", 33);
     both(b"put 34", 34);

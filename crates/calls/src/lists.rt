@@ -10,7 +10,7 @@ fn open_at(name: &[u8], address: u8, r: Record) {
     say::power(name, r, &s, &w, &k);
 }
 
-pub fn strays() {
+pub(crate) fn strays() {
     open_at(b"open 33", 33, say::made(1, 70, 1, 0, 0, 0));
     open_at(b"open 34", 34, say::made(1, 70, 1, 0, 0, 0));
     open_at(b"open 69", 69, say::made(1, 70, 1, 0, 0, 0));
@@ -23,7 +23,7 @@ pub fn strays() {
 }
 
 // In open, in group, in the log.
-pub fn twice() {
+pub(crate) fn twice() {
     let mut s = [0u8; 35840];
     let w = [0u8; 17544];
     let mut k = [0u8; 33024];

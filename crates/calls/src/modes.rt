@@ -15,13 +15,13 @@ fn all(r: Record) {
 }
 
 // Closed; down with three writes waiting.
-pub fn refused() {
+pub(crate) fn refused() {
     all(say::made(0, 70, 0, 0, 0, 0));
     all(say::made(2, 70, 0, 0, 0, 3));
 }
 
 // Two causes at once.
-pub fn first() {
+pub(crate) fn first() {
     let s = [0u8; 35840];
     let w = [0u8; 17544];
     let k = [0u8; 33024];

@@ -3,7 +3,7 @@ use crate::say;
 use store::record::Record;
 
 // Open over group over home.
-pub fn order() {
+pub(crate) fn order() {
     let s = [3u8; 35840];
     let w = [0u8; 17544];
     let mut k = [0u8; 33024];
@@ -20,7 +20,7 @@ pub fn order() {
 }
 
 // The log's last slot with the address, and group over log.
-pub fn slots() {
+pub(crate) fn slots() {
     let mut s = [0u8; 35840];
     let w = [0u8; 17544];
     let mut k = [0u8; 33024];

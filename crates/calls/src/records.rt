@@ -10,7 +10,7 @@ fn tried(name: &[u8], r: Record) {
 }
 
 // Each at its bound and past it.
-pub fn counts() {
+pub(crate) fn counts() {
     tried(b"mode 2", say::made(2, 70, 0, 0, 0, 0));
     tried(b"mode 3", say::made(3, 70, 0, 0, 0, 0));
     tried(b"open 32", say::made(0, 70, 32, 0, 0, 0));
@@ -28,7 +28,7 @@ pub fn counts() {
 }
 
 // Waiting addresses are below N, and are read up to the waiting count.
-pub fn waiting() {
+pub(crate) fn waiting() {
     let s = [0u8; 35840];
     let mut w = [0u8; 17544];
     let k = [0u8; 33024];

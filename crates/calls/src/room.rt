@@ -35,7 +35,7 @@ fn grouped(r: Record, s: &Settled, w: &Waiting, k: &mut Work, from: u32, n: u32)
 }
 
 // A put of a 33rd address, and of one of the 32.
-pub fn of_open() {
+pub(crate) fn of_open() {
     let s = [0u8; 35840];
     let w = [0u8; 17544];
     let mut k = [0u8; 33024];
@@ -48,7 +48,7 @@ pub fn of_open() {
 }
 
 // A commit into a full group: of one of its addresses, and of a new one.
-pub fn of_group() {
+pub(crate) fn of_group() {
     let s = [0u8; 35840];
     let w = [0u8; 17544];
     let mut k = [0u8; 33024];
@@ -61,7 +61,7 @@ pub fn of_group() {
 }
 
 // 20 grouped and 20 open, of which 8 are grouped already; then one more.
-pub fn of_both() {
+pub(crate) fn of_both() {
     let s = [0u8; 35840];
     let w = [0u8; 17544];
     let mut k = [0u8; 33024];

@@ -11,7 +11,7 @@ pub type Waiting = [u8; 17544];
 pub type Work = [u8; 33024];
 
 // A record made up, with power 7.
-pub fn made(
+pub(crate) fn made(
     mode: u32,
     blocks: u32,
     opened: u32,
@@ -49,7 +49,7 @@ fn record(r: Record) {
 }
 
 // A call, its number, and the record that it left.
-pub fn answer(name: &[u8], a: Answer) -> Record {
+pub(crate) fn answer(name: &[u8], a: Answer) -> Record {
     io::write_all(STDOUT_FILENO, name);
     number(a.number as u64);
     record(a.rec);
@@ -58,23 +58,23 @@ pub fn answer(name: &[u8], a: Answer) -> Record {
 }
 
 // The sum of a buffer's bytes.
-pub fn sum(name: &[u8], s: &[u8]) {
+pub(crate) fn sum(name: &[u8], s: &[u8]) {
     io::write_all(STDOUT_FILENO, name);
     number(fnv::sum_from(fnv::START, s));
     io::write_all(STDOUT_FILENO, b"\n");
 }
 
-pub fn work(k: &Work) {
+pub(crate) fn work(k: &Work) {
     sum(b"work", k);
 }
 
 // A power of 5.
-pub fn power(name: &[u8], r: Record, s: &Settled, w: &Waiting, k: &Work) {
+pub(crate) fn power(name: &[u8], r: Record, s: &Settled, w: &Waiting, k: &Work) {
     answer(name, r.power(s, w, k, 5));
 }
 
 // A put of a block filled with a byte.
-pub fn put(
+pub(crate) fn put(
     name: &[u8],
     r: Record,
     s: &Settled,
@@ -87,11 +87,11 @@ pub fn put(
     answer(name, r.put(s, w, k, address, &block))
 }
 
-pub fn commit(name: &[u8], r: Record, s: &Settled, w: &Waiting, k: &mut Work) -> Record {
+pub(crate) fn commit(name: &[u8], r: Record, s: &Settled, w: &Waiting, k: &mut Work) -> Record {
     answer(name, r.commit(s, w, k))
 }
 
-pub fn abandon(name: &[u8], r: Record, s: &Settled, w: &Waiting, k: &Work) -> Record {
+pub(crate) fn abandon(name: &[u8], r: Record, s: &Settled, w: &Waiting, k: &Work) -> Record {
     answer(name, r.abandon(s, w, k))
 }
 
@@ -123,7 +123,14 @@ fn part(s: &[u8]) {
 }
 
 // A get: its number, its place, and its block's length and first byte. The slices that the part may come from have one lifetime.
-pub fn get_any<'a>(name: &[u8], r: Record, s: &'a [u8], w: &[u8], k: &'a [u8], address: u32) {
+pub(crate) fn get_any<'a>(
+    name: &[u8],
+    r: Record,
+    s: &'a [u8],
+    w: &[u8],
+    k: &'a [u8],
+    address: u32,
+) {
     io::write_all(STDOUT_FILENO, name);
     number(r.get_number(s, w, k, address) as u64);
     place(r.get_place(s, w, k, address));
@@ -131,6 +138,13 @@ pub fn get_any<'a>(name: &[u8], r: Record, s: &'a [u8], w: &[u8], k: &'a [u8], a
     io::write_all(STDOUT_FILENO, b"\n");
 }
 
-pub fn get<'a>(name: &[u8], r: Record, s: &'a Settled, w: &Waiting, k: &'a Work, address: u32) {
+pub(crate) fn get<'a>(
+    name: &[u8],
+    r: Record,
+    s: &'a Settled,
+    w: &Waiting,
+    k: &'a Work,
+    address: u32,
+) {
     get_any(name, r, s, w, k, address);
 }

@@ -10,7 +10,7 @@ fn tried(name: &[u8], s: &mut [u8], w: &mut [u8], k: &mut [u8]) {
     say::sum(b"work", k);
 }
 
-pub fn of_waiting() {
+pub(crate) fn of_waiting() {
     let mut s = [9u8; 17920];
     let mut k = [9u8; 33024];
     let mut short = [9u8; 17543];
@@ -25,7 +25,7 @@ fn waiting_long() {
     tried(b"waiting long", &mut s, &mut long, &mut k);
 }
 
-pub fn of_work() {
+pub(crate) fn of_work() {
     let mut s = [9u8; 17920];
     let mut w = [9u8; 17544];
     let mut short = [9u8; 33023];
@@ -48,7 +48,7 @@ fn settled(name: &[u8], s: &mut [u8]) {
 }
 
 // 34, 35 and 36 blocks, and one byte off.
-pub fn of_settled() {
+pub(crate) fn of_settled() {
     let mut s34 = [9u8; 17408];
     settled(b"34 blocks", &mut s34);
     let mut less = [9u8; 17919];
@@ -62,7 +62,7 @@ pub fn of_settled() {
 }
 
 // The other calls, on waiting bytes one short; a put's block. N is 35.
-pub fn of_calls() {
+pub(crate) fn of_calls() {
     let s = [0u8; 17920];
     let w = [0u8; 17543];
     let mut k = [0u8; 33024];
