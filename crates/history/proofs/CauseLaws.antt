@@ -30,7 +30,8 @@ use Rattle.store.proofs.Places.{data-lt}
 use Rattle.history.specs.Call.{Call, power, put, get, commit, abandon, sync, apply, recover, cut}
 use Rattle.history.specs.Plain.{Plain, overOne, refusal}
 use Rattle.history.specs.Statements.{requestOf}
-use Rattle.history.proofs.WorkLists.{none-some, find-has, Distinct, twice-distinct, distinct-twice, Data, strays-all, all-strays, data-small, PutOpen, put-open, Merged, joined-group, newcomers-merge}
+use Rattle.history.proofs.Lists.{none-some, find-has, Distinct, twice-distinct, distinct-twice, Data, strays-all, all-strays}
+use Rattle.history.proofs.WorkLists.{data-short, PutOpen, put-open, Merged, joined-group, newcomers-merge}
 
 -- ---- 1: the sizes
 
@@ -272,4 +273,4 @@ commit-done st e =
     let o = cause-opened Request.commit st refl refl e in
     let few : st .rec .blocks ≤ mostBlocks = omega (arith, o .facts .counts .blocks, o .facts .sizes .most) in
     joined-group (st .work) (st .rec .grouped) (st .rec .opened) (o .facts .sizes .work) (o .facts .counts .open-count) (o .lists .open-distinct) (o .lists .group-distinct)
-    (data-small (st .rec .blocks) few (listOf (st .work) openFrom (st .rec .opened)) (o .lists .open-data)) (ltb-false _ _ (p .room))
+    (data-short (st .rec .blocks) few (listOf (st .work) openFrom (st .rec .opened)) (o .lists .open-data)) (ltb-false _ _ (p .room))

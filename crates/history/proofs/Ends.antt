@@ -28,7 +28,7 @@ use Rattle.history.specs.History.{World, ledgerNext, foundWritten}
 use Rattle.history.proofs.Disks.{logD, entries-disk, WholeCard}
 use Rattle.journal.proofs.Logs.{allData-all}
 use Rattle.history.proofs.Batches.{Left}
-use Rattle.history.proofs.WorkLists.{Data, Distinct}
+use Rattle.history.proofs.Lists.{Data, Distinct}
 use Rattle.history.proofs.CauseLaws.{facts-sizes, record-facts, facts-record}
 use Rattle.history.proofs.Relation.{Basics, Sim, CutLeads}
 use Rattle.history.proofs.Steps.{StepOK, sim-step, sim-at}

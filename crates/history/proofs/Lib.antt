@@ -3,6 +3,7 @@ pub mod Disks
 pub mod Batches
 pub mod Crashes
 pub mod Leads
+pub mod Lists
 pub mod WorkLists
 pub mod CauseLaws
 pub mod Evens

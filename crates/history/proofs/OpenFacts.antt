@@ -27,11 +27,12 @@ use Rattle.store.proofs.Causes.{SizeFacts, sizes-facts}
 use Rattle.history.specs.Plain.{Plain, applyVerdict, applyWaits, headerKept}
 use Rattle.history.specs.Ledger.{Ledger, Head, waits, noted, applyHead, resolved}
 use Rattle.history.proofs.Disks.{logD, slotE, entries-disk, WholeCard, data-below}
-use Rattle.journal.proofs.Logs.{all-allData}
+use Rattle.journal.proofs.Logs.{from-whole, entries-whole, all-allData}
 use Rattle.history.proofs.Batches.{Left, left-dead, left-power, checkpoint-homes, checkpoint-header, checkpoint-done}
 use Rattle.history.proofs.Leads.{Leads, homes-done, empty-card}
 use Rattle.history.proofs.CallCuts.{settled-laid, homes-cuts, still-cuts, header-cuts}
-use Rattle.history.proofs.WorkLists.{Data, data-small, listOf-whole, entries-whole}
+use Rattle.history.proofs.Lists.{Data}
+use Rattle.history.proofs.WorkLists.{data-short}
 use Rattle.history.proofs.CauseLaws.{RecordFacts, ListFacts, record-facts, idle}
 use Rattle.history.proofs.Relation.{Basics, OpenSim, cutWritten}
 use Rattle.history.proofs.Steps.{small-N, big-N}
@@ -75,7 +76,7 @@ module _ (st : State) (l : Ledger) (d : Plain) (b : Basics st d) (o : OpenSim st
   length-group = length-upTo (listed (st .work) groupFrom) (st .rec .grouped)
 
   pub group-whole : All Whole (groupOf st)
-  group-whole = listOf-whole (st .work) groupFrom (st .rec .grouped) (omega (arith, sz .work, rc .group-count))
+  group-whole = from-whole (st .work) groupFrom (st .rec .grouped) (omega (arith, sz .work, rc .group-count))
 
   pub group-data : allData (st .rec .blocks) (groupOf st) ≡ true
   group-data = all-allData (st .rec .blocks) (groupOf st) (ls .group-data)
@@ -84,7 +85,7 @@ module _ (st : State) (l : Ledger) (d : Plain) (b : Basics st d) (o : OpenSim st
   most = omega (arith, sz .most, rc .blocks)
 
   pub group-short : All Short (groupOf st)
-  group-short = data-small (st .rec .blocks) most (groupOf st) (ls .group-data)
+  group-short = data-short (st .rec .blocks) most (groupOf st) (ls .group-data)
 
   -- the log on the card
   abbrev pub log : List Entry
@@ -100,10 +101,10 @@ module _ (st : State) (l : Ledger) (d : Plain) (b : Basics st d) (o : OpenSim st
   log-data = rw (← entries-log) (ls .log-data)
 
   pub log-whole : All Whole log
-  log-whole = rw (← entries-log) (entries-whole (st .settled) (st .rec .logged) (omega (arith, sz .settled, sz .least, rc .log-count)))
+  log-whole = rw (← entries-log) (entries-whole (st .settled) (st .rec .logged) (omega (arith, sz .least)) (rc .log-count))
 
   pub log-short : All Short log
-  log-short = data-small (st .rec .blocks) most log log-data
+  log-short = data-short (st .rec .blocks) most log log-data
 
   pub sum : st .rec .sum ≡ sumOf start log
   sum = o .sum ∙ ap (sumOf start) entries-log

@@ -24,7 +24,7 @@ use Rattle.journal.specs.Header.{header, emptyHeader}
 use Rattle.journal.specs.Log.{entries, slotEntry}
 use Rattle.journal.specs.Orders.{appendOrders, checkpointOrders, applyOrders, syncOrders}
 use Rattle.journal.specs.Choice.{choose, recoverOrders}
-use Rattle.journal.proofs.Logs.{length-blockAt}
+use Rattle.journal.proofs.Logs.{from-whole, entries-whole, length-blockAt}
 use Rattle.journal.proofs.Choices.{both}
 use Rattle.journal.proofs.Headers.{length-encode}
 use Rattle.journal.proofs.OrderLists.{headerEntry, appendWrites, append-writes, checkpoint-writes, fallback-writes, length-fallback}
@@ -40,7 +40,7 @@ use Rattle.store.proofs.Calls.{call-refused, call-done}
 use Rattle.store.proofs.Causes.{sizes-facts}
 use Rattle.history.specs.Refusals.{called, ordersOf, untouched, Answers}
 use Rattle.history.proofs.Batches.{batch, Fit, batch-short, batch-done, append-fit}
-use Rattle.history.proofs.WorkLists.{data-small, listOf-whole, entries-whole}
+use Rattle.history.proofs.WorkLists.{data-short}
 use Rattle.history.proofs.CauseLaws.{idle, record-facts, cause-passes, IsOpen, cause-opened}
 use Rattle.history.proofs.Ends.{carried-done, carried-short}
 
@@ -130,8 +130,8 @@ module _ (st : State) (o : IsOpen st) where
       (record {
         none = none-waits;
         room = omega (arith, length-upTo (slotEntry (st .settled)) (st .rec .logged), rc .log-count, sz .waiting);
-        whole = entries-whole (st .settled) (st .rec .logged) (omega (arith, sz .settled, sz .least, rc .log-count));
-        low = data-small (st .rec .blocks) (omega (arith, sz .most, rc .blocks)) log (o .lists .log-data);
+        whole = entries-whole (st .settled) (st .rec .logged) (omega (arith, sz .least)) (rc .log-count);
+        low = data-short (st .rec .blocks) (omega (arith, sz .most, rc .blocks)) log (o .lists .log-data);
       }))
       (header-batch st none-waits (sz .waiting) (emptyHeader (st .rec .blocks))))
 
@@ -143,7 +143,7 @@ module _ (st : State) (o : IsOpen st) where
       (one-batch (cardIn st) (appendWrites (st .rec .blocks) (st .settled) n h (groupOf st))
       (append-fit (cardIn st) (st .rec .blocks) (st .settled) n h (groupOf st)
       (omega (arith, length-blockAt (st .settled) descriptorAt (omega (arith, sz .least))))
-      (none-waits, omega (arith, sz .waiting), p, listOf-whole (st .work) groupFrom (st .rec .grouped) (omega (arith, sz .work, rc .group-count)))))
+      (none-waits, omega (arith, sz .waiting), p, from-whole (st .work) groupFrom (st .rec .grouped) (omega (arith, sz .work, rc .group-count)))))
 
   apply-batched : Batched (cardIn st) (applyOrders (st .rec .blocks) (st .settled) (st .rec .logged))
   unfolding applyOrders

@@ -31,7 +31,8 @@ use Rattle.history.specs.Ledger.{Ledger, entered}
 use Rattle.history.specs.History.{World, foundWritten}
 use Rattle.history.specs.Statements.{requestOf}
 use Rattle.history.proofs.Disks.{entries-disk}
-use Rattle.history.proofs.WorkLists.{Distinct, Data, data-small, distinct-insert, all-insert, distinct-merge, all-merge, put-open, newcomers-merge, joined-group, newest-get}
+use Rattle.history.proofs.Lists.{Distinct, Data, distinct-insert, all-insert, distinct-merge, all-merge}
+use Rattle.history.proofs.WorkLists.{data-short, put-open, newcomers-merge, joined-group, newest-get}
 use Rattle.history.proofs.CauseLaws.{facts-sizes, record-facts, facts-record, cause-passes}
 use Rattle.history.proofs.Relation.{OpenSim, ClosedSim, DownSim, Sim}
 use Rattle.history.proofs.Steps.{WorldSim, StepOK, sim-step, sim-at, small-N, same-cause, refused-step, plain-served}
@@ -263,7 +264,7 @@ commit-step w m =
     let room = ltb-false _ _ (q .room) in
     let most : N ≤ mostBlocks = omega (arith, sizes-facts st (m .basics .sizes) .most, record-facts st (m .basics .counts) .blocks) in
     let apart : Distinct (listOf (st .work) openFrom n) = rw (T .list) (T .distinct) in
-    let r = joined-group (st .work) k n (f .size) (T .count) apart (rw (G .list) (G .distinct)) (rw (T .list) (data-small N most (w .plain .T) (T .all))) room in
+    let r = joined-group (st .work) k n (f .size) (T .count) apart (rw (G .list) (G .distinct)) (rw (T .list) (data-short N most (w .plain .T) (T .all))) room in
     record {
       work = now .work;
       t = 0;
