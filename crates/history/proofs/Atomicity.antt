@@ -16,12 +16,12 @@ use Rattle.journal.proofs.Choices.{both}
 use Rattle.store.specs.State.{State, Outcome, opened}
 use Rattle.store.specs.Causes.{cause}
 use Rattle.store.specs.Simple.{formatted, formatCall}
-use Rattle.history.specs.Call.{Call, power, put, get, commit, abandon, sync, apply, recover, cut}
+use Rattle.history.specs.Call.{Call, requestOf, power, put, get, commit, abandon, sync, apply, recover, cut}
 use Rattle.history.specs.Plain.{Plain, Done, fresh, refusal, served, plainStep, plainSync, plainApply, plainRecover, plainCut, plainGet}
 use Rattle.history.specs.Dispatch.{dispatch}
 use Rattle.history.specs.History.{World, begun, next, after, storeNext, ledgerNext, foundWritten}
 use Rattle.history.specs.Statements as S
-use Rattle.history.specs.Statements.{requestOf, quiet, fate, shortSync, countShort, noneFinished, EndsFinished, CrashAtomicity}
+use Rattle.history.specs.Statements.{quiet, fate, shortSync, countShort, noneFinished, EndsFinished, CrashAtomicity}
 use Rattle.history.proofs.PlainLaws as PlainLaws
 use Rattle.history.proofs.Steps.{plainNext, WorldSim, same-cause, dispatch-refused, plain-refused, plain-served}
 use Rattle.history.proofs.CutStep as CutStep

@@ -27,9 +27,8 @@ use Rattle.store.specs.Simple.{putAt}
 use Rattle.store.specs.Commit.{joined}
 use Rattle.store.proofs.Causes.{other, SizeFacts, sizes-facts, counts-facts, waiting-facts, Passes, cause-passes as Causes·cause-passes}
 use Rattle.store.proofs.Places.{data-lt}
-use Rattle.history.specs.Call.{Call, power, put, get, commit, abandon, sync, apply, recover, cut}
+use Rattle.history.specs.Call.{Call, requestOf, power, put, get, commit, abandon, sync, apply, recover, cut}
 use Rattle.history.specs.Plain.{Plain, overOne, refusal}
-use Rattle.history.specs.Statements.{requestOf}
 use Rattle.history.proofs.Lists.{none-some, find-has, Distinct, twice-distinct, distinct-twice, Data, strays-all, all-strays}
 use Rattle.history.proofs.WorkLists.{data-short, PutOpen, put-open, Merged, joined-group, newcomers-merge}
 

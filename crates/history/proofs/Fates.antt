@@ -19,14 +19,14 @@ use Rattle.store.specs.Request as Request
 use Rattle.store.specs.State.{State, Outcome, closed, opened, down, withQueue, withRecord}
 use Rattle.store.specs.Causes.{cause}
 use Rattle.store.specs.Saves.{groupOf}
-use Rattle.history.specs.Call.{Call, power, put, get, commit, abandon, sync, apply, recover, cut}
+use Rattle.history.specs.Call.{Call, requestOf, power, put, get, commit, abandon, sync, apply, recover, cut}
 use Rattle.history.specs.Plain as Plain
 use Rattle.history.specs.Plain.{Plain, Done, withPower, Short, ofSync, ofRecover, Verdict, verdict, applies, syncTakes, syncWaits, ownVerdict, unchanged, headerKept, refusal, plainStep, plainSync, plainApply, plainRecover}
 use Rattle.history.specs.Dispatch.{dispatch}
 use Rattle.history.specs.Ledger.{Ledger, entered, inner, sameLog}
 use Rattle.history.specs.History.{World, next, after, storeNext, ledgerNext, foundWritten, acceptedCut}
 use Rattle.history.specs.Statements as S
-use Rattle.history.specs.Statements.{requestOf, Fate, quiet, cutShort, decided, observe, fate, outcome, WholeIsNew, shortSync, noneFinished, allOnes, headed, atCut}
+use Rattle.history.specs.Statements.{Fate, quiet, cutShort, decided, observe, fate, outcome, WholeIsNew, shortSync, noneFinished, allOnes, headed, atCut}
 use Rattle.history.proofs.Leads.{foundIn}
 use Rattle.history.proofs.CauseLaws.{cause-passes}
 use Rattle.history.proofs.Relation.{Basics, OpenSim, ClosedSim, DownSim, cutSettled, cutWritten}

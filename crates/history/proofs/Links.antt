@@ -24,12 +24,11 @@ use Rattle.store.proofs.Causes.{sizes-facts}
 use Rattle.firmware.specs.Face.{recordBytes, decodeRecord, Face, faced, handed, Got, gotIn, got}
 use Rattle.firmware.proofs.Records.{length-encode, Fitting, decode-encode}
 use Rattle.firmware.proofs.Faces.{faced-outcome, got-place}
-use Rattle.history.specs.Call.{Call, power, put, get, commit, abandon, sync, apply, recover, cut}
+use Rattle.history.specs.Call.{Call, requestOf, power, put, get, commit, abandon, sync, apply, recover, cut}
 use Rattle.history.specs.Plain.{Plain, Done, refusal, served, plainStep, plainSync, plainApply, plainRecover, plainCut}
 use Rattle.history.specs.Dispatch.{dispatch}
 use Rattle.history.specs.Ledger.{Ledger, entered}
 use Rattle.history.specs.History.{World, begun, next, after, foundWritten}
-use Rattle.history.specs.Statements.{requestOf}
 use Rattle.history.specs.Linked.{faceNext, faceAfter, Passable, AllPassable, Holds, Links, Linked}
 use Rattle.history.proofs.CauseLaws.{record-facts, cause-passes}
 use Rattle.history.proofs.PlainLaws.{sync-nothing, sync-finished, sync-short, apply-nothing, apply-finished, apply-short, recover-whole, recover-fallback, recover-short}

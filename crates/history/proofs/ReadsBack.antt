@@ -23,12 +23,12 @@ use Rattle.store.specs.Request as Request
 use Rattle.store.specs.State.{State, Outcome, closed, opened, withQueue, withRecord}
 use Rattle.store.specs.Causes.{cause}
 use Rattle.store.specs.Simple.{powerCall, finished}
-use Rattle.history.specs.Call.{Call, power, put, get, commit, abandon, sync, apply, recover, cut}
+use Rattle.history.specs.Call.{Call, requestOf, power, put, get, commit, abandon, sync, apply, recover, cut}
 use Rattle.history.specs.Plain.{Plain, Done, refusal, served, plainStep, plainSync, plainApply, plainRecover}
 use Rattle.history.specs.Dispatch.{dispatch}
 use Rattle.history.specs.Ledger.{Ledger, heads, noted, entered, taken, logFound, sameLog}
 use Rattle.history.specs.History.{World, begun, next, after, storeNext, ledgerNext, foundWritten, acceptedCut, exception}
-use Rattle.history.specs.Statements.{requestOf, noCut, Taken, ReadBack, WrittenSummed}
+use Rattle.history.specs.Statements.{noCut, Taken, ReadBack, WrittenSummed}
 use Rattle.history.proofs.Disks.{slotE, logD, entries-disk, WholeCard, FallCard}
 use Rattle.history.proofs.Leads.{read-head, same-logs, logs-same}
 use Rattle.history.proofs.CauseLaws.{cause-passes}

@@ -38,7 +38,8 @@ use Rattle.store.specs.Commit.{commitCall}
 use Rattle.store.specs.Saves.{carried, groupOf, applies, innerOrders, syncCall, applyCall, recoverCall, cutCall}
 use Rattle.store.proofs.Calls.{call-refused, call-done}
 use Rattle.store.proofs.Causes.{sizes-facts}
-use Rattle.history.specs.Refusals.{called, ordersOf, untouched, Answers}
+use Rattle.history.specs.Dispatch.{called}
+use Rattle.history.specs.Refusals.{ordersOf, untouched, Answers}
 use Rattle.history.proofs.Batches.{batch, Fit, batch-short, batch-done, append-fit}
 use Rattle.history.proofs.WorkLists.{data-short}
 use Rattle.history.proofs.CauseLaws.{idle, record-facts, cause-passes, IsOpen, cause-opened}

@@ -24,12 +24,11 @@ use Rattle.store.specs.Get.{newest, getPlace, bytesAt}
 use Rattle.store.specs.Commit.{Group, joined, commitCall}
 use Rattle.store.proofs.Causes.{sizes-facts, Passes}
 use Rattle.store.proofs.Places.{data-lt}
-use Rattle.history.specs.Call.{Call, power, put, get, commit, abandon}
+use Rattle.history.specs.Call.{Call, requestOf, power, put, get, commit, abandon}
 use Rattle.history.specs.Plain.{Plain, Done, insert, merge, refusal, withLists, withPower, still, served, plainStep, plainGet}
 use Rattle.history.specs.Dispatch.{dispatch, blockOf}
 use Rattle.history.specs.Ledger.{Ledger, entered}
 use Rattle.history.specs.History.{World, foundWritten}
-use Rattle.history.specs.Statements.{requestOf}
 use Rattle.history.proofs.Disks.{entries-disk}
 use Rattle.history.proofs.Lists.{Distinct, Data, distinct-insert, all-insert, distinct-merge, all-merge}
 use Rattle.history.proofs.WorkLists.{data-short, put-open, newcomers-merge, joined-group, newest-get}

@@ -22,12 +22,12 @@ use Rattle.store.specs.Commit.{commitCall}
 use Rattle.store.specs.Saves.{syncCall, applyCall, recoverCall, cutCall}
 use Rattle.store.proofs.Causes.{sizes-facts}
 use Rattle.store.proofs.Calls.{call-refused}
-use Rattle.history.specs.Call.{Call, power, put, get, commit, abandon, sync, apply, recover, cut}
+use Rattle.history.specs.Call.{Call, requestOf, power, put, get, commit, abandon, sync, apply, recover, cut}
 use Rattle.history.specs.Plain.{Plain, Done, refusal, served, plainStep, plainGet}
 use Rattle.history.specs.Dispatch.{dispatch, blockOf}
 use Rattle.history.specs.Ledger.{Ledger, Head, heads, noted, entered}
 use Rattle.history.specs.History.{World, storeNext, ledgerNext, foundWritten, exception}
-use Rattle.history.specs.Statements.{requestOf, Agrees}
+use Rattle.history.specs.Statements.{Agrees}
 use Rattle.history.proofs.Disks.{logD, entries-disk, WholeCard, FallCard, ClosedCard}
 use Rattle.history.proofs.Leads.{read-head}
 use Rattle.history.proofs.CauseLaws.{record-facts, cause-refusal}

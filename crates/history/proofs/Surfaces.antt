@@ -20,7 +20,8 @@ use Rattle.inspect.specs.Alike.{alikeOf}
 use Rattle.firmware.specs.Face.{decodeRecord, faceOf, handed, gotOf, gotIn, compared}
 use Rattle.firmware.proofs.Records.{encode-decode}
 use Rattle.firmware.proofs.Faces.{faced-length, faced-outcome, got-length, got-place}
-use Rattle.history.specs.Refusals.{called, Inspects, Reads, Faces, Gets, Answers}
+use Rattle.history.specs.Dispatch.{called}
+use Rattle.history.specs.Refusals.{Inspects, Reads, Faces, Gets, Answers}
 
 -- ---- tally and alike
 

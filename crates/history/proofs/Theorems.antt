@@ -9,12 +9,12 @@ use lib.Dec.{eqb}
 use Rattle.store.specs.Request as Request
 use Rattle.store.specs.State.{State, Outcome}
 use Rattle.store.specs.Causes.{cause}
-use Rattle.history.specs.Call.{Call, recover, sync}
+use Rattle.history.specs.Call.{Call, requestOf, recover, sync}
 use Rattle.history.specs.Plain.{Done, refusal, served}
 use Rattle.history.specs.Dispatch.{dispatch}
 use Rattle.history.specs.Ledger.{Ledger}
 use Rattle.history.specs.History.{World, begun, after, foundWritten}
-use Rattle.history.specs.Statements.{requestOf, Sound, Safety, Refinement, ReadBack, WrittenSummed, Logged, Written, CrashAtomicity}
+use Rattle.history.specs.Statements.{Sound, Safety, Refinement, ReadBack, WrittenSummed, Logged, Written, CrashAtomicity}
 use Rattle.history.specs.Refusals.{Refusals}
 use Rattle.history.specs.Linked.{Linked}
 use Rattle.history.proofs.CauseLaws.{cause-one, cause-two, cause-passes}

@@ -1,6 +1,7 @@
 -- "The list holds power, put, get, commit, abandon, sync, apply, recover and cut in any order, with any arguments, refused ones too."
 use Prim.Native.Nat.{ℕ}
 use mathlib.Core.List.{List}
+use Rattle.store.specs.Request as Request
 
 pub data Call : Type 0 where
   power : ℕ → Call
@@ -12,3 +13,15 @@ pub data Call : Type 0 where
   apply : Call
   recover : Call
   cut : List ℕ → Call
+
+-- a call of the list with its own arguments: every call of the store but format
+abbrev pub requestOf : Call → Request.Request
+requestOf (power k) = Request.power k
+requestOf (put a b) = Request.put a b
+requestOf (get a) = Request.get a
+requestOf commit = Request.commit
+requestOf abandon = Request.abandon
+requestOf sync = Request.sync
+requestOf apply = Request.apply
+requestOf recover = Request.recover
+requestOf (cut ms) = Request.cut ms

@@ -12,30 +12,17 @@ use Rattle.journal.specs.Layout.{wrongSize}
 use Rattle.journal.specs.Orders.{applyOrders, syncOrders}
 use Rattle.journal.specs.Choice.{choose, choiceNumber, recoverOrders}
 use Rattle.store.specs.Request as Request
-use Rattle.store.specs.State.{State, Outcome, down}
+use Rattle.store.specs.State.{State, down}
 use Rattle.store.specs.Held.{stateOf}
 use Rattle.store.specs.Causes.{cause}
-use Rattle.store.specs.Simple.{refused, formatCall, powerCall, putCall, abandonCall}
-use Rattle.store.specs.Commit.{commitCall}
-use Rattle.store.specs.Saves.{groupOf, syncCall, applyCall, recoverCall, cutCall}
+use Rattle.store.specs.Simple.{refused}
+use Rattle.store.specs.Saves.{groupOf, recoverCall}
 use Rattle.inspect.specs.Reading.{chosen, inspection}
 use Rattle.inspect.specs.Tally.{tallyOf}
 use Rattle.firmware.specs.Face.{recordBytes, decodeRecord, faceOf, faced, gotOf, got, tallied, comparedOf, compared}
-use Rattle.history.specs.Dispatch.{getCall}
+use Rattle.history.specs.Dispatch.{called}
 
 -- ---- the ten calls
-
-abbrev pub called : Request.Request → State → Outcome
-called Request.format st = formatCall st
-called (Request.power k) st = powerCall k st
-called (Request.put a b) st = putCall a b st
-called (Request.get a) st = getCall a st
-called Request.commit st = commitCall st
-called Request.abandon st = abandonCall st
-called Request.sync st = syncCall st
-called Request.apply st = applyCall st
-called Request.recover st = recoverCall st
-called (Request.cut ms) st = cutCall ms st
 
 -- the orders of a call
 abbrev pub ordersOf : Request.Request → State → List Order

@@ -14,30 +14,17 @@ use Rattle.card.specs.Card.{blocksIn}
 use Rattle.journal.specs.Layout.{isData}
 use Rattle.journal.specs.Header.{header}
 use Rattle.journal.specs.Log.{headerOf, entries, sumOf}
-use Rattle.store.specs.Request as Request
 use Rattle.store.specs.State.{State, opened}
 use Rattle.store.specs.Causes.{wrongSizes, wrongBlock, wrongRecord}
 use Rattle.store.specs.Simple.{formatCall}
 use Rattle.store.specs.Saves.{groupOf}
-use Rattle.history.specs.Call.{Call, power, put, get, commit, abandon, sync, apply, recover, cut}
+use Rattle.history.specs.Call.{Call, requestOf, power, put, get, commit, abandon, sync, apply, recover, cut}
 use Rattle.history.specs.Plain.{plainStep, plainGet}
 use Rattle.history.specs.Dispatch.{dispatch, blockOf}
 use Rattle.history.specs.Ledger.{standing, inner, logFound, sameLog}
 use Rattle.history.specs.History.{World, begun, next, after, storeNext, foundWritten, acceptedCut}
 
 -- ---- Safety, exceptions included
-
--- a call's own arguments
-abbrev pub requestOf : Call → Request.Request
-requestOf (power k) = Request.power k
-requestOf (put a b) = Request.put a b
-requestOf (get a) = Request.get a
-requestOf commit = Request.commit
-requestOf abandon = Request.abandon
-requestOf sync = Request.sync
-requestOf apply = Request.apply
-requestOf recover = Request.recover
-requestOf (cut ms) = Request.cut ms
 
 -- every state passes checks 1 and 2; no call is refused 1 or 2 but for its own arguments; "recover is never refused 8 or 9 there"
 pub record Sound (st : State) : Type 0 where
