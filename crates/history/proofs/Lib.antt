@@ -25,6 +25,7 @@ pub mod ReadsBack
 pub mod RefusalsProof
 pub mod Surfaces
 pub mod Links
+pub mod ScriptsProof
 pub mod Fates
 pub mod Atomicity
 pub mod Theorems

@@ -1,45 +1,46 @@
 -- Refusals, of the ten calls on any inputs whatever. A call comes to its refusal, to an outcome without orders, or to its orders carried
 -- out: batches that fit the queue, since nothing waits before them.
-use Prim.Native.Nat.{ℕ, _+_, _≤_}
+use Prim.Native.Nat.{ℕ, _+_, _-_, _≤_, _<_}
 use mathlib.Core.Path.{_≡_, refl, ap, sym, _∙_}
 use mathlib.Core.Logic.{_≢_}
-use mathlib.Core.Bool.{Bool, true, false, cond}
+use mathlib.Core.Bool.{Bool, true, false, cond, _&&_}
 use mathlib.Core.List.{List, [], _∷_, _++_, append-assoc, append-nil}
 use native.Mathlib.Omega.{arith}
 use native.Mathlib.Decide.{decLe}
-use borrow.Author.Tests.{eqb-true, eqb-false, leb-true, leb-false, not-true}
+use borrow.Author.Tests.{eqb-true, eqb-false, leb-true, leb-false, lt-leb, not-true}
 use lib.Dec.{eqb, leb, lit<}
-use lib.ListN.{length}
+use lib.ListN.{length, take, length-append, length-map}
+use lib.Seq.{take-append-add}
 use Rattle.cells.specs.Upto.Laws.{length-upTo}
 use Rattle.cells.specs.Entry.{Entry}
 use Rattle.fnv.specs.Fnv.{start}
 use Rattle.card.specs.Card.{Card, Order, run, blockAt}
 use Rattle.card.proofs.All.{All, all-append, all-map}
-use Rattle.card.proofs.Runs.{run-nil, run-dead, run-append, settle-other}
+use Rattle.card.proofs.Runs.{run-nil, run-dead, run-append, run-power, settle-other}
 use Rattle.journal.specs.declared.header.Header.{Header}
 use Rattle.journal.specs.declared.choice.Choice.{Choice}
 use Rattle.journal.specs.declared.choice.Choice.the-variants.{Whole, Fallback, Foreign, Neither}
 use Rattle.journal.specs.Layout.{slots, descriptorAt}
 use Rattle.journal.specs.Header.{header, emptyHeader}
-use Rattle.journal.specs.Log.{entries, slotEntry}
+use Rattle.journal.specs.Log.{entries, sumOf, slotEntry}
 use Rattle.journal.specs.Orders.{appendOrders, checkpointOrders, applyOrders, syncOrders}
 use Rattle.journal.specs.Choice.{choose, recoverOrders}
-use Rattle.journal.proofs.Logs.{from-whole, entries-whole, length-blockAt}
+use Rattle.journal.proofs.Logs.{from-whole, entries-whole, length-blockAt, length-entries}
 use Rattle.journal.proofs.Choices.{both}
 use Rattle.journal.proofs.Headers.{length-encode}
-use Rattle.journal.proofs.OrderLists.{headerEntry, appendWrites, append-writes, checkpoint-writes, fallback-writes, length-fallback}
+use Rattle.journal.proofs.OrderLists.{headerEntry, appendWrites, append-writes, checkpoint-writes, fallback-writes, length-checkpoint, length-fallback}
 use Rattle.store.specs.declared.record.Record.{Record}
-use Rattle.store.specs.State.{State, Outcome, cardIn, withLog}
+use Rattle.store.specs.State.{State, Outcome, down, withMode, withLog, withGrouped, withRecord, cardIn, withCard}
 use Rattle.store.specs.Lists.{groupFrom, listed}
 use Rattle.store.specs.Request.{Request, format, power, put, get, commit, abandon, sync, apply, recover, cut}
 use Rattle.store.specs.Causes.{waitingBytes, cause}
 use Rattle.store.specs.Simple.{refused, finished, unless, formatCall, powerCall, putCall, abandonCall}
 use Rattle.store.specs.Commit.{commitCall}
-use Rattle.store.specs.Saves.{carried, groupOf, applies, innerOrders, syncCall, applyCall, recoverCall, cutCall}
+use Rattle.store.specs.Saves.{carried, groupOf, applies, synced, innerOrders, syncCall, applyCall, recoverCall, cutCall}
 use Rattle.store.proofs.Calls.{call-refused, call-done}
 use Rattle.store.proofs.Causes.{sizes-facts}
 use Rattle.history.specs.Dispatch.{called}
-use Rattle.history.specs.Refusals.{ordersOf, untouched, Answers}
+use Rattle.history.specs.Refusals.{ordersOf, untouched, appliedFirst, Gone, Answers}
 use Rattle.history.proofs.Batches.{batch, Fit, batch-short, batch-done, append-fit}
 use Rattle.history.proofs.WorkLists.{data-short}
 use Rattle.history.proofs.CauseLaws.{idle, record-facts, cause-passes, IsOpen, cause-opened}
@@ -59,24 +60,30 @@ untouched-batch x (e ∷ es) os h =
     let r = untouched-batch x es os (p .1) in
     ((eqb-false _ _ (not-true _ (p .0)), r .0), r .1)
 
-batches-keep : (x : ℕ) (bs : List (List Entry)) (c : Card) → All (Fit c) bs → untouched x (batches bs) ≡ true
+length-batch : (es : List Entry) → length (batch es) ≡ length es + 1
+length-batch es = simp (length-append, length-map)
+
+batches-keep : (x : ℕ) (bs : List (List Entry)) (c : Card) → All (Fit c) bs → untouched x (take (c .power) (batches bs)) ≡ true
     → blockAt (run (batches bs) c .settled) x ≡ blockAt (c .settled) x
 batches-keep x [] c f h = rw (run-nil)
-batches-keep x (es ∷ bs) c f h =
-    let u = untouched-batch x es (batches bs) h in
-    rw (run-append (batch es) (batches bs) c) (go (decLe (c .power) (length es)) (u .0) (λ g. batches-keep x bs (run (batch es) c) g (u .1)))
+batches-keep x (es ∷ bs) c f h = rw (run-append (batch es) (batches bs) c) (go (decLe (c .power) (length es)) (λ g. batches-keep x bs (run (batch es) c) g))
   where
-    go : Dec (c .power ≤ length es) → All (λ e. x ≢ e .address) es
-        → (All (Fit (run (batch es) c)) bs → blockAt (run (batches bs) (run (batch es) c) .settled) x ≡ blockAt (run (batch es) c .settled) x)
+    go : Dec (c .power ≤ length es)
+        → (All (Fit (run (batch es) c)) bs → untouched x (take (run (batch es) c .power) (batches bs)) ≡ true → blockAt (run (batches bs) (run (batch es) c) .settled) x ≡ blockAt (run (batch es) c .settled) x)
         → blockAt (run (batches bs) (run (batch es) c) .settled) x ≡ blockAt (c .settled) x
-    go (yes p) u rest =
+    go (yes p) rest =
         let l = batch-short c es (f .0) p in
         rw (run-dead (batches bs) (run (batch es) c) (l .power), l .settled)
-    go (no p) u rest =
+    go (no p) rest =
         let l = batch-done c es (f .0) (omega arith) in
-        rest (all-map (Fit c) (Fit (run (batch es) c)) (λ e g. record { none = l .count; room = rw (l .room) (g .room); whole = g .whole; low = g .low }) bs (f .1))
+        let k : c .power ≡ length (batch es) + (c .power - (length es + 1)) = omega (arith, length-batch es) in
+        let q : untouched x (take (length (batch es) + (c .power - (length es + 1))) (batch es ++ batches bs)) ≡ true = ap (λ (n : ℕ). untouched x (take n (batch es ++ batches bs))) (sym k) ∙ h in
+        let u = untouched-batch x es (take (c .power - (length es + 1)) (batches bs)) (rw (take-append-add (batch es) (batches bs) (c .power - (length es + 1))) at q) in
+        rest
+        (all-map (Fit c) (Fit (run (batch es) c)) (λ e g. record { none = l .count; room = rw (l .room) (g .room); whole = g .whole; low = g .low }) bs (f .1))
+        (ap (λ (n : ℕ). untouched x (take n (batches bs))) (l .power) ∙ u .1)
         ∙ ap (λ (s : List ℕ). blockAt s x) (l .settled)
-        ∙ settle-other es (c .settled) x u
+        ∙ settle-other es (c .settled) x (u .0)
 
 -- orders that are such batches
 record Batched (c : Card) (os : List Order) : Type 0 where
@@ -84,7 +91,7 @@ record Batched (c : Card) (os : List Order) : Type 0 where
   same : os ≡ batches parts
   fit : All (Fit c) parts
 
-batched-keep : (x : ℕ) (os : List Order) (c : Card) → Batched c os → untouched x os ≡ true → blockAt (run os c .settled) x ≡ blockAt (c .settled) x
+batched-keep : (x : ℕ) (os : List Order) (c : Card) → Batched c os → untouched x (take (c .power) os) ≡ true → blockAt (run os c .settled) x ≡ blockAt (c .settled) x
 batched-keep x os c b h = rw (b .same) (batches-keep x (b .parts) c (b .fit) (rw (b .same) at h))
 
 no-batches : (c : Card) → Batched c []
@@ -172,11 +179,14 @@ module _ (st : State) (o : IsOpen st) where
 
 -- ---- every call, by its cause
 
--- where nothing refuses: no orders, and done; or orders, and cut short the counts of open and group are as before
+-- the record that a call cut short leaves, its mode and its queue apart
+abbrev left : Request → State → Record
+left q st = cond (appliedFirst q st) (withLog 0 start (st .rec)) (st .rec)
+
+-- where nothing refuses: no orders, and done; or orders
 data Form (q : Request) (st : State) : Type 0 where
   quiet : (now : State) → called q st ≡ unless (cause q st) st (finished now) → ordersOf q st ≡ [] → Form q st
-  gives : (done gone : Record) → called q st ≡ unless (cause q st) st (carried (ordersOf q st) done gone st)
-      → gone .opened ≡ st .rec .opened → gone .grouped ≡ st .rec .grouped → (cause q st ≡ 0 → Batched (cardIn st) (ordersOf q st)) → Form q st
+  gives : (done : Record) → called q st ≡ unless (cause q st) st (carried (ordersOf q st) done (left q st) st) → (cause q st ≡ 0 → Batched (cardIn st) (ordersOf q st)) → Form q st
 
 -- what holds of the refusal, and of the outcome where nothing refuses
 unless-either : (P : Outcome → Type 0) (k : ℕ) (st : State) (o : Outcome) → (k ≡ 0 → P o) → P (refused k st) → P (unless k st o)
@@ -191,10 +201,24 @@ form-get : (k : ℕ) (st : State) → refused k st ≡ unless k st (finished st)
 form-get k st = unless-either (λ o. refused k st ≡ o) k st (finished st) (λ e. ap (λ (n : ℕ). refused n st) e) refl
 
 -- the record that a sync leaves when cut short: that before the call, or the same with an empty log
-either-log : (s t : Bool) (f : Record → ℕ) (r : Record) → f (withLog 0 start r) ≡ f r → f (cond s (cond t (withLog 0 start r) r) r) ≡ f r
-either-log false t f r h = refl
-either-log true false f r h = refl
-either-log true true f r h = h
+sync-left : (st : State) → cond (leb (length (innerOrders st)) (st .rec .power)) (synced st) (st .rec) ≡ left sync st
+sync-left st = go (applies st)
+  where
+    N : ℕ
+    N = st .rec .blocks
+
+    log : List Entry
+    log = entries (st .settled) (st .rec .logged)
+
+    either : (t : Bool) → cond t (st .rec) (st .rec) ≡ st .rec
+    either true = refl
+    either false = refl
+
+    go : (t : Bool)
+        → cond (leb (length (cond t (checkpointOrders N log) [])) (st .rec .power)) (cond t (withLog 0 start (st .rec)) (st .rec)) (st .rec)
+        ≡ cond (t && leb (st .rec .logged + 3) (st .rec .power)) (withLog 0 start (st .rec)) (st .rec)
+    go true = ap (λ (k : ℕ). cond (leb k (st .rec .power)) (withLog 0 start (st .rec)) (st .rec)) (length-checkpoint N log ∙ ap (λ (k : ℕ). k + 3) (length-entries (st .settled) (st .rec .logged)))
+    go false = either (leb 0 (st .rec .power))
 
 form : (q : Request) (st : State) → Form q st
 unfolding formatCall powerCall putCall commitCall abandonCall syncCall applyCall recoverCall cutCall
@@ -205,13 +229,11 @@ form (get a) st = quiet st (form-get (cause (get a) st) st) refl
 form commit st = quiet _ refl refl
 form abandon st = quiet _ refl refl
 form sync st =
-    let s = leb (length (innerOrders st)) (st .rec .power) in
-    let t = applies st in
-    gives _ _ refl (either-log s t (λ r. r .opened) (st .rec) refl) (either-log s t (λ r. r .grouped) (st .rec) refl)
-    (λ e. sync-batched st (cause-opened sync st refl refl e))
-form apply st = gives _ _ refl refl refl (λ e. apply-batched st (cause-opened apply st refl refl e))
+    let done = withGrouped 0 (withLog (synced st .logged + st .rec .grouped) (sumOf (synced st .sum) (groupOf st)) (synced st)) in
+    gives done (ap (λ (r : Record). unless (cause sync st) st (carried (ordersOf sync st) done r st)) (sync-left st)) (λ e. sync-batched st (cause-opened sync st refl refl e))
+form apply st = gives _ refl (λ e. apply-batched st (cause-opened apply st refl refl e))
 form recover st =
-    gives _ _ refl refl refl
+    gives _ refl
     (λ e.
     let p = cause-passes recover st e in
     recover-batched st (idle st (record-facts st (p .counts)) (eqb-false _ _ (p .not-down))) (sizes-facts st (p .sizes) .waiting) (st .rec .blocks) (choose (st .rec .blocks) (st .settled)))
@@ -233,6 +255,56 @@ recover-two st =
     (λ e. omega (arith, recover-few (st .rec .blocks) (choose (st .rec .blocks) (st .settled))))
     (omega arith)
 
+-- what is as before in the record of a call cut short, and what is not
+left-is : {A : Type 0} (q : Request) (st : State) (f : Record → A) (a : A) → f (withLog 0 start (st .rec)) ≡ a → f (left q st) ≡ cond (appliedFirst q st) a (f (st .rec))
+left-is q st f a h = go (appliedFirst q st)
+  where
+    go : (t : Bool) → f (cond t (withLog 0 start (st .rec)) (st .rec)) ≡ cond t a (f (st .rec))
+    go true = h
+    go false = refl
+
+same-both : {A : Type 0} (t : Bool) (a : A) → cond t a a ≡ a
+same-both true a = refl
+same-both false a = refl
+
+-- an apply takes three orders at the least
+left-powerless : (q : Request) (st : State) → st .rec .power ≡ 0 → appliedFirst q st ≡ false
+left-powerless format st e = refl
+left-powerless (power k) st e = refl
+left-powerless (put a b) st e = refl
+left-powerless (get a) st e = refl
+left-powerless commit st e = refl
+left-powerless abandon st e = refl
+left-powerless sync st e = go (applies st) (lt-leb (st .rec .logged + 3) (st .rec .power) (omega arith))
+  where
+    go : (t : Bool) → leb (st .rec .logged + 3) (st .rec .power) ≡ false → t && leb (st .rec .logged + 3) (st .rec .power) ≡ false
+    go true h = h
+    go false h = refl
+left-powerless apply st e = refl
+left-powerless recover st e = refl
+left-powerless (cut ms) st e = refl
+
+cut-short : (q : Request) (st : State) (done : Record)
+    → called q st ≡ record { answer = 4; orders = st .rec .power; state = withCard (run (ordersOf q st) (cardIn st)) (withRecord (withMode down (left q st)) st) }
+    → st .rec .power < length (ordersOf q st) → Batched (cardIn st) (ordersOf q st) → Gone q st
+cut-short q st done short less batched = record {
+  answer = ap (λ (o : Outcome). o .answer) short;
+  orders = ap (λ (o : Outcome). o .orders) short;
+  down-now = ap (λ (o : Outcome). o .state .rec .mode) short;
+  N = ap (λ (o : Outcome). o .state .rec .blocks) short ∙ left-is q st (λ r. r .blocks) (st .rec .blocks) refl ∙ same-both (appliedFirst q st) (st .rec .blocks);
+  n = ap (λ (o : Outcome). o .state .rec .logged) short ∙ left-is q st (λ r. r .logged) 0 refl;
+  sum = ap (λ (o : Outcome). o .state .rec .sum) short ∙ left-is q st (λ r. r .sum) start refl;
+  power = ap (λ (o : Outcome). o .state .rec .power) short ∙ run-power (ordersOf q st) (cardIn st) ∙ (omega arith);
+  work = ap (λ (o : Outcome). o .state .work) short;
+  open-count = ap (λ (o : Outcome). o .state .rec .opened) short ∙ left-is q st (λ r. r .opened) (st .rec .opened) refl ∙ same-both (appliedFirst q st) (st .rec .opened);
+  group-count = ap (λ (o : Outcome). o .state .rec .grouped) short ∙ left-is q st (λ r. r .grouped) (st .rec .grouped) refl ∙ same-both (appliedFirst q st) (st .rec .grouped);
+  blocks = λ x u. ap (λ (o : Outcome). blockAt (o .state .settled) x) short ∙ batched-keep x (ordersOf q st) (cardIn st) batched u;
+  powerless = λ z.
+      ap (λ (o : Outcome). o .state) short
+      ∙ ap (λ (c : Card). withCard c (withRecord (withMode down (left q st)) st)) (run-dead (ordersOf q st) (cardIn st) z)
+      ∙ ap (λ (t : Bool). withCard (cardIn st) (withRecord (withMode down (cond t (withLog 0 start (st .rec)) (st .rec))) st)) (left-powerless q st z);
+}
+
 answers : (q : Request) (st : State) → Form q st → Answers q st
 answers q st (quiet now call none) = record {
   refuses = λ h. call ∙ sym (call-refused (cause q st) _ st (finished now) refl h);
@@ -240,22 +312,16 @@ answers q st (quiet now call none) = record {
   serves = λ e h. ap (λ (o : Outcome). o .answer) (call ∙ sym (call-done (cause q st) _ st (finished now) refl e));
   two-suffice = recover-two st;
 }
-answers q st (gives done gone call opens groups batched) = record {
-  refuses = λ h. call ∙ sym (call-refused (cause q st) _ st (carried (ordersOf q st) done gone st) refl h);
+answers q st (gives done call batched) = record {
+  refuses = λ h. call ∙ sym (call-refused (cause q st) _ st (carried (ordersOf q st) done (left q st) st) refl h);
   gone = λ e h.
-      let short = call ∙ sym (call-done (cause q st) _ st (carried (ordersOf q st) done gone st) refl e) ∙ carried-short (ordersOf q st) done gone st (leb-false _ _ h) in
-      record {
-        answer = ap (λ (o : Outcome). o .answer) short;
-        orders = ap (λ (o : Outcome). o .orders) short;
-        down-now = ap (λ (o : Outcome). o .state .rec .mode) short;
-        work = ap (λ (o : Outcome). o .state .work) short;
-        open-count = ap (λ (o : Outcome). o .state .rec .opened) short ∙ opens;
-        group-count = ap (λ (o : Outcome). o .state .rec .grouped) short ∙ groups;
-        blocks = λ x u. ap (λ (o : Outcome). blockAt (o .state .settled) x) short ∙ batched-keep x (ordersOf q st) (cardIn st) (batched e) u;
-      };
+      cut-short q st done
+      (call ∙ sym (call-done (cause q st) _ st (carried (ordersOf q st) done (left q st) st) refl e) ∙ carried-short (ordersOf q st) done (left q st) st (leb-false _ _ h))
+      (leb-false _ _ h)
+      (batched e);
   serves = λ e h.
       ap (λ (o : Outcome). o .answer)
-      (call ∙ sym (call-done (cause q st) _ st (carried (ordersOf q st) done gone st) refl e) ∙ carried-done (ordersOf q st) done gone st (leb-true _ _ h));
+      (call ∙ sym (call-done (cause q st) _ st (carried (ordersOf q st) done (left q st) st) refl e) ∙ carried-done (ordersOf q st) done (left q st) st (leb-true _ _ h));
   two-suffice = recover-two st;
 }
 

@@ -21,7 +21,7 @@ use Rattle.firmware.specs.Face.{decodeRecord, faceOf, handed, gotOf, gotIn, com
 use Rattle.firmware.proofs.Records.{encode-decode}
 use Rattle.firmware.proofs.Faces.{faced-length, faced-outcome, got-length, got-place}
 use Rattle.history.specs.Dispatch.{called}
-use Rattle.history.specs.Refusals.{Inspects, Reads, Faces, Gets, Answers}
+use Rattle.history.specs.Refusals.{NoPart, Inspects, Reads, Faces, Gets, Answers}
 
 -- ---- tally and alike
 
@@ -49,6 +49,15 @@ reads a b = record {
   alike-first = λ h. rw (ne-eqb (inspection a) 0 h, ne-eqb (inspection a) 0 h);
   alike-second = λ e h. rw (eq-eqb (inspection a) 0 e, ne-eqb (inspection b) 0 h);
   alike-serves = λ e f. rw (eq-eqb (inspection a) 0 e) f;
+}
+
+-- ---- get
+
+pub parts : (a : ℕ) (st : State) → NoPart a st
+unfolding getPlace
+parts a st = record {
+  block = λ h. rw (ne-eqb (cause (Request.get a) st) 0 h);
+  part = λ h settled work. rw (ne-eqb (cause (Request.get a) st) 0 h);
 }
 
 -- ---- what C sees

@@ -1,4 +1,5 @@
--- The theorems about histories. Their types stand in specs/Statements.antt, specs/Refusals.antt and specs/Linked.antt.
+-- The theorems about histories. Their types stand in specs/Statements.antt, specs/Refusals.antt, specs/Linked.antt and
+-- specs/Scripts.antt.
 use Prim.Native.Nat.{ℕ}
 use mathlib.Core.Path.{_≡_, refl, ap, sym, _∙_}
 use mathlib.Core.Logic.{_≢_, _⊎_}
@@ -17,6 +18,7 @@ use Rattle.history.specs.History.{World, begun, after, foundWritten}
 use Rattle.history.specs.Statements.{Sound, Safety, Refinement, ReadBack, WrittenSummed, Logged, Written, CrashAtomicity}
 use Rattle.history.specs.Refusals.{Refusals}
 use Rattle.history.specs.Linked.{Linked}
+use Rattle.history.specs.Scripts.{ScriptsAreHistories}
 use Rattle.history.proofs.CauseLaws.{cause-one, cause-two, cause-passes}
 use Rattle.history.proofs.Relation.{Safe}
 use Rattle.history.proofs.Steps.{same-cause, dispatch-refused, plain-served}
@@ -29,6 +31,7 @@ use Rattle.history.proofs.Atomicity as Atomicity
 use Rattle.history.proofs.RefusalsProof as RefusalsProof
 use Rattle.history.proofs.Surfaces as Surfaces
 use Rattle.history.proofs.Links as Links
+use Rattle.history.proofs.ScriptsProof as ScriptsProof
 
 -- ---- Safety
 
@@ -126,6 +129,8 @@ crash-atomicity = Atomicity.crash-atomicity
 pub refusals : Refusals
 refusals = record {
   calls = RefusalsProof.calls;
+  parts = Surfaces.parts;
+  lines = ScriptsProof.by-call;
   reads = Surfaces.reads;
   faces = Surfaces.faces RefusalsProof.calls;
   gets = Surfaces.gets;
@@ -135,3 +140,8 @@ refusals = record {
 
 pub linked : Linked
 linked = Links.linked
+
+-- ---- Through the script
+
+pub scripts-are-histories : ScriptsAreHistories
+scripts-are-histories = ScriptsProof.scripts

@@ -5,6 +5,7 @@ pub mod Dispatch
 pub mod Ledger
 pub mod History
 pub mod Statements
+pub mod Scripts
 pub mod Refusals
 pub mod Linked
 pub mod Worked

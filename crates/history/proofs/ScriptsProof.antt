@@ -1,0 +1,222 @@
+-- A line of a script is its call, and a script from a format on is a list of calls.
+use Prim.Native.Nat.{ℕ, zero, suc, _*_}
+use mathlib.Core.Path.{_≡_, refl, ap, sym, _∙_}
+use mathlib.Core.Logic.{_≢_}
+use mathlib.Core.Bool.{Bool, true, false, cond}
+use mathlib.Core.List.{List, [], _∷_, _++_, append-assoc}
+use borrow.Author.Tests.{eq-eqb}
+use lib.Dec.{eqb}
+use lib.ListN.{length, length-replicate}
+use Rattle.cells.specs.Entry.Laws.{length-setEntry}
+use Rattle.cells.specs.Cell.Laws.{length-setCell}
+use Rattle.cells.specs.Entry.{blockBytes, Entry}
+use Rattle.card.specs.Card as Card
+use Rattle.card.specs.Card.{Order}
+use Rattle.card.proofs.Runs.{run-lengths, length-settle}
+use Rattle.journal.specs.declared.lookup.Found.{Found}
+use Rattle.journal.specs.declared.lookup.Found.the-variants.{At, Absent}
+use Rattle.store.specs.declared.record.Record.{Record}
+use Rattle.store.specs.Request as Request
+use Rattle.store.specs.State.{State, Outcome, cardIn}
+use Rattle.store.specs.Lists.{openFrom, groupFrom, listed, find}
+use Rattle.store.specs.Causes.{waitingBytes, workBytes, wrongSizes, cause}
+use Rattle.store.specs.Simple.{refused, finished, unless, formatted, formatCall, powerCall, putAt, putCall, abandonCall}
+use Rattle.store.specs.Commit.{Group, joinAt, join, joined, commitCall}
+use Rattle.store.specs.Saves.{carried, syncCall, applyCall, recoverCall, cutCall}
+use Rattle.script.specs.declared.command.Command.{Command}
+use Rattle.script.specs.declared.command.Command.the-variants.{Format, Power, Put, Get, Commit, Abandon, Sync, Apply, Recover, Cut, Bad}
+use Rattle.script.specs.Commands.{parse}
+use Rattle.script.specs.Answers.{answerLine, decimal, digits}
+use Rattle.script.specs.Performs.{perform, answered}
+use Rattle.script.specs.Transcript.{linesOf, reply, printed, said, beginning, transcript}
+use Rattle.history.specs.Dispatch.{called}
+use Rattle.history.specs.History.{World, begun, next, after}
+use Rattle.history.specs.Scripts.{Says, nothing, asks, saysOf, says, lineOf, leftBy, ByCall, leftAfter, NoFormat, callsBy, told, ScriptsAreHistories}
+
+-- ---- a line
+
+prints-by : (c : Command) (l : List ℕ) (st : State) → answered c (perform c l st) ≡ lineOf (saysOf c l) c st
+unfolding perform answerLine decimal digits
+prints-by Format l st = refl
+prints-by (Power k) l st = refl
+prints-by (Put a b) l st = refl
+prints-by (Get a) l st = refl
+prints-by Commit l st = refl
+prints-by Abandon l st = refl
+prints-by Sync l st = refl
+prints-by Apply l st = refl
+prints-by Recover l st = refl
+prints-by Cut l st = refl
+prints-by Bad l st = refl
+
+leaves-by : (c : Command) (l : List ℕ) (st : State) → perform c l st .state ≡ leftBy (saysOf c l) st
+unfolding perform
+leaves-by Format l st = refl
+leaves-by (Power k) l st = refl
+leaves-by (Put a b) l st = refl
+leaves-by (Get a) l st = refl
+leaves-by Commit l st = refl
+leaves-by Abandon l st = refl
+leaves-by Sync l st = refl
+leaves-by Apply l st = refl
+leaves-by Recover l st = refl
+leaves-by Cut l st = refl
+leaves-by Bad l st = refl
+
+pub by-call : (l : List ℕ) (st : State) → ByCall l st
+by-call l st = record { prints = prints-by (parse l) l st; leaves = leaves-by (parse l) l st }
+
+-- ---- no call changes a buffer's length
+
+record Sized (st st′ : State) : Type 0 where
+  settled : length (st′ .settled) ≡ length (st .settled)
+  waiting : length (st′ .waiting) ≡ length (st .waiting)
+  work : length (st′ .work) ≡ length (st .work)
+
+same-size : (st : State) → Sized st st
+same-size st = record { settled = refl; waiting = refl; work = refl }
+
+unless-sized : (k : ℕ) (st : State) (o : Outcome) → Sized st (o .state) → Sized st (unless k st o .state)
+unless-sized k st o h = go (eqb k 0)
+  where
+    go : (t : Bool) → Sized st (cond t o (refused k st) .state)
+    go true = h
+    go false = same-size st
+
+carried-sized : (os : List Order) (done gone : Record) (st : State) → Sized st (carried os done gone st .state)
+unfolding carried
+carried-sized os done gone st = record { settled = run-lengths os (cardIn st) .0; waiting = run-lengths os (cardIn st) .1; work = refl }
+
+put-sized : (f : Found) (e : Entry) (st : State) → Sized st (putAt f e st)
+put-sized (At i) e st = record { settled = refl; waiting = refl; work = length-setEntry (st .work) i e }
+put-sized Absent e st = record { settled = refl; waiting = refl; work = length-setEntry (st .work) (st .rec .opened) e }
+
+join-sized : (f : Found) (e : Entry) (g : Group) → length (joinAt f e g .work) ≡ length (g .work)
+join-sized (At i) e g = length-setEntry (g .work) _ e
+join-sized Absent e g = length-setEntry (g .work) _ e
+
+one-sized : (e : Entry) (g : Group) → length (join e g .work) ≡ length (g .work)
+unfolding join
+one-sized e g = join-sized (find (g .work) groupFrom (g .count) (e .address)) e g
+
+joined-sized : (n : ℕ) (g : Group) → length (joined n g .work) ≡ length (g .work)
+unfolding joined
+joined-sized zero g = refl
+joined-sized (suc n) g = one-sized (listed (g .work) openFrom n) (joined n g) ∙ joined-sized n g
+
+-- a call that is done without orders, and one that gives orders
+done-sized : (q : Request.Request) (st now : State) → called q st ≡ unless (cause q st) st (finished now) → Sized st now → Sized st (called q st .state)
+done-sized q st now e h = rw e (unless-sized (cause q st) st (finished now) h)
+
+orders-sized : (q : Request.Request) (st : State) (os : List Order) (done gone : Record) → called q st ≡ unless (cause q st) st (carried os done gone st) → Sized st (called q st .state)
+orders-sized q st os done gone e = rw e (unless-sized (cause q st) st (carried os done gone st) (carried-sized os done gone st))
+
+format-sized : (st : State) → Sized st (formatted st)
+unfolding formatted
+format-sized st = record {
+  settled = simp (length-setCell, length-replicate);
+  waiting = length-replicate {A = ℕ} (length (st .waiting)) 0;
+  work = length-replicate {A = ℕ} (length (st .work)) 0;
+}
+
+cut-sized : (ms : List ℕ) (st : State) → length (Card.cut ms (cardIn st) .settled) ≡ length (st .settled)
+unfolding Card.cut
+cut-sized ms st = length-settle (Card.kept ms (Card.queue (cardIn st))) (st .settled)
+
+cut-queue : (ms : List ℕ) (st : State) → Card.cut ms (cardIn st) .waiting ≡ st .waiting
+unfolding Card.cut
+cut-queue ms st = refl
+
+called-sized : (q : Request.Request) (st : State) → Sized st (called q st .state)
+unfolding formatCall powerCall putCall commitCall abandonCall syncCall applyCall recoverCall cutCall
+called-sized Request.format st = done-sized Request.format st _ refl (format-sized st)
+called-sized (Request.power k) st = done-sized (Request.power k) st _ refl (record { settled = refl; waiting = refl; work = refl })
+called-sized (Request.put a b) st = done-sized (Request.put a b) st _ refl (put-sized (find (st .work) openFrom (st .rec .opened) a) (record { address = a; block = b }) st)
+called-sized (Request.get a) st = same-size st
+called-sized Request.commit st =
+    done-sized Request.commit st _ refl (record { settled = refl; waiting = refl; work = joined-sized (st .rec .opened) (record { work = st .work; count = st .rec .grouped }) })
+called-sized Request.abandon st = done-sized Request.abandon st _ refl (record { settled = refl; waiting = refl; work = refl })
+called-sized Request.sync st = orders-sized Request.sync st _ _ _ refl
+called-sized Request.apply st = orders-sized Request.apply st _ _ _ refl
+called-sized Request.recover st = orders-sized Request.recover st _ _ _ refl
+called-sized (Request.cut ms) st =
+    done-sized (Request.cut ms) st _ refl (record { settled = cut-sized ms st; waiting = ap length (cut-queue ms st); work = refl })
+
+sizes-kept : (st st′ : State) → Sized st st′ → wrongSizes st′ ≡ wrongSizes st
+unfolding wrongSizes Rattle.journal.specs.Layout.wrongSize
+sizes-kept st st′ h = rw (h .settled, h .waiting, h .work)
+
+line-sizes : (s : Says) (st : State) → wrongSizes (leftBy s st) ≡ wrongSizes st
+line-sizes nothing st = refl
+line-sizes (asks q) st = sizes-kept st (called q st .state) (called-sized q st)
+
+after-sizes : (ls : List (List ℕ)) (st : State) → wrongSizes (leftAfter ls st) ≡ wrongSizes st
+unfolding leftAfter
+after-sizes [] st = refl
+after-sizes (l ∷ ls) st = after-sizes ls (reply l st .state) ∙ ap wrongSizes (by-call l st .leaves) ∙ line-sizes (says l) st
+
+sizes-right : (st : State) → length (st .settled) ≡ blockBytes * 64 → length (st .waiting) ≡ waitingBytes → length (st .work) ≡ workBytes → wrongSizes st ≡ false
+unfolding wrongSizes Rattle.journal.specs.Layout.wrongSize
+sizes-right st a b c = rw (a, b, c)
+
+beginning-sizes : wrongSizes beginning ≡ false
+unfolding beginning
+beginning-sizes = sizes-right beginning (length-replicate {A = ℕ} (blockBytes * 64) 0) (length-replicate {A = ℕ} waitingBytes 0) (length-replicate {A = ℕ} workBytes 0)
+
+format-done : (st : State) → wrongSizes st ≡ false → formatCall st .answer ≡ 0
+unfolding formatCall
+format-done st h = rw h
+
+-- ---- a list of lines
+
+said-append : (ls ms : List (List ℕ)) (st : State) → said (ls ++ ms) st ≡ said ls st ++ said ms (leftAfter ls st)
+unfolding said leftAfter
+said-append [] ms st = refl
+said-append (l ∷ ls) ms st = ap (λ (x : List ℕ). printed l st ++ x) (said-append ls ms (reply l st .state)) ∙ sym (append-assoc (printed l st) (said ls (reply l st .state)) _)
+
+called-store : (c : Command) (l : List ℕ) → c ≢ Format → (w : World) → leftBy (saysOf c l) (w .store) ≡ after (callsBy (saysOf c l)) w .store
+unfolding after next
+called-store Format l n w = absurd (n refl)
+called-store (Power k) l n w = refl
+called-store (Put a b) l n w = refl
+called-store (Get a) l n w = refl
+called-store Commit l n w = refl
+called-store Abandon l n w = refl
+called-store Sync l n w = refl
+called-store Apply l n w = refl
+called-store Recover l n w = refl
+called-store Cut l n w = refl
+called-store Bad l n w = refl
+
+said-told : (ms : List (List ℕ)) (w : World) → NoFormat ms → said ms (w .store) ≡ told ms w
+unfolding said told
+said-told [] w n = refl
+said-told (l ∷ ls) w n =
+    ap (λ (x : List ℕ). x ++ said ls (reply l (w .store) .state)) (by-call l (w .store) .prints)
+    ∙ ap (λ (st : State). lineOf (says l) (parse l) (w .store) ++ said ls st) (by-call l (w .store) .leaves ∙ called-store (parse l) l (n .0) w)
+    ∙ ap (λ (x : List ℕ). lineOf (says l) (parse l) (w .store) ++ x) (said-told ls (after (callsBy (says l)) w) (n .1))
+
+-- ---- the theorem
+
+format-line : (f : List ℕ) (st : State) → parse f ≡ Format → formatCall st .answer ≡ 0 → printed f st ≡ answerLine Format 0 0
+format-line f st p h = by-call f st .prints ∙ ap (λ (c : Command). lineOf (saysOf c f) c st) p ∙ ap (λ (k : ℕ). answerLine Format k 0) h
+
+format-left : (f : List ℕ) (st : State) → parse f ≡ Format → reply f st .state ≡ begun st .store
+unfolding begun
+format-left f st p = by-call f st .leaves ∙ ap (λ (c : Command). leftBy (saysOf c f) st) p
+
+pub scripts : ScriptsAreHistories
+unfolding transcript said
+scripts ls ms = record {
+  formats = done;
+  prints = λ f p n input e.
+      let st = leftAfter ls beginning in
+      ap (λ (k : List (List ℕ)). said k beginning) e
+      ∙ said-append ls (f ∷ ms) beginning
+      ∙ ap (λ (x : List ℕ). said ls beginning ++ (x ++ said ms (reply f st .state))) (format-line f st p done)
+      ∙ ap (λ (s : State). said ls beginning ++ (answerLine Format 0 0 ++ said ms s)) (format-left f st p)
+      ∙ ap (λ (x : List ℕ). said ls beginning ++ (answerLine Format 0 0 ++ x)) (said-told ms (begun st) n);
+}
+  where
+    done : formatCall (leftAfter ls beginning) .answer ≡ 0
+    done = format-done (leftAfter ls beginning) (after-sizes ls beginning ∙ beginning-sizes)
