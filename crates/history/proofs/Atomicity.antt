@@ -1,9 +1,9 @@
 -- Crash atomicity, from the fate of the sync that was cut short.
 use Prim.Native.Nat.{ℕ, _+_, _≤_}
-use mathlib.Core.Path.{_≡_, refl, ap, ap₂, sym, _∙_}
+use mathlib.Core.Path.{_≡_, refl, ap, ap₂, subst, sym, _∙_}
 use mathlib.Core.Logic.{_≢_, _⊎_}
 use mathlib.Core.Bool.{Bool, true, false, true≢false, cond, not}
-use mathlib.Core.List.{List, [], _∷_}
+use mathlib.Core.List.{List, [], _∷_, _++_}
 use native.Mathlib.Omega.{arith}
 use native.Mathlib.Decide.{ℕ-discrete, decLe}
 use borrow.Author.Tests.{eq-eqb, ne-eqb, eqb-true, not-true}
@@ -18,17 +18,17 @@ use Rattle.store.specs.Causes.{cause}
 use Rattle.store.specs.Simple.{formatted, formatCall}
 use Rattle.history.specs.Call.{Call, requestOf, power, put, get, commit, abandon, sync, apply, recover, cut}
 use Rattle.history.specs.Plain.{Plain, Done, fresh, refusal, served, plainStep, plainSync, plainApply, plainRecover, plainCut, plainGet}
-use Rattle.history.specs.Dispatch.{dispatch}
+use Rattle.history.specs.Dispatch.{dispatch, blockOf}
 use Rattle.history.specs.History.{World, begun, next, after, storeNext, ledgerNext, foundWritten}
 use Rattle.history.specs.Statements as S
-use Rattle.history.specs.Statements.{quiet, fate, shortSync, countShort, noneFinished, EndsFinished, CrashAtomicity}
+use Rattle.history.specs.Statements.{Fate, quiet, known, fate, outcome, WholeIsNew, shortSync, countShort, noneFinished, EndsFinished, CrashAtomicity}
 use Rattle.history.proofs.PlainLaws as PlainLaws
 use Rattle.history.proofs.Steps.{plainNext, WorldSim, same-cause, dispatch-refused, plain-refused, plain-served}
 use Rattle.history.proofs.CutStep as CutStep
 use Rattle.history.proofs.Induct.{step, next-sim, after-sim, after-append, clean-before, clean-first, begun-sim, formatted-now}
 use Rattle.history.proofs.Served.{sync-cases}
 use Rattle.history.proofs.ReadsBack.{found-closed, plain-same, recovered-sim, recovered-mode, power-served}
-use Rattle.history.proofs.Fates.{Watch, open-now, other-watch, watch-list, short-plain}
+use Rattle.history.proofs.Fates.{Watch, open-now, closed-watch, watch-list, short-plain}
 
 -- ---- N never changes
 
@@ -276,22 +276,99 @@ module _ (w : World) (m : WorldSim w) (h : dispatch recover (w .store) .answer �
       a .answer ∙ ap (λ (o : Done). o .answer) (plain-served (get x) (foundWritten (get x) v) (plainNext recover w) (get-served N x e q)) in
       (z, a .block x refl z ∙ plain-get x ∙ ap (λ (f : Disk). f x) s)
 
--- ---- the theorem
+-- ---- a reading of the list: what is said of an a that ends in a finished sync or recovery, and a b that holds none
 
-pub crash-atomicity : CrashAtomicity
+pub record Reading (st : State) (a b : List Call) : Type 0 where
+  pub one : countShort b (after a (begun st)) ≤ 1
+  pub end : Fate
+  pub fated : fate b (after a (begun st)) (known quiet) ≡ known end
+  pub found : S.FoundIs (blocksIn (st .settled)) (storeNext recover (after b (after a (begun st)))) (outcome end (after a (begun st) .plain .S))
+  pub whole : WholeIsNew end
+
+pub reading : (st : State) → formatCall st .answer ≡ 0 → (a b : List Call) → EndsFinished a (begun st) → noneFinished b (after a (begun st)) ≡ true
+    → dispatch recover (after b (after a (begun st)) .store) .answer ≡ 0 → after b (after a (begun st)) .excepted ≡ false → Reading st a b
 unfolding begun fresh
-crash-atomicity st f cs a b c e ends none h x =
+reading st f a b ends none h x =
     let w = after a (begun st) in
     let clean : after a (begun st) .excepted ≡ false = clean-before b (after a (begun st)) x in
     let m : WorldSim (after a (begun st)) = after-sim a (begun st) (begun-sim st f) clean in
     let m′ : WorldSim (after b (after a (begun st))) = after-sim b (after a (begun st)) m x in
-    let start : Watch (after a (begun st) .plain .S) quiet (after a (begun st) .store) (after a (begun st) .ledger) (after a (begun st) .plain) =
+    let start : Watch (after a (begun st) .plain .S) (known quiet) (after a (begun st) .store) (after a (begun st) .ledger) (after a (begun st) .plain) =
     _⊎_.inl (record { mode = ends-open st f a ends clean; S = refl }) in
-    let end = watch-list (after a (begun st) .plain .S) b (after a (begun st)) quiet m none x start in
-    let o = other-watch (after a (begun st) .plain .S) (fate b (after a (begun st)) quiet) (after b (after a (begun st)) .store) (after b (after a (begun st)) .ledger) (after b (after a (begun st)) .plain) end
+    let last = watch-list (after a (begun st) .plain .S) b (after a (begun st)) (known quiet) m none x start in
+    let o = closed-watch (after a (begun st) .plain .S) (fate b (after a (begun st)) (known quiet)) (after b (after a (begun st)) .store) (after b (after a (begun st)) .ledger) (after b (after a (begun st)) .plain) last
     (found-closed (after b (after a (begun st))) m′ h .mode) in
     record {
       one = count-one b (after a (begun st)) m none x;
-      found = found-is (after b (after a (begun st))) m′ h (blocksIn (st .settled)) _ (sym (after-N b (after a (begun st)) ∙ after-N a (begun st))) (o .S);
-      whole = o .whole;
+      end = o .end;
+      fated = o .fated;
+      found = found-is (after b (after a (begun st))) m′ h (blocksIn (st .settled)) _ (sym (after-N b (after a (begun st)) ∙ after-N a (begun st))) (o .phase .S);
+      whole = o .phase .whole;
+    }
+
+-- ---- every list has one
+
+record Split (cs : List Call) (w : World) : Type 0 where
+  a : List Call
+  b : List Call
+  same : cs ≡ a ++ b
+  ends : EndsFinished a w
+  none : noneFinished b (after a w) ≡ true
+
+-- one call more in front
+split-cons : (c : Call) (cs : List Call) (w : World) → Split cs (next c w) → Split (c ∷ cs) w
+unfolding after noneFinished
+split-cons c cs w s = go (s .ends)
+  where
+    alone : (t : Bool) → S.finished c w ≡ t → s .a ≡ [] → Split (c ∷ cs) w
+    alone true p e = record {
+      a = c ∷ [];
+      b = s .b;
+      same = ap (λ (l : List Call). c ∷ l) (s .same ∙ ap (λ (l : List Call). l ++ s .b) e);
+      ends = _⊎_.inr ([], c, refl, p);
+      none = ap (λ (l : List Call). noneFinished (s .b) (after l (next c w))) (sym e) ∙ s .none;
+    }
+    alone false p e = record {
+      a = [];
+      b = c ∷ s .b;
+      same = ap (λ (l : List Call). c ∷ l) (s .same ∙ ap (λ (l : List Call). l ++ s .b) e);
+      ends = _⊎_.inl refl;
+      none = rw p (ap (λ (l : List Call). noneFinished (s .b) (after l (next c w))) (sym e) ∙ s .none);
+    }
+
+    go : EndsFinished (s .a) (next c w) → Split (c ∷ cs) w
+    go (_⊎_.inl e) = alone (S.finished c w) refl e
+    go (_⊎_.inr e) = record {
+      a = c ∷ s .a;
+      b = s .b;
+      same = ap (λ (l : List Call). c ∷ l) (s .same);
+      ends = _⊎_.inr (c ∷ e .0, e .1, ap (λ (l : List Call). c ∷ l) (e .2), e .3);
+      none = s .none;
+    }
+
+split : (cs : List Call) (w : World) → Split cs w
+unfolding after noneFinished
+split [] w = record { a = []; b = []; same = refl; ends = _⊎_.inl refl; none = refl }
+split (c ∷ cs) w = split-cons c cs w (split cs (next c w))
+
+-- ---- the theorem
+
+pub crash-atomicity : CrashAtomicity
+crash-atomicity st f cs h x =
+    let s = split cs (begun st) in
+    let same : after cs (begun st) ≡ after (s .b) (after (s .a) (begun st)) = ap (λ (l : List Call). after l (begun st)) (s .same) ∙ after-append (s .a) (s .b) (begun st) in
+    let r = reading st f (s .a) (s .b) (s .ends) (s .none)
+    (ap (λ (w : World). dispatch recover (w .store) .answer) (sym same) ∙ h)
+    (ap (λ (w : World). w .excepted) (sym same) ∙ x) in
+    record {
+      a = s .a;
+      b = s .b;
+      split = s .same;
+      ends = s .ends;
+      none = s .none;
+      one = r .one;
+      end = r .end;
+      fated = r .fated;
+      found = λ y d. subst (λ (w : World). (dispatch (get y) (storeNext recover w) .answer ≡ 0) × (blockOf y (storeNext recover w) ≡ outcome (r .end) (after (s .a) (begun st) .plain .S) y)) (sym same) (r .found y d);
+      whole = r .whole;
     }

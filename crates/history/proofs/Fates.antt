@@ -26,7 +26,7 @@ use Rattle.history.specs.Dispatch.{dispatch}
 use Rattle.history.specs.Ledger.{Ledger, entered, inner, sameLog}
 use Rattle.history.specs.History.{World, next, after, storeNext, ledgerNext, foundWritten, acceptedCut}
 use Rattle.history.specs.Statements as S
-use Rattle.history.specs.Statements.{Fate, quiet, cutShort, decided, observe, fate, outcome, WholeIsNew, shortSync, noneFinished, allOnes, headed, atCut}
+use Rattle.history.specs.Statements.{Fate, quiet, decided, Standing, known, undecided, observe, fate, outcome, WholeIsNew, shortSync, noneFinished, allOnes, headed, atCut}
 use Rattle.history.proofs.Leads.{foundIn}
 use Rattle.history.proofs.CauseLaws.{cause-passes}
 use Rattle.history.proofs.Relation.{Basics, OpenSim, ClosedSim, DownSim, cutSettled, cutWritten}
@@ -115,10 +115,10 @@ pub record ShortPhase (old : Disk) (G : List Entry) (place : ℕ) (made : Bool) 
   pub laid : (ms : List ℕ) (found : Bool) → planned d ms found .laid ≡ made && eqb (getD ms place 0) 1 && found
   pub whole : made ≡ true → (ms : List ℕ) → length ms ≡ st .rec .waiting → allOnes ms ≡ true → (eqb (getD ms place 0) 1 ≡ true) × (sameLog (foundIn (cutSettled ms st)) (cutWritten ms l) ≡ true)
 
-abbrev pub Watch : Disk → Fate → State → Ledger → Plain → Type 0
-Watch old quiet st l d = OpenPhase old st d ⊎ OtherPhase old quiet st d
-Watch old (cutShort G place made) st l d = ShortPhase old G place made st l d
-Watch old (decided G laid all) st l d = OtherPhase old (decided G laid all) st d
+abbrev pub Watch : Disk → Standing → State → Ledger → Plain → Type 0
+Watch old (known quiet) st l d = OpenPhase old st d ⊎ OtherPhase old quiet st d
+Watch old (undecided G place made) st l d = ShortPhase old G place made st l d
+Watch old (known (decided G laid all)) st l d = OtherPhase old (decided G laid all) st d
 
 -- ---- a refused call
 
@@ -147,7 +147,7 @@ refused-cut ms w h m =
     let e : dispatch (cut ms) (w .store) .answer ≡ cause (Request.cut ms) (w .store) = ap (λ (o : Outcome). o .answer) (dispatch-refused (cut ms) (w .store) k) in
     rw e (ne-eqb _ 0 k)
 
-refused-at : (c : Call) (w : World) (G : List Entry) (place : ℕ) (made : Bool) → refusal c (w .plain) ≢ 0 → WorldSim w → atCut c w G place made ≡ cutShort G place made
+refused-at : (c : Call) (w : World) (G : List Entry) (place : ℕ) (made : Bool) → refusal c (w .plain) ≢ 0 → WorldSim w → atCut c w G place made ≡ undecided G place made
 refused-at (power k) w G place made h m = refl
 refused-at (put a b) w G place made h m = refl
 refused-at (get a) w G place made h m = refl
@@ -157,18 +157,18 @@ refused-at sync w G place made h m = refl
 refused-at apply w G place made h m = refl
 refused-at recover w G place made h m = refl
 refused-at (cut ms) w G place made h m =
-    ap (λ (t : Bool). cond t (decided G (made && eqb (getD ms place 0) 1 && foundWritten (cut ms) w) (made && allOnes ms)) (cutShort G place made)) (refused-cut ms w h m)
+    ap (λ (t : Bool). cond t (known (decided G (made && eqb (getD ms place 0) 1 && foundWritten (cut ms) w) (made && allOnes ms))) (undecided G place made)) (refused-cut ms w h m)
 
-observe-refused : (c : Call) (w : World) (f : Fate) → refusal c (w .plain) ≢ 0 → WorldSim w → observe c w f ≡ f
+observe-refused : (c : Call) (w : World) (f : Standing) → refusal c (w .plain) ≢ 0 → WorldSim w → observe c w f ≡ f
 unfolding observe
-observe-refused c w quiet h m = rw (refused-short c w h m)
-observe-refused c w (cutShort G place made) h m = refused-at c w G place made h m
-observe-refused c w (decided G laid all) h m = refl
+observe-refused c w (known quiet) h m = rw (refused-short c w h m)
+observe-refused c w (undecided G place made) h m = refused-at c w G place made h m
+observe-refused c w (known (decided G laid all)) h m = refl
 
-watch-at : (old : Disk) {f f′ : Fate} {st st′ : State} {l l′ : Ledger} {d d′ : Plain} → f′ ≡ f → st′ ≡ st → l′ ≡ l → d′ ≡ d → Watch old f st l d → Watch old f′ st′ l′ d′
+watch-at : (old : Disk) {f f′ : Standing} {st st′ : State} {l l′ : Ledger} {d d′ : Plain} → f′ ≡ f → st′ ≡ st → l′ ≡ l → d′ ≡ d → Watch old f st l d → Watch old f′ st′ l′ d′
 watch-at old a b c e x = rw (a, b, c, e) x
 
-watch-refused : (old : Disk) (c : Call) (w : World) (f : Fate) → refusal c (w .plain) ≢ 0 → WorldSim w → Watch old f (w .store) (w .ledger) (w .plain)
+watch-refused : (old : Disk) (c : Call) (w : World) (f : Standing) → refusal c (w .plain) ≢ 0 → WorldSim w → Watch old f (w .store) (w .ledger) (w .plain)
     → Watch old (observe c w f) (storeNext c w) (ledgerNext c w) (plainNext c w)
 watch-refused old c w f h m x =
     let k : cause (requestOf c) (w .store) ≢ 0 = λ e. h (sym (same-cause (w .store) (w .ledger) (w .plain) m c) ∙ e) in
@@ -177,41 +177,45 @@ watch-refused old c w f h m x =
 
 -- ---- a call that is served
 
-power-watch : (old : Disk) (k : ℕ) (f : Fate) (st : State) (l : Ledger) (d : Plain) → Watch old f st l d → Watch old f (withRecord (withQueue (st .rec .waiting) k (st .rec)) st) l (withPower k d)
+power-watch : (old : Disk) (k : ℕ) (f : Standing) (st : State) (l : Ledger) (d : Plain) → Watch old f st l d → Watch old f (withRecord (withQueue (st .rec .waiting) k (st .rec)) st) l (withPower k d)
 unfolding Card.cut queue
-power-watch old k quiet st l d (_⊎_.inl x) = _⊎_.inl (record { mode = x .mode; S = x .S })
-power-watch old k quiet st l d (_⊎_.inr x) = _⊎_.inr (record { mode = x .mode; S = x .S; laid = x .laid; whole = x .whole })
-power-watch old k (cutShort G place made) st l d x = record { mode = x .mode; S = x .S; group = x .group; laid = x .laid; whole = x .whole }
-power-watch old k (decided G laid all) st l d x = record { mode = x .mode; S = x .S; laid = x .laid; whole = x .whole }
+power-watch old k (known quiet) st l d (_⊎_.inl x) = _⊎_.inl (record { mode = x .mode; S = x .S })
+power-watch old k (known quiet) st l d (_⊎_.inr x) = _⊎_.inr (record { mode = x .mode; S = x .S; laid = x .laid; whole = x .whole })
+power-watch old k (undecided G place made) st l d x = record { mode = x .mode; S = x .S; group = x .group; laid = x .laid; whole = x .whole }
+power-watch old k (known (decided G laid all)) st l d x = record { mode = x .mode; S = x .S; laid = x .laid; whole = x .whole }
 
-power-same : (k : ℕ) (w : World) (f : Fate) → observe (power k) w f ≡ f
+power-same : (k : ℕ) (w : World) (f : Standing) → observe (power k) w f ≡ f
 unfolding observe shortSync
-power-same k w quiet = refl
-power-same k w (cutShort G place made) = refl
-power-same k w (decided G laid all) = refl
+power-same k w (known quiet) = refl
+power-same k w (undecided G place made) = refl
+power-same k w (known (decided G laid all)) = refl
 
 -- open: no sync was cut short yet
-open-watch : (old : Disk) (f : Fate) (st : State) (l : Ledger) (d : Plain) → Watch old f st l d → st .rec .mode ≡ opened → (f ≡ quiet) × (d .S ≡ old)
-open-watch old quiet st l d (_⊎_.inl x) e = (refl, x .S)
-open-watch old quiet st l d (_⊎_.inr x) e = absurd (x .mode e)
-open-watch old (cutShort G place made) st l d x e = absurd (omega (arith, x .mode))
-open-watch old (decided G laid all) st l d x e = absurd (x .mode e)
+open-watch : (old : Disk) (f : Standing) (st : State) (l : Ledger) (d : Plain) → Watch old f st l d → st .rec .mode ≡ opened → (f ≡ known quiet) × (d .S ≡ old)
+open-watch old (known quiet) st l d (_⊎_.inl x) e = (refl, x .S)
+open-watch old (known quiet) st l d (_⊎_.inr x) e = absurd (x .mode e)
+open-watch old (undecided G place made) st l d x e = absurd (omega (arith, x .mode))
+open-watch old (known (decided G laid all)) st l d x e = absurd (x .mode e)
 
--- closed: none is waiting for its cut
-pub other-watch : (old : Disk) (f : Fate) (st : State) (l : Ledger) (d : Plain) → Watch old f st l d → st .rec .mode ≡ closed → OtherPhase old f st d
-other-watch old quiet st l d (_⊎_.inl x) e = absurd (omega (arith, x .mode))
-other-watch old quiet st l d (_⊎_.inr x) e = x
-other-watch old (cutShort G place made) st l d x e = absurd (omega (arith, x .mode))
-other-watch old (decided G laid all) st l d x e = x
+-- closed: what became of it is known
+pub record Closed (old : Disk) (f : Standing) (st : State) (d : Plain) : Type 0 where
+  pub end : Fate
+  pub fated : f ≡ known end
+  pub phase : OtherPhase old end st d
 
-to-watch : (old : Disk) (f : Fate) (st : State) (l : Ledger) (d : Plain) → ((G : List Entry) (place : ℕ) (made : Bool) → f ≡ cutShort G place made → ⊥) → OtherPhase old f st d → Watch old f st l d
-to-watch old quiet st l d n x = _⊎_.inr x
-to-watch old (cutShort G place made) st l d n x = absurd (n G place made refl)
-to-watch old (decided G laid all) st l d n x = x
+pub closed-watch : (old : Disk) (f : Standing) (st : State) (l : Ledger) (d : Plain) → Watch old f st l d → st .rec .mode ≡ closed → Closed old f st d
+closed-watch old (known quiet) st l d (_⊎_.inl x) e = absurd (omega (arith, x .mode))
+closed-watch old (known quiet) st l d (_⊎_.inr x) e = record { end = quiet; fated = refl; phase = x }
+closed-watch old (undecided G place made) st l d x e = absurd (omega (arith, x .mode))
+closed-watch old (known (decided G laid all)) st l d x e = record { end = decided G laid all; fated = refl; phase = x }
+
+to-watch : (old : Disk) (f : Fate) (st : State) (l : Ledger) (d : Plain) → OtherPhase old f st d → Watch old (known f) st l d
+to-watch old quiet st l d x = _⊎_.inr x
+to-watch old (decided G laid all) st l d x = x
 
 -- a call that needs an open record, keeps it open and leaves S
-open-kept : (old : Disk) (c : Call) (w : World) (f : Fate) → WorldSim w → w .store .rec .mode ≡ opened → Watch old f (w .store) (w .ledger) (w .plain)
-    → plainNext c w .mode ≡ w .plain .mode → plainNext c w .S ≡ w .plain .S → observe c w quiet ≡ quiet
+open-kept : (old : Disk) (c : Call) (w : World) (f : Standing) → WorldSim w → w .store .rec .mode ≡ opened → Watch old f (w .store) (w .ledger) (w .plain)
+    → plainNext c w .mode ≡ w .plain .mode → plainNext c w .S ≡ w .plain .S → observe c w (known quiet) ≡ known quiet
     → Watch old (observe c w f) (storeNext c w) (ledgerNext c w) (plainNext c w)
 open-kept old c w f m o x p s q =
     let y = open-watch old f (w .store) (w .ledger) (w .plain) x o in
@@ -281,11 +285,11 @@ module _ (old : Disk) (w : World) (m : WorldSim w) (h : refusal sync (w .plain) 
   headed-is : headed w ≡ eqb (w .plain .power) (innerOf (w .plain .n) (length (w .plain .G)) + (length (w .plain .G) + 2))
   headed-is = ap₂ (λ (x y : ℕ). eqb x y) orders-power (ap₂ (λ (x y : ℕ). x + (y + 2)) inner-is (sym count))
 
-  observed : observe sync w quiet ≡ cutShort (groupOf (w .store)) (w .store .rec .grouped + 1) (headed w)
+  observed : observe sync w (known quiet) ≡ undecided (groupOf (w .store)) (w .store .rec .grouped + 1) (headed w)
   unfolding observe shortSync
   observed =
       let e : eqb (w .store .rec .mode) opened && eqb (dispatch sync (w .store) .answer) 4 ≡ true = rw (eq-eqb _ _ (o .mode), eq-eqb _ 4 answer-four) in
-      ap (λ (t : Bool). cond t (cutShort (groupOf (w .store)) (w .store .rec .grouped + 1) (headed w)) quiet) e
+      ap (λ (t : Bool). cond t (undecided (groupOf (w .store)) (w .store .rec .grouped + 1) (headed w)) (known quiet)) e
 
   -- behind its own header m + 2 writes wait
   waits-two : headed w ≡ true → storeNext sync w .rec .waiting ≡ w .store .rec .grouped + 2
@@ -305,7 +309,7 @@ module _ (old : Disk) (w : World) (m : WorldSim w) (h : refusal sync (w .plain) 
               let i : innerOf n m ≡ n + 3 = rw (PlainLaws.do-apply n m g) in
               PlainLaws.sync-waits-own n m k g (omega arith) ∙ (omega arith)
 
-  sync-watch : (f : Fate) → Watch old f (w .store) (w .ledger) (w .plain) → Watch old (observe sync w f) (storeNext sync w) (ledgerNext sync w) (plainNext sync w)
+  sync-watch : (f : Standing) → Watch old f (w .store) (w .ledger) (w .plain) → Watch old (observe sync w f) (storeNext sync w) (ledgerNext sync w) (plainNext sync w)
   sync-watch f x =
       let y = open-watch old f (w .store) (w .ledger) (w .plain) x (o .mode) in
       let P : plainNext sync w ≡ Plain.cutShort (ofSync (w .plain .power)) (syncWaits (w .plain .n) (length (w .plain .G)) (w .plain .power)) (w .plain) .plain = ap (λ (z : Done). z .plain) short-plain in
@@ -326,7 +330,7 @@ module _ (old : Disk) (w : World) (m : WorldSim w) (h : refusal sync (w .plain) 
 
 -- ---- apply
 
-apply-watch : (old : Disk) (w : World) (f : Fate) → WorldSim w → refusal apply (w .plain) ≡ 0 → Watch old f (w .store) (w .ledger) (w .plain)
+apply-watch : (old : Disk) (w : World) (f : Standing) → WorldSim w → refusal apply (w .plain) ≡ 0 → Watch old f (w .store) (w .ledger) (w .plain)
     → Watch old (observe apply w f) (storeNext apply w) (ledgerNext apply w) (plainNext apply w)
 unfolding observe shortSync
 apply-watch old w f m h x = go (ℕ-discrete (w .plain .n) 0) (decLe (w .plain .n + 3) (w .plain .power))
@@ -367,18 +371,13 @@ recover-laid k n m F t u = go (eqb k 0)
     go true = refl
     go false = refl
 
-recover-same : (w : World) (f : Fate) → observe recover w f ≡ f
+recover-same : (w : World) (f : Standing) → observe recover w f ≡ f
 unfolding observe shortSync
-recover-same w quiet = refl
-recover-same w (cutShort G place made) = refl
-recover-same w (decided G laid all) = refl
+recover-same w (known quiet) = refl
+recover-same w (undecided G place made) = refl
+recover-same w (known (decided G laid all)) = refl
 
-no-short : (old : Disk) (f : Fate) (st : State) (l : Ledger) (d : Plain) → Watch old f st l d → st .rec .mode ≡ closed → (G : List Entry) (place : ℕ) (made : Bool) → f ≡ cutShort G place made → ⊥
-no-short old quiet st l d x e G place made q = let z : _≡_ {A = ℕ} 0 1 = cc in omega arith
-no-short old (cutShort G′ place′ made′) st l d x e G place made q = omega (arith, x .mode)
-no-short old (decided G′ laid all) st l d x e G place made q = let z : _≡_ {A = ℕ} 0 1 = cc in omega arith
-
-recover-watch : (old : Disk) (w : World) (f : Fate) → WorldSim w → refusal recover (w .plain) ≡ 0 → S.finished recover w ≡ false → Watch old f (w .store) (w .ledger) (w .plain)
+recover-watch : (old : Disk) (w : World) (f : Standing) → WorldSim w → refusal recover (w .plain) ≡ 0 → S.finished recover w ≡ false → Watch old f (w .store) (w .ledger) (w .plain)
     → Watch old (observe recover w f) (storeNext recover w) (ledgerNext recover w) (plainNext recover w)
 unfolding S.finished
 recover-watch old w f m h nf x = go (w .plain .F) refl (decLe 2 (w .plain .power))
@@ -396,12 +395,12 @@ recover-watch old w f m h nf x = go (w .plain .F) refl (decLe 2 (w .plain .power
     go false e q = absurd (not-zero (ap (λ (d : Done). d .answer) (PlainLaws.recover-whole (w .plain) e)))
     go true e (yes q) = absurd (not-zero (ap (λ (d : Done). d .answer) (PlainLaws.recover-fallback (w .plain) e q)))
     go true e (no q) =
-        let y = other-watch old f (w .store) (w .ledger) (w .plain) x shut in
+        let y = closed-watch old f (w .store) (w .ledger) (w .plain) x shut in
         let k = P ∙ PlainLaws.recover-short (w .plain) e (omega arith) in
         let mode : storeNext recover w .rec .mode ≡ 2 = step recover w m .agrees .mode ∙ ap (λ (d : Done). d .plain .mode) k in
-        watch-at old (recover-same w f) refl refl (ap (λ (d : Done). d .plain) k)
-        (to-watch old f (storeNext recover w) (ledgerNext recover w) _ (no-short old f (w .store) (w .ledger) (w .plain) x shut)
-        (record { mode = λ z. omega arith; S = y .S; laid = λ ms u. recover-laid (w .plain .power) (w .plain .n) (length (w .plain .G)) (w .plain .F) _ u; whole = y .whole }))
+        watch-at old (recover-same w f ∙ y .fated) refl refl (ap (λ (d : Done). d .plain) k)
+        (to-watch old (y .end) (storeNext recover w) (ledgerNext recover w) _
+        (record { mode = λ z. omega arith; S = y .phase .S; laid = λ ms u. recover-laid (w .plain .power) (w .plain .n) (length (w .plain .G)) (w .plain .F) _ u; whole = y .phase .whole }))
 
 -- ---- cut
 
@@ -416,22 +415,22 @@ module _ (old : Disk) (ms : List ℕ) (w : World) (m : WorldSim w) (h : refusal 
   closed-now e = let k : storeNext (cut ms) w .rec .mode ≡ 0 = ap (λ (s : State). s .rec .mode) (CutStep.store-cut ms w m h) in omega arith
 
   -- nothing is laid
-  cut-still : (f : Fate) → observe (cut ms) w f ≡ f → ((G : List Entry) (place : ℕ) (made : Bool) → f ≡ cutShort G place made → ⊥)
+  cut-still : (f : Fate) → observe (cut ms) w (known f) ≡ known f
       → planned (w .plain) ms found .laid ≡ false → w .plain .S ≡ outcome f old → WholeIsNew f
-      → Watch old (observe (cut ms) w f) (storeNext (cut ms) w) (ledgerNext (cut ms) w) (plainNext (cut ms) w)
-  cut-still f q n z s y =
+      → Watch old (observe (cut ms) w (known f)) (storeNext (cut ms) w) (ledgerNext (cut ms) w) (plainNext (cut ms) w)
+  cut-still f q z s y =
       watch-at old q refl refl P
-      (to-watch old f (storeNext (cut ms) w) (ledgerNext (cut ms) w) _ n
+      (to-watch old f (storeNext (cut ms) w) (ledgerNext (cut ms) w) _
       (record { mode = closed-now; S = ap (λ (t : Bool). cond t (overlay (w .plain .G) (w .plain .S)) (w .plain .S)) z ∙ s; laid = λ ns u. ap (λ (v : Verdict). v .laid) (PlainLaws.choose-none _ _ _ _ u); whole = y }))
 
-  cut-observed : (G : List Entry) (place : ℕ) (made : Bool) → observe (cut ms) w (cutShort G place made) ≡ decided G (made && eqb (getD ms place 0) 1 && found) (made && allOnes ms)
+  cut-observed : (G : List Entry) (place : ℕ) (made : Bool) → observe (cut ms) w (undecided G place made) ≡ known (decided G (made && eqb (getD ms place 0) 1 && found) (made && allOnes ms))
   unfolding observe
   cut-observed G place made =
-      ap (λ (t : Bool). cond t (decided G (made && eqb (getD ms place 0) 1 && foundWritten (cut ms) w) (made && allOnes ms)) (cutShort G place made)) (cut-accepted ms w m h)
-      ∙ ap (λ (t : Bool). decided G (made && eqb (getD ms place 0) 1 && t) (made && allOnes ms)) (CutStep.found-cut ms w m h)
+      ap (λ (t : Bool). cond t (known (decided G (made && eqb (getD ms place 0) 1 && foundWritten (cut ms) w) (made && allOnes ms))) (undecided G place made)) (cut-accepted ms w m h)
+      ∙ ap (λ (t : Bool). known (decided G (made && eqb (getD ms place 0) 1 && t) (made && allOnes ms))) (CutStep.found-cut ms w m h)
 
   cut-decides : (G : List Entry) (place : ℕ) (made : Bool) → ShortPhase old G place made (w .store) (w .ledger) (w .plain)
-      → Watch old (observe (cut ms) w (cutShort G place made)) (storeNext (cut ms) w) (ledgerNext (cut ms) w) (plainNext (cut ms) w)
+      → Watch old (observe (cut ms) w (undecided G place made)) (storeNext (cut ms) w) (ledgerNext (cut ms) w) (plainNext (cut ms) w)
   cut-decides G place made x =
       watch-at old (cut-observed G place made) refl refl P
       (record {
@@ -445,9 +444,9 @@ module _ (old : Disk) (ms : List ℕ) (w : World) (m : WorldSim w) (h : refusal 
             rw (q .0, y .0, y .1);
       })
 
-  cut-watch : (f : Fate) → Watch old f (w .store) (w .ledger) (w .plain) → Watch old (observe (cut ms) w f) (storeNext (cut ms) w) (ledgerNext (cut ms) w) (plainNext (cut ms) w)
+  cut-watch : (f : Standing) → Watch old f (w .store) (w .ledger) (w .plain) → Watch old (observe (cut ms) w f) (storeNext (cut ms) w) (ledgerNext (cut ms) w) (plainNext (cut ms) w)
   unfolding observe shortSync
-  cut-watch quiet (_⊎_.inl x) = cut-still quiet refl (λ G place made q. let z : _≡_ {A = ℕ} 0 1 = cc in omega arith) (open-none (m .phase)) (x .S) tt
+  cut-watch (known quiet) (_⊎_.inl x) = cut-still quiet refl (open-none (m .phase)) (x .S) tt
     where
       open-none : OpenSim (w .store) (w .ledger) (w .plain) ⊎ (ClosedSim (w .store) (w .ledger) (w .plain) ⊎ DownSim (w .store) (w .ledger) (w .plain)) → planned (w .plain) ms found .laid ≡ false
       open-none (_⊎_.inl o) =
@@ -455,13 +454,13 @@ module _ (old : Disk) (ms : List ℕ) (w : World) (m : WorldSim w) (h : refusal 
           ∙ ap (λ (v : Verdict). v .laid) (PlainLaws.choose-none (w .plain .n) (length (w .plain .G)) (w .plain .F) (headerKept ms (w .plain .waiting)) found)
       open-none (_⊎_.inr (_⊎_.inl o)) = absurd (omega (arith, o .mode, x .mode))
       open-none (_⊎_.inr (_⊎_.inr o)) = absurd (omega (arith, o .mode, x .mode))
-  cut-watch quiet (_⊎_.inr x) = cut-still quiet refl (λ G place made q. let z : _≡_ {A = ℕ} 0 1 = cc in omega arith) (x .laid ms found) (x .S) tt
-  cut-watch (cutShort G place made) x = cut-decides G place made x
-  cut-watch (decided G laid all) x = cut-still (decided G laid all) refl (λ g place made q. let z : _≡_ {A = ℕ} 0 1 = cc in omega arith) (x .laid ms found) (x .S) (x .whole)
+  cut-watch (known quiet) (_⊎_.inr x) = cut-still quiet refl (x .laid ms found) (x .S) tt
+  cut-watch (undecided G place made) x = cut-decides G place made x
+  cut-watch (known (decided G laid all)) x = cut-still (decided G laid all) refl (x .laid ms found) (x .S) (x .whole)
 
 -- ---- every call
 
-served-watch : (old : Disk) (c : Call) (w : World) (f : Fate) → WorldSim w → refusal c (w .plain) ≡ 0 → S.finished c w ≡ false → Watch old f (w .store) (w .ledger) (w .plain)
+served-watch : (old : Disk) (c : Call) (w : World) (f : Standing) → WorldSim w → refusal c (w .plain) ≡ 0 → S.finished c w ≡ false → Watch old f (w .store) (w .ledger) (w .plain)
     → Watch old (observe c w f) (storeNext c w) (ledgerNext c w) (plainNext c w)
 unfolding observe shortSync entered
 served-watch old (power k) w f m h nf x =
@@ -484,7 +483,7 @@ served-watch old apply w f m h nf x = apply-watch old w f m h x
 served-watch old recover w f m h nf x = recover-watch old w f m h nf x
 served-watch old (cut ms) w f m h nf x = cut-watch old ms w m h f x
 
-pub watch-step : (old : Disk) (c : Call) (w : World) (f : Fate) → WorldSim w → S.finished c w ≡ false → Watch old f (w .store) (w .ledger) (w .plain)
+pub watch-step : (old : Disk) (c : Call) (w : World) (f : Standing) → WorldSim w → S.finished c w ≡ false → Watch old f (w .store) (w .ledger) (w .plain)
     → Watch old (observe c w f) (storeNext c w) (ledgerNext c w) (plainNext c w)
 watch-step old c w f m nf x = go (ℕ-discrete (refusal c (w .plain)) 0)
   where
@@ -492,7 +491,7 @@ watch-step old c w f m nf x = go (ℕ-discrete (refusal c (w .plain)) 0)
     go (yes h) = served-watch old c w f m h nf x
     go (no h) = watch-refused old c w f h m x
 
-pub watch-list : (old : Disk) (cs : List Call) (w : World) (f : Fate) → WorldSim w → noneFinished cs w ≡ true → after cs w .excepted ≡ false → Watch old f (w .store) (w .ledger) (w .plain)
+pub watch-list : (old : Disk) (cs : List Call) (w : World) (f : Standing) → WorldSim w → noneFinished cs w ≡ true → after cs w .excepted ≡ false → Watch old f (w .store) (w .ledger) (w .plain)
     → Watch old (fate cs w f) (after cs w .store) (after cs w .ledger) (after cs w .plain)
 unfolding after fate noneFinished next
 watch-list old [] w f m n e x = x

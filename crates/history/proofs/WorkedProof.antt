@@ -30,7 +30,7 @@ use Rattle.history.specs.Dispatch.{dispatch}
 use Rattle.history.specs.Ledger.{sameLog, collides}
 use Rattle.history.specs.History.{World, begun, next, after, storeNext, ledgerNext, foundWritten, acceptedCut, exception}
 use Rattle.history.specs.Statements as S
-use Rattle.history.specs.Statements.{EndsFinished, noneFinished, shortSync, allOnes, Fate, quiet, cutShort, decided, observe, fate, outcome}
+use Rattle.history.specs.Statements.{EndsFinished, noneFinished, shortSync, allOnes, Fate, quiet, decided, Standing, known, undecided, observe, fate, outcome}
 use Rattle.history.specs.Worked.{sevens, nines, at40, filed, crashed, metByRecover, answers, Script, Worked}
 use Rattle.history.proofs.Disks.{slotE, logD}
 use Rattle.history.proofs.Leads.{foundIn}
@@ -39,10 +39,14 @@ use Rattle.history.proofs.Steps.{WorldSim}
 use Rattle.history.proofs.CutStep.{found-cut, exception-cut}
 use Rattle.history.proofs.Induct.{begun-sim}
 use Rattle.history.proofs.ReadsBack.{power-served, cut-accepted}
-use Rattle.history.proofs.Theorems.{crash-atomicity}
+use Rattle.history.proofs.Atomicity.{Reading, reading}
 use Rattle.history.proofs.WorkedSums.{other-sum}
 use Rattle.history.proofs.WorkedPlain.{openAt, downAt, closedAt, plain-put, plain-commit, plain-filed, plain-power, plain-halted, plain-torn, plain-whole, plain-again, plain-fallback, plain-found, Went, went}
 use Rattle.history.proofs.WorkedSync.{group-is, grouped-is, no-inner, filed-log, filed-next, halted-written, halted-torn, halted-whole}
+
+-- what is known is one
+known-same : {e f : Fate} → known e ≡ known f → e ≡ f
+known-same p = cc
 
 -- ---- put and commit leave the settled bytes
 
@@ -168,14 +172,14 @@ module _ (w : World) (m : Filed w) where
   open-then : v₃ w .store .rec .mode ≡ opened
   open-then = sym (t₃ .sim .basics .mirrors .mode) ∙ ap (λ (x : Plain). x .mode) (t₃ .plain)
 
-  observed : observe sync (v₃ w) quiet ≡ cutShort (at40 nines ∷ []) 2 true
+  observed : observe sync (v₃ w) (known quiet) ≡ undecided (at40 nines ∷ []) 2 true
   unfolding observe shortSync
   observed =
       let g = group-is (v₃ w) (t₃ .sim) old nines 1 3 (omega arith) (t₃ .plain) in
       let k = grouped-is (v₃ w) (t₃ .sim) old nines 1 3 (omega arith) (t₃ .plain) in
       let i = no-inner (v₃ w) (t₃ .sim) old nines 1 3 (omega arith) (t₃ .plain) in
       λ j.
-      cond (eqb (open-then j) opened && eqb (t₄ .answer j) 4) (cutShort (g j) (k j + 1) (eqb (t₄ .orders j) (i j + (k j + 2)))) quiet
+      cond (eqb (open-then j) opened && eqb (t₄ .answer j) 4) (undecided (g j) (k j + 1) (eqb (t₄ .orders j) (i j + (k j + 2)))) (known quiet)
 
   -- ---- a cut that is accepted
 
@@ -264,13 +268,13 @@ module _ (w : World) (m : Filed w) (ms : List ℕ) (same : Bool) (k : ℕ) (c : 
   unfolding noneFinished S.finished
   none-done = ap (λ (a : ℕ). not (eqb a 0) && true) (t₄ w m .answer)
 
-  fated : fate (crashed ms) w quiet ≡ decided (at40 nines ∷ []) (eqb (getD ms 2 0) 1 && same) (allOnes ms)
+  fated : fate (crashed ms) w (known quiet) ≡ known (decided (at40 nines ∷ []) (eqb (getD ms 2 0) 1 && same) (allOnes ms))
   unfolding fate observe shortSync
   fated =
-      ap (λ (x : Fate). fate (cut ms ∷ power 100 ∷ []) (v₄ w) x) (observed w m)
+      ap (λ (x : Standing). fate (cut ms ∷ power 100 ∷ []) (v₄ w) x) (observed w m)
       ∙ (λ j.
       fate (power 100 ∷ []) v₅
-      (cond (accepted w m ms (c .fit) j) (decided (at40 nines ∷ []) (eqb (getD ms 2 0) 1 && c .found j) (allOnes ms)) (cutShort (at40 nines ∷ []) 2 true)))
+      (cond (accepted w m ms (c .fit) j) (known (decided (at40 nines ∷ []) (eqb (getD ms 2 0) 1 && c .found j) (allOnes ms))) (undecided (at40 nines ∷ []) 2 true)))
 
   later-lines : dispatch (get 40) (storeNext recover v₆) .answer ≡ 0
       → answers (crashed ms ++ (recover ∷ get 40 ∷ [])) w ≡ (0, 0) ∷ (0, 0) ∷ (0, 0) ∷ (4, 3) ∷ (0, 0) ∷ (0, 0) ∷ (0, k) ∷ (0, 0) ∷ []
@@ -324,11 +328,9 @@ module _ (st : State) (f : formatCall st .answer ≡ 0) (size : blocksIn (st .se
 
   module _ (ms : List ℕ) (same : Bool) (k : ℕ) (c : Cuts w₃ ms same k) where
     -- the disk found, by crash atomicity
-    found-there : S.FoundIs (blocksIn (st .settled)) (storeNext recover (metByRecover ms st)) (outcome (fate (crashed ms) (after filed (begun st)) quiet) (after filed (begun st) .plain .S))
+    read : Reading st filed (crashed ms)
     unfolding after
-    found-there =
-        crash-atomicity st f (filed ++ (crashed ms ++ (recover ∷ []))) filed (crashed ms) [] refl ends (none-done w₃ all-filed ms same k c) (t₇ w₃ all-filed ms same k c .answer)
-        (all-clean w₃ all-filed ms same k c) .found
+    read = reading st f filed (crashed ms) ends (none-done w₃ all-filed ms same k c) (t₇ w₃ all-filed ms same k c .answer) (all-clean w₃ all-filed ms same k c)
 
     is-40 : isData (blocksIn (st .settled)) 40 ≡ true
     is-40 = ap (λ (N : ℕ). isData N 40) size
@@ -336,8 +338,9 @@ module _ (st : State) (f : formatCall st .answer ≡ 0) (size : blocksIn (st .se
     script : (new all : Bool) (b : List ℕ) → eqb (getD ms 2 0) 1 && same ≡ new → allOnes ms ≡ all → outcome (decided (at40 nines ∷ []) new all) old 40 ≡ b → Script st ms same new all k b
     unfolding after answers next
     script new all b p q e =
-        let x = found-there 40 is-40 in
-        let y : fate (crashed ms) w₃ quiet ≡ decided (at40 nines ∷ []) new all = fated w₃ all-filed ms same k c ∙ (λ j. decided (at40 nines ∷ []) (p j) (q j)) in
+        let x = read .found 40 is-40 in
+        let y : fate (crashed ms) w₃ (known quiet) ≡ known (decided (at40 nines ∷ []) new all) = fated w₃ all-filed ms same k c ∙ (λ j. known (decided (at40 nines ∷ []) (p j) (q j))) in
+        let z : read .end ≡ decided (at40 nines ∷ []) new all = known-same (sym (read .fated) ∙ y) in
         record {
           lines = λ j. (s₁ .answer j, s₁ .orders j) ∷ (s₂ .answer j, s₂ .orders j) ∷ (s₃ .answer j, s₃ .orders j) ∷ later-lines w₃ all-filed ms same k c (x .0) j;
           ends = ends;
@@ -349,7 +352,7 @@ module _ (st : State) (f : formatCall st .answer ≡ 0) (size : blocksIn (st .se
           answer = t₇ w₃ all-filed ms same k c .answer;
           orders = t₇ w₃ all-filed ms same k c .orders;
           fated = y;
-          block = x .1 ∙ ap₂ (λ (u : Fate) (d : Plain). outcome u (d .S) 40) y (s₃ .plain) ∙ e;
+          block = x .1 ∙ ap₂ (λ (u : Fate) (d : Plain). outcome u (d .S) 40) z (s₃ .plain) ∙ e;
         }
 
   torn : Script st (1 ∷ 0 ∷ 1 ∷ []) false false false 2 sevens

@@ -146,72 +146,80 @@ unfoldable pub allOnes : List ℕ → Bool
 allOnes [] = true
 allOnes (m ∷ ms) = eqb m 1 && allOnes ms
 
--- what became of the sync that was cut short: none so far; cut short with its group, the place in the queue of its own header and
--- whether that header was written; decided at the next accepted cut: new or not, and whether it had made all its writes and all
--- were kept
+-- what became of a sync that was cut short: none was; or decided at the next accepted cut, with its group: new or not, and whether it
+-- had made all its writes and all were kept
 pub data Fate : Type 0 where
   quiet : Fate
-  cutShort : List Entry → ℕ → Bool → Fate
   decided : List Entry → Bool → Bool → Fate
+
+-- along the list: known; or still undecided, with the group of the sync, the place in the queue of its own header and whether that
+-- header was written
+pub data Standing : Type 0 where
+  known : Fate → Standing
+  undecided : List Entry → ℕ → Bool → Standing
 
 -- the sync's own header was written, and nothing after it
 abbrev pub headed : World → Bool
 headed w = eqb (dispatch sync (w .store) .orders) (inner (w .store) + (w .store .rec .grouped + 2))
 
 -- at an accepted cut: its header kept, and the log found is the log written
-abbrev pub atCut : Call → World → List Entry → ℕ → Bool → Fate
-atCut (power k) w G place made = cutShort G place made
-atCut (put a b) w G place made = cutShort G place made
-atCut (get a) w G place made = cutShort G place made
-atCut commit w G place made = cutShort G place made
-atCut abandon w G place made = cutShort G place made
-atCut sync w G place made = cutShort G place made
-atCut apply w G place made = cutShort G place made
-atCut recover w G place made = cutShort G place made
+abbrev pub atCut : Call → World → List Entry → ℕ → Bool → Standing
+atCut (power k) w G place made = undecided G place made
+atCut (put a b) w G place made = undecided G place made
+atCut (get a) w G place made = undecided G place made
+atCut commit w G place made = undecided G place made
+atCut abandon w G place made = undecided G place made
+atCut sync w G place made = undecided G place made
+atCut apply w G place made = undecided G place made
+atCut recover w G place made = undecided G place made
 atCut (cut ms) w G place made =
     cond (acceptedCut (cut ms) w)
-    (decided G (made && eqb (getD ms place 0) 1 && foundWritten (cut ms) w) (made && allOnes ms))
-    (cutShort G place made)
+    (known (decided G (made && eqb (getD ms place 0) 1 && foundWritten (cut ms) w) (made && allOnes ms)))
+    (undecided G place made)
 
-unfoldable pub observe : Call → World → Fate → Fate
-observe c w quiet = cond (shortSync c w) (cutShort (groupOf (w .store)) (w .store .rec .grouped + 1) (headed w)) quiet
-observe c w (cutShort G place made) = atCut c w G place made
-observe c w (decided G laid all) = decided G laid all
+unfoldable pub observe : Call → World → Standing → Standing
+observe c w (known quiet) = cond (shortSync c w) (undecided (groupOf (w .store)) (w .store .rec .grouped + 1) (headed w)) (known quiet)
+observe c w (known (decided G laid all)) = known (decided G laid all)
+observe c w (undecided G place made) = atCut c w G place made
 
-unfoldable pub fate : List Call → World → Fate → Fate
+unfoldable pub fate : List Call → World → Standing → Standing
 fate [] w f = f
 fate (c ∷ cs) w f = fate cs (next c w) (observe c w f)
 
 -- old, or new: old with the group over it
 abbrev pub outcome : Fate → Disk → Disk
 outcome quiet old = old
-outcome (cutShort G place made) old = old
 outcome (decided G laid all) old = cond laid (overlay G old) old
 
 -- "a sync that had made all its writes and whose next cut kept every one" is new
 abbrev pub WholeIsNew : Fate → Type 0
 WholeIsNew quiet = Unit {0}
-WholeIsNew (cutShort G place made) = Unit {0}
 WholeIsNew (decided G laid all) = all ≡ true → laid ≡ true
 
 -- the disk found: every data block as the store's own get hands it out on what the recover left
 abbrev pub FoundIs : ℕ → State → Disk → Type 0
 FoundIs N r d = (x : ℕ) → isData N x ≡ true → (dispatch (get x) r .answer ≡ 0) × (blockOf x r ≡ d x)
 
--- For every list and every reading of it as a, b, a recover that answers 0, and c, where a is empty or ends in a finished sync or
--- recovery and b holds none, and no cut in a or b is excepted: b holds at most one sync cut short, and the disk found is old, the
--- plain disk's S after a, or new, old with that sync's group over it: new exactly if the next accepted cut kept that sync's own
--- header and the log found there is the log written
-pub record Atomic (st : State) (a b : List Call) : Type 0 where
+-- A recover behind the list cs. The list is a, then b: a is empty or ends in a finished sync or recovery, and b holds none. b holds at
+-- most one sync cut short, and what became of it is known. The disk found is old, the plain disk's S after a, or new, old with that
+-- sync's group over it: new exactly if the next accepted cut kept that sync's own header and the log found there is the log written
+pub record Atomic (st : State) (cs : List Call) : Type 0 where
+  pub a : List Call
+  pub b : List Call
+  pub split : cs ≡ a ++ b
+  pub ends : EndsFinished a (begun st)
+  pub none : noneFinished b (after a (begun st)) ≡ true
   pub one : countShort b (after a (begun st)) ≤ 1
-  pub found : FoundIs (blocksIn (st .settled)) (storeNext recover (after b (after a (begun st)))) (outcome (fate b (after a (begun st)) quiet) (after a (begun st) .plain .S))
-  pub whole : WholeIsNew (fate b (after a (begun st)) quiet)
+  pub end : Fate
+  pub fated : fate b (after a (begun st)) (known quiet) ≡ known end
+  pub found : FoundIs (blocksIn (st .settled)) (storeNext recover (after cs (begun st))) (outcome end (after a (begun st) .plain .S))
+  pub whole : WholeIsNew end
 
+-- At every place of every list at which a recover answers 0 with no exception at a cut before it; cs is the list before that place,
+-- and what follows plays no part
 abbrev pub CrashAtomicity : Type 0
 CrashAtomicity =
-    (st : State) → formatCall st .answer ≡ 0 → (cs a b c : List Call) → cs ≡ a ++ (b ++ (recover ∷ c))
-    → EndsFinished a (begun st)
-    → noneFinished b (after a (begun st)) ≡ true
-    → dispatch recover (after b (after a (begun st)) .store) .answer ≡ 0
-    → after b (after a (begun st)) .excepted ≡ false
-    → Atomic st a b
+    (st : State) → formatCall st .answer ≡ 0 → (cs : List Call)
+    → dispatch recover (after cs (begun st) .store) .answer ≡ 0
+    → after cs (begun st) .excepted ≡ false
+    → Atomic st cs

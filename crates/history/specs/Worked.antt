@@ -12,7 +12,7 @@ use Rattle.store.specs.Simple.{formatCall}
 use Rattle.history.specs.Call.{Call, power, put, get, commit, sync, recover, cut}
 use Rattle.history.specs.Dispatch.{dispatch, blockOf}
 use Rattle.history.specs.History.{World, begun, next, after, storeNext, foundWritten, acceptedCut, exception}
-use Rattle.history.specs.Statements.{EndsFinished, noneFinished, quiet, decided, fate}
+use Rattle.history.specs.Statements.{EndsFinished, noneFinished, quiet, decided, known, fate}
 
 -- "byte filling the block"
 unfoldable pub sevens : List ℕ
@@ -61,7 +61,7 @@ pub record Script (st : State) (ms : List ℕ) (same new all : Bool) (k : ℕ) (
   pub clean : metByRecover ms st .excepted ≡ false
   pub answer : dispatch recover (metByRecover ms st .store) .answer ≡ 0
   pub orders : dispatch recover (metByRecover ms st .store) .orders ≡ k
-  pub fated : fate (crashed ms) (after filed (begun st)) quiet ≡ decided (at40 nines ∷ []) new all
+  pub fated : fate (crashed ms) (after filed (begun st)) (known quiet) ≡ known (decided (at40 nines ∷ []) new all)
   pub block : blockOf 40 (storeNext recover (metByRecover ms st)) ≡ b
 
 -- cut 101 loses the new descriptor: another log than the one written, no collision, old; cut 111 keeps every write: new. There is
