@@ -15,9 +15,9 @@ use Rattle.card.specs.Card.{Card, run, kept, cut, settle, blockAt, blocksIn}
 use Rattle.card.proofs.All.{All, all-append, all-take}
 use Rattle.card.proofs.Runs.{Whole, Short}
 use Rattle.card.proofs.Cuts.{kept-all}
-use Rattle.journal.specs.Layout.{slots, firstData, descriptorAt}
-use Rattle.journal.specs.Header.{header}
-use Rattle.journal.specs.Log.{headerOf, entries, sumOf, allData}
+use Rattle.journal.specs.Layout.{slots, firstData, headerAt, descriptorAt}
+use Rattle.journal.specs.Header.{encode, header}
+use Rattle.journal.specs.Log.{entries, sumOf, allData}
 use Rattle.journal.specs.Orders.{appendOrders}
 use Rattle.journal.proofs.Logs.{sumOf-append, length-blockAt}
 use Rattle.journal.proofs.OrderLists.{appendWrites, slotBlocks, slots-below}
@@ -25,7 +25,7 @@ use Rattle.history.specs.Plain.{ownVerdict}
 use Rattle.history.specs.Ledger.{sameLog}
 use Rattle.history.proofs.Disks.{slotE, logD, entries-disk, WholeCard, append-head}
 use Rattle.history.proofs.Batches.{Left, left-then, append-fit, append-short, append-done, length-append-writes, Fit}
-use Rattle.history.proofs.Leads.{Leads, foundIn, read-head, on-card, append-all, append-whole}
+use Rattle.history.proofs.Leads.{Leads, foundIn, on-card, append-all, append-whole}
 use Rattle.history.proofs.Crashes.{all-appended}
 use Rattle.history.proofs.CallCuts.{cut-laid, settled-laid, append-cuts, append-cuts-top}
 
@@ -95,13 +95,13 @@ module _ {N : ℕ} {s : List ℕ} {n h : ℕ} {G v : List Entry} {S : Disk} {c�
   pub done-sum : sumOf h G ≡ sumOf start (logD (blockAt (settle W s)) (n + length G))
   done-sum = ap (λ (k : ℕ). sumOf k G) (x .sum) ∙ sym (sumOf-append start (logD (blockAt s) n) G) ∙ ap (sumOf start) (done-card .same)
 
-  -- the header on the card then
-  pub done-head : headerOf (settle W s) ≡ header N n h (n + length G) (sumOf h G)
+  -- block 0 then
+  done-head : blockAt (settle W s) headerAt ≡ encode (header N n h (n + length G) (sumOf h G))
   done-head =
       let laid : (a : ℕ) → a < N → blockAt (settle W s) a ≡ overlay W (blockAt s) a = λ a l. settled-laid W s (settle W s) a refl (omega (arith, x .size)) writes-whole in
-      read-head (settle W s) N n h (n + length G) (sumOf h G) (x .small)
-      (append-head N (blockAt s) (blockAt (settle W s)) v S n h G (x .card)
-      (on-card N s n h G v S (x .big) (x .small) (x .size) (x .room) (x .sum) (x .card) (settle W s) W laid (all-appended N s n h G (x .room) wide (x .sum))))
+      append-head N (blockAt s) (blockAt (settle W s)) v S n h G (x .card)
+      (on-card N s n h G v S (x .big) (x .small) (x .size) (x .room) (x .sum) (x .card) (settle W s) W laid (all-appended N s n h G (x .room) wide (x .sum)))
+      .block
 
   size-log : length (logD (blockAt s) n) ≡ n
   size-log = length-upTo (slotE (blockAt s)) n
@@ -111,11 +111,11 @@ module _ {N : ℕ} {s : List ℕ} {n h : ℕ} {G v : List Entry} {S : Disk} {c�
 
   -- by the list L before it: p and n are the lengths, the sums those of L and of L and G
   pub done-logged : (L : List Entry) → L ≡ logD (blockAt s) n
-      → (headerOf (settle W s) ≡ header N (length L) (sumOf start L) (length (L ++ G)) (sumOf start (L ++ G))) × (entries (settle W s) (length (L ++ G)) ≡ L ++ G)
+      → (blockAt (settle W s) headerAt ≡ encode (header N (length L) (sumOf start L) (length (L ++ G)) (sumOf start (L ++ G)))) × (entries (settle W s) (length (L ++ G)) ≡ L ++ G)
   done-logged L e =
       rw e (
         done-head
-            ∙ (λ i. header N (sym size-log i) (x .sum i) (sym size-list i) ((ap (λ (k : ℕ). sumOf k G) (x .sum) ∙ sym (sumOf-append start (logD (blockAt s) n) G)) i)),
+            ∙ (λ i. encode (header N (sym size-log i) (x .sum i) (sym size-list i) ((ap (λ (k : ℕ). sumOf k G) (x .sum) ∙ sym (sumOf-append start (logD (blockAt s) n) G)) i))),
         ap (entries (settle W s)) size-list ∙ entries-disk (settle W s) (n + length G) ∙ sym (done-card .same),
       )
 

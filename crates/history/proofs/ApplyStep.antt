@@ -22,7 +22,7 @@ use Rattle.store.specs.Saves.{carried, applyCall}
 use Rattle.history.specs.Call.{Call, get, apply}
 use Rattle.history.specs.Plain.{Plain, ofApply, Done, refusal, plainStep, plainApply, applyVerdict, applyWaits, headerKept, unchanged}
 use Rattle.history.specs.Dispatch.{dispatch}
-use Rattle.history.specs.Ledger.{Ledger, nothing, heads, noted, entered, applyHead, sameLog}
+use Rattle.history.specs.Ledger.{Ledger, nothing, applyHeads, noted, entered, applyHead, sameLog}
 use Rattle.history.specs.History.{World, ledgerNext, foundWritten}
 use Rattle.history.proofs.Batches.{Left}
 use Rattle.history.proofs.Leads.{foundIn}
@@ -94,7 +94,7 @@ module _ (w : World) (m : WorldSim w) (h : refusal apply (w .plain) ≡ 0) (o : 
       ∙ carried-done [] _ (w .store .rec) (w .store) (omega arith)
       ∙ rw (run-nil (cardIn (w .store)), eq-eqb _ 0 z) in
       nothing-step apply w m D (plain ∙ apply-nothing (w .plain) (o .n ∙ z))
-      (ap (λ (x : Outcome). noted (heads apply (w .store)) (x .orders) (w .ledger)) D ∙ noted-none (heads apply (w .store)) (w .ledger)) apply-no-get
+      (ap (λ (x : Outcome). noted (applyHeads (w .store)) (x .orders) (w .ledger)) D ∙ noted-none (applyHeads (w .store)) (w .ledger)) apply-no-get
 
   module _ (z : w .store .rec .logged ≢ 0) where
     orders-are : applyOrders (w .store .rec .blocks) (w .store .settled) (w .store .rec .logged) ≡ checkpointOrders (w .store .rec .blocks) (log (w .store) (w .ledger) (w .plain) (m .basics) o)
@@ -115,7 +115,7 @@ module _ (w : World) (m : WorldSim w) (h : refusal apply (w .plain) ≡ 0) (o : 
 
     -- with power for all of it
     whole : w .store .rec .logged + 3 ≤ w .store .rec .power → StepOK apply w
-    unfolding entered heads
+    unfolding entered applyHeads
     whole p =
         let b = m .basics in
         let f = record-facts (w .store) (b .counts) .lists (o .mode) in
@@ -159,7 +159,7 @@ module _ (w : World) (m : WorldSim w) (h : refusal apply (w .plain) ≡ 0) (o : 
 
     -- with less
     gone : w .store .rec .power < w .store .rec .logged + 3 → StepOK apply w
-    unfolding entered heads
+    unfolding entered applyHeads
     gone p =
         let b = m .basics in
         let k = count in

@@ -9,7 +9,7 @@ use Rattle.cells.specs.Entry.{Entry}
 use Rattle.store.specs.State.{State}
 use Rattle.history.specs.Call.{Call, power, put, get, commit, abandon, sync, apply, recover, cut}
 use Rattle.history.specs.Dispatch.{dispatch}
-use Rattle.history.specs.Ledger.{Head, Pending, nothing, waits, Ledger, heads, noted, resolved, entered}
+use Rattle.history.specs.Ledger.{Head, Pending, nothing, waits, Ledger, syncHeads, applyHeads, recoverHeads, noted, resolved, entered}
 
 abbrev pub EvenPending : Pending → Pending → Type 0
 EvenPending nothing nothing = Unit {0}
@@ -72,9 +72,9 @@ entered-even (put a b) st l m e = e
 entered-even (get a) st l m e = e
 entered-even commit st l m e = e
 entered-even abandon st l m e = e
-entered-even sync st l m e = noted-even (heads sync st) (dispatch sync st .orders) l m e
-entered-even apply st l m e = noted-even (heads apply st) (dispatch apply st .orders) l m e
-entered-even recover st l m e = noted-even (heads recover st) (dispatch recover st .orders) l m e
+entered-even sync st l m e = noted-even (syncHeads st) (dispatch sync st .orders) l m e
+entered-even apply st l m e = noted-even (applyHeads st) (dispatch apply st .orders) l m e
+entered-even recover st l m e = noted-even (recoverHeads st) (dispatch recover st .orders) l m e
 entered-even (cut ms) st l m e = go (eqb (dispatch (cut ms) st .answer) 0)
   where
     go : (t : Bool) → Even (cond t (record { written = resolved ms (l .pending) (l .written); pending = nothing }) l) (cond t (record { written = resolved ms (m .pending) (m .written); pending = nothing }) m)

@@ -26,7 +26,7 @@ use Rattle.store.specs.Simple.{powerCall, finished}
 use Rattle.history.specs.Call.{Call, requestOf, power, put, get, commit, abandon, sync, apply, recover, cut}
 use Rattle.history.specs.Plain.{Plain, Done, refusal, served, plainStep, plainSync, plainApply, plainRecover}
 use Rattle.history.specs.Dispatch.{dispatch}
-use Rattle.history.specs.Ledger.{Ledger, heads, noted, entered, taken, logFound, sameLog}
+use Rattle.history.specs.Ledger.{Ledger, recoverHeads, noted, entered, taken, logFound, sameLog}
 use Rattle.history.specs.History.{World, begun, next, after, storeNext, ledgerNext, foundWritten, acceptedCut, exception}
 use Rattle.history.specs.Statements.{noCut, Taken, ReadBack, WrittenSummed}
 use Rattle.history.proofs.Disks.{slotE, logD, entries-disk, WholeCard, FallCard}
@@ -242,9 +242,9 @@ module _ (w : World) (m : WorldSim w) (h : dispatch recover (w .store) .answer �
       ledgerNext recover w .written
       ≡ cond (sameLog (logFound (w .store)) (w .ledger .written)) (w .ledger .written) (take (headerOf (w .store .settled) .previous) (w .ledger .written))
 
-  noted-orders : (k : ℕ) → plainRecover (w .plain) .orders ≡ k → ledgerNext recover w ≡ noted (heads recover (w .store)) k (w .ledger)
+  noted-orders : (k : ℕ) → plainRecover (w .plain) .orders ≡ k → ledgerNext recover w ≡ noted (recoverHeads (w .store)) k (w .ledger)
   unfolding entered
-  noted-orders k e = ap (λ (x : ℕ). noted (heads recover (w .store)) x (w .ledger)) (orders-are ∙ e)
+  noted-orders k e = ap (λ (x : ℕ). noted (recoverHeads (w .store)) x (w .ledger)) (orders-are ∙ e)
 
   taken-whole : w .plain .F ≡ false → WholeCard (w .store .rec .blocks) (blockAt (w .store .settled)) (w .ledger .written) (w .plain .S) (w .plain .n) → Chosen
   unfolding logFound
@@ -253,11 +253,11 @@ module _ (w : World) (m : WorldSim w) (h : dispatch recover (w .store) .answer �
       let found : logFound (w .store) ≡ w .ledger .written =
       ap (λ (x : Header). entries (w .store .settled) (x .count)) hd ∙ entries-disk (w .store .settled) (w .plain .n) ∙ sym (r .same) in
       let same : sameLog (logFound (w .store)) (w .ledger .written) ≡ true = ap (λ (x : List Entry). sameLog x (w .ledger .written)) found ∙ logs-same (w .ledger .written) in
-      ap (λ (l : Ledger). l .written) (noted-orders 0 (ap (λ (o : Done). o .orders) (recover-whole (w .plain) f)) ∙ noted-none (heads recover (w .store)) (w .ledger))
+      ap (λ (l : Ledger). l .written) (noted-orders 0 (ap (λ (o : Done). o .orders) (recover-whole (w .plain) f)) ∙ noted-none (recoverHeads (w .store)) (w .ledger))
       ∙ sym (ap (λ (t : Bool). cond t (w .ledger .written) (take (headerOf (w .store .settled) .previous) (w .ledger .written))) same)
 
-  noted-two : noted (heads recover (w .store)) 2 (w .ledger) .written ≡ taken (w .store)
-  unfolding heads noted
+  noted-two : noted (recoverHeads (w .store)) 2 (w .ledger) .written ≡ taken (w .store)
+  unfolding recoverHeads noted
   noted-two = refl
 
   taken-fall : w .plain .F ≡ true → 2 ≤ w .plain .power → FallCard (w .store .rec .blocks) (blockAt (w .store .settled)) (w .ledger .written) (w .plain .S) (w .plain .n) → Chosen

@@ -30,7 +30,7 @@ use Rattle.store.specs.Saves.{carried, recoverCall}
 use Rattle.store.proofs.Causes.{SizeFacts, sizes-facts, Passes}
 use Rattle.history.specs.Call.{get, recover}
 use Rattle.history.specs.Plain.{Plain, ofRecover, refusal, plainStep, plainRecover, headerKept, unchanged}
-use Rattle.history.specs.Ledger.{Ledger, nothing, waits, heads, noted, entered, taken, resolved}
+use Rattle.history.specs.Ledger.{Ledger, nothing, waits, recoverHeads, noted, entered, taken, resolved}
 use Rattle.history.specs.History.{World, foundWritten}
 use Rattle.history.proofs.Disks.{logD, entries-disk, WholeCard, FallCard}
 use Rattle.history.proofs.Batches.{Left, no-queue, fallback-short, fallback-done}
@@ -111,7 +111,7 @@ module _ (w : World) (m : WorldSim w) (h : refusal recover (w .plain) ≡ 0) (o 
       (record {
         call = D;
         plain = plain ∙ recover-whole (w .plain) f;
-        ledger = ap (λ (x : Outcome). noted (heads recover (w .store)) (x .orders) (w .ledger)) D ∙ noted-none (heads recover (w .store)) (w .ledger);
+        ledger = ap (λ (x : Outcome). noted (recoverHeads (w .store)) (x .orders) (w .ledger)) D ∙ noted-none (recoverHeads (w .store)) (w .ledger);
         left = record { settled = refl; waits = no-queue (cardIn (w .store)) none-waits; count = none-waits; power = refl; room = refl };
         size = refl;
         mode = refl;
@@ -161,12 +161,12 @@ module _ (w : World) (m : WorldSim w) (h : refusal recover (w .plain) ≡ 0) (o 
     room : entryBytes ≤ length (cardIn (w .store) .waiting)
     room = omega (arith, sz .waiting)
 
-    note-done : noted (heads recover (w .store)) 2 (w .ledger) ≡ record { written = logD (blockAt s) n; pending = nothing }
-    unfolding heads noted
+    note-done : noted (recoverHeads (w .store)) 2 (w .ledger) ≡ record { written = logD (blockAt s) n; pending = nothing }
+    unfolding recoverHeads noted
     note-done = ap (λ (x : List Entry). record { written = x; pending = nothing }) list
 
-    note-written : noted (heads recover (w .store)) 1 (w .ledger) ≡ record { written = w .ledger .written; pending = waits 0 (logD (blockAt s) n) }
-    unfolding heads noted
+    note-written : noted (recoverHeads (w .store)) 1 (w .ledger) ≡ record { written = w .ledger .written; pending = waits 0 (logD (blockAt s) n) }
+    unfolding recoverHeads noted
     note-written = ap (λ (x : List Entry). record { written = w .ledger .written; pending = waits 0 x }) list
 
     -- with power for the header and the flush
@@ -190,7 +190,7 @@ module _ (w : World) (m : WorldSim w) (h : refusal recover (w .plain) ≡ 0) (o 
         (record {
           call = D;
           plain = plain ∙ recover-fallback (w .plain) f (omega (arith, b .power));
-          ledger = ap (λ (x : Outcome). noted (heads recover (w .store)) (x .orders) (w .ledger)) D ∙ note-done;
+          ledger = ap (λ (x : Outcome). noted (recoverHeads (w .store)) (x .orders) (w .ledger)) D ∙ note-done;
           left = l;
           size = length-settle (fallHeader N s n ∷ []) s;
           mode = refl;
@@ -220,7 +220,7 @@ module _ (w : World) (m : WorldSim w) (h : refusal recover (w .plain) ≡ 0) (o 
     short : (k : ℕ) (q : List Entry) (l : Ledger) → w .store .rec .power ≡ k → k < 2
         → Left (cardIn (w .store)) (run (fallbackOrders (w .store .rec .blocks) n sum) (cardIn (w .store))) s q 0 → length q ≡ k
         → Rattle.card.proofs.All.All (λ e. e .address < w .store .rec .blocks) q
-        → noted (heads recover (w .store)) k (w .ledger) ≡ l
+        → noted (recoverHeads (w .store)) k (w .ledger) ≡ l
         → ((ms : List ℕ) → length ms ≡ k → CutLeads ms (downState (run (fallbackOrders (w .store .rec .blocks) n sum) (cardIn (w .store))) (w .store .rec) (w .store)) l
         (record { N = w .plain .N; S = w .plain .S; G = w .plain .G; T = w .plain .T; n = w .plain .n; mode = 2; power = 0; waiting = k; short = ofRecover k; F = w .plain .F }))
         → StepOK recover w
@@ -236,7 +236,7 @@ module _ (w : World) (m : WorldSim w) (h : refusal recover (w .plain) ≡ 0) (o 
           call = D;
           plain = plain ∙ recover-short (w .plain) f (omega arith)
               ∙ (λ i. record { answer = 4; orders = w .plain .power; plain = record { N = w .plain .N; S = w .plain .S; G = w .plain .G; T = w .plain .T; n = w .plain .n; mode = 2; power = 0; waiting = P i; short = ofRecover (P i); F = w .plain .F } });
-          ledger = ap (λ (x : Outcome). noted (heads recover (w .store)) (x .orders) (w .ledger)) D ∙ ap (λ (x : ℕ). noted (heads recover (w .store)) x (w .ledger)) p ∙ note;
+          ledger = ap (λ (x : Outcome). noted (recoverHeads (w .store)) (x .orders) (w .ledger)) D ∙ ap (λ (x : ℕ). noted (recoverHeads (w .store)) x (w .ledger)) p ∙ note;
           left = left;
           size = refl;
           few = omega arith;
@@ -262,7 +262,7 @@ module _ (w : World) (m : WorldSim w) (h : refusal recover (w .plain) ≡ 0) (o 
             let l = fallback-short (cardIn (w .store)) (w .store .rec .blocks) n sum none-waits room (omega arith) in
             let left : Left (cardIn (w .store)) (run (fallbackOrders (w .store .rec .blocks) n sum) (cardIn (w .store))) s [] 0 =
             record { settled = l .settled; waits = l .waits ∙ ap (λ (k : ℕ). take k (fallHeader (w .store .rec .blocks) s n ∷ [])) z; count = l .count ∙ ap (λ (k : ℕ). length (take k (fallHeader (w .store .rec .blocks) s n ∷ []))) z; power = l .power; room = l .room } in
-            short 0 [] (w .ledger) z (omega arith) left refl tt (noted-none (heads recover (w .store)) (w .ledger))
+            short 0 [] (w .ledger) z (omega arith) left refl tt (noted-none (recoverHeads (w .store)) (w .ledger))
             (λ ms y.
             rw (o .pending)
             (leads-still _ _ (unchanged n (w .plain .F)) (choose-recover-none n (length (w .plain .G)) (w .plain .F) (headerKept ms 0) _) refl

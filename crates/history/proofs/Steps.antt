@@ -25,7 +25,7 @@ use Rattle.store.proofs.Calls.{call-refused}
 use Rattle.history.specs.Call.{Call, requestOf, power, put, get, commit, abandon, sync, apply, recover, cut}
 use Rattle.history.specs.Plain.{Plain, Done, refusal, served, plainStep, plainGet}
 use Rattle.history.specs.Dispatch.{dispatch, blockOf}
-use Rattle.history.specs.Ledger.{Ledger, Head, heads, noted, entered}
+use Rattle.history.specs.Ledger.{Ledger, Head, syncHeads, applyHeads, recoverHeads, noted, entered}
 use Rattle.history.specs.History.{World, storeNext, ledgerNext, foundWritten, exception}
 use Rattle.history.specs.Statements.{Agrees}
 use Rattle.history.proofs.Disks.{logD, entries-disk, WholeCard, FallCard, ClosedCard}
@@ -154,9 +154,9 @@ entered-refused (put a b) st l h = refl
 entered-refused (get a) st l h = refl
 entered-refused commit st l h = refl
 entered-refused abandon st l h = refl
-entered-refused sync st l h = ap (λ (o : Outcome). noted (heads sync st) (o .orders) l) (dispatch-refused sync st h) ∙ noted-none (heads sync st) l
-entered-refused apply st l h = ap (λ (o : Outcome). noted (heads apply st) (o .orders) l) (dispatch-refused apply st h) ∙ noted-none (heads apply st) l
-entered-refused recover st l h = ap (λ (o : Outcome). noted (heads recover st) (o .orders) l) (dispatch-refused recover st h) ∙ noted-none (heads recover st) l
+entered-refused sync st l h = ap (λ (o : Outcome). noted (syncHeads st) (o .orders) l) (dispatch-refused sync st h) ∙ noted-none (syncHeads st) l
+entered-refused apply st l h = ap (λ (o : Outcome). noted (applyHeads st) (o .orders) l) (dispatch-refused apply st h) ∙ noted-none (applyHeads st) l
+entered-refused recover st l h = ap (λ (o : Outcome). noted (recoverHeads st) (o .orders) l) (dispatch-refused recover st h) ∙ noted-none (recoverHeads st) l
 entered-refused (cut ms) st l h = rw (dispatch-refused (cut ms) st h, ne-eqb (cause (Request.cut ms) st) 0 h)
 
 pub plain-refused : (c : Call) (found : Bool) (d : Plain) → refusal c d ≢ 0 → plainStep c found d ≡ record { answer = refusal c d; orders = 0; plain = d }

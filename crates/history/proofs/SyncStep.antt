@@ -16,7 +16,7 @@ use Rattle.card.specs.Disk.{Disk, overlay}
 use Rattle.card.specs.Card.{Card, Order, run, cut, settle, blockAt, places}
 use Rattle.card.proofs.All.{All, all-at}
 use Rattle.card.proofs.Runs.{run-nil, run-append, length-settle}
-use Rattle.journal.specs.Layout.{slots}
+use Rattle.journal.specs.Layout.{headerAt, slots}
 use Rattle.journal.specs.Log.{headerOf, entries, sumOf}
 use Rattle.journal.specs.Orders.{appendOrders, checkpointOrders, syncOrders}
 use Rattle.journal.proofs.Logs.{sumOf-nil}
@@ -31,7 +31,7 @@ use Rattle.store.specs.Saves.{carried, syncCall, groupOf, applies, synced, inne
 use Rattle.history.specs.Call.{get, sync}
 use Rattle.history.specs.Plain.{Plain, ofSync, refusal, plainStep, plainSync, cutShort, syncTakes, syncWaits, applyWaits, applyVerdict, ownVerdict, headerKept, unchanged}
 use Rattle.history.specs.Plain as Plain
-use Rattle.history.specs.Ledger.{Ledger, Head, nothing, waits, heads, noted, entered, applyHead, standing, inner, resolved, sameLog}
+use Rattle.history.specs.Ledger.{Ledger, Head, nothing, waits, syncHeads, noted, entered, applyHead, standing, inner, resolved, sameLog}
 use Rattle.history.specs.History.{World, ledgerNext, foundWritten}
 use Rattle.history.specs.Statements.{Logged, allOnes}
 use Rattle.history.proofs.Disks.{logD, WholeCard}
@@ -176,7 +176,7 @@ module _ (w : World) (m : WorldSim w) (h : refusal sync (w .plain) ≡ 0) (o : O
       ∙ carried-done [] (w .store .rec) _ (w .store) (omega arith)
       ∙ rw (run-nil (cardIn (w .store))) in
       nothing-step sync w m D (plain ∙ sync-nothing (w .plain) (plain-m ∙ zero-G))
-      (ap (λ (x : Outcome). noted (heads sync (w .store)) (x .orders) (w .ledger)) D ∙ noted-none (heads sync (w .store)) (w .ledger)) sync-no-get
+      (ap (λ (x : Outcome). noted (syncHeads (w .store)) (x .orders) (w .ledger)) D ∙ noted-none (syncHeads (w .store)) (w .ledger)) sync-no-get
 
   module _ (z : w .store .rec .grouped ≢ 0) where
     some-G : length G ≢ 0
@@ -225,8 +225,8 @@ module _ (w : World) (m : WorldSim w) (h : refusal sync (w .plain) ≡ 0) (o : O
       own : Head
       own = record { at = 0 + (w .store .rec .grouped + 1); place = w .store .rec .grouped + 1; list = entries (w .store .settled) n ++ G }
 
-      calm-heads : heads sync (w .store) ≡ own ∷ []
-      unfolding heads own
+      calm-heads : syncHeads (w .store) ≡ own ∷ []
+      unfolding syncHeads own
       calm-heads = rw calm
 
       -- with power for all of it
@@ -251,7 +251,7 @@ module _ (w : World) (m : WorldSim w) (h : refusal sync (w .plain) ≡ 0) (o : O
             call = D;
             plain = plain ∙ sync-finished (w .plain) plain-some q ∙ ap (λ (x : ℕ). record { answer = 0; orders = x; plain = saved (w .plain) }) e;
             ledger =
-                ap (λ (x : Outcome). noted (heads sync (w .store)) (x .orders) (w .ledger)) D
+                ap (λ (x : Outcome). noted (syncHeads (w .store)) (x .orders) (w .ledger)) D
                 ∙ ap (λ (x : List Head). noted x (length G + 3) (w .ledger)) calm-heads
                 ∙ note-past own [] (length G + 3) (w .ledger) (omega (arith, length-G))
                 ∙ noted-end (length G + 3) _
@@ -305,7 +305,7 @@ module _ (w : World) (m : WorldSim w) (h : refusal sync (w .plain) ≡ 0) (o : O
           (record {
             call = D;
             plain = plain ∙ sync-short (w .plain) plain-some q;
-            ledger = ap (λ (x : Outcome). noted (heads sync (w .store)) (x .orders) (w .ledger)) D ∙ ap (λ (x : List Head). noted x (w .store .rec .power) (w .ledger)) calm-heads ∙ note;
+            ledger = ap (λ (x : Outcome). noted (syncHeads (w .store)) (x .orders) (w .ledger)) D ∙ ap (λ (x : List Head). noted x (w .store .rec .power) (w .ledger)) calm-heads ∙ note;
             left = short-left base (omega arith);
             size = refl;
             few = omega (arith, few, fits);
@@ -381,15 +381,15 @@ module _ (w : World) (m : WorldSim w) (h : refusal sync (w .plain) ≡ 0) (o : O
       own-anew : Head
       own-anew = record { at = n + 3 + (w .store .rec .grouped + 1); place = w .store .rec .grouped + 1; list = [] ++ G }
 
-      apply-heads : heads sync (w .store) ≡ applyHead (w .store) ∷ own-anew ∷ []
-      unfolding heads own-anew
+      apply-heads : syncHeads (w .store) ≡ applyHead (w .store) ∷ own-anew ∷ []
+      unfolding syncHeads own-anew
       apply-heads = rw applying
 
       note-call : (k : ℕ) (D : Outcome) → syncCall (w .store) ≡ D → D .orders ≡ k → ledgerNext sync w ≡ noted (applyHead (w .store) ∷ own-anew ∷ []) k (w .ledger)
       unfolding entered
       note-call k D e f =
-          ap (λ (x : Outcome). noted (heads sync (w .store)) (x .orders) (w .ledger)) e
-          ∙ ap (λ (x : ℕ). noted (heads sync (w .store)) x (w .ledger)) f
+          ap (λ (x : Outcome). noted (syncHeads (w .store)) (x .orders) (w .ledger)) e
+          ∙ ap (λ (x : ℕ). noted (syncHeads (w .store)) x (w .ledger)) f
           ∙ ap (λ (x : List Head). noted x k (w .ledger)) apply-heads
 
       takes : syncTakes (w .plain .n) (length (w .plain .G)) ≡ n + 3 + (length G + 3)
@@ -596,7 +596,7 @@ module _ (w : World) (m : WorldSim w) (h : refusal sync (w .plain) ≡ 0) (o : O
         let e : standing (w .store) ≡ log = rw (calm f) log-is in
         let q = done-logged (base f) (standing (w .store)) e in
         let s : syncCall (w .store) .state .settled ≡ settle (W f) (w .store .settled) = ap (λ (x : Outcome). x .state .settled) (calm-whole f p) ∙ done-left (base f) p .settled in
-        record { head = ap headerOf s ∙ q .0; list = ap (λ (x : List ℕ). entries x (length (standing (w .store) ++ G))) s ∙ q .1 }
+        record { head = ap (λ (x : List ℕ). blockAt x headerAt) s ∙ q .0; list = ap (λ (x : List ℕ). entries x (length (standing (w .store) ++ G))) s ∙ q .1 }
 
     anew-logged : (f : slots < n + length G) (g : n + 3 ≤ w .store .rec .power) → length G + 3 ≤ w .store .rec .power - (n + 3) → Logged (w .store) (syncCall (w .store) .state)
     anew-logged f g p =
@@ -604,7 +604,7 @@ module _ (w : World) (m : WorldSim w) (h : refusal sync (w .plain) ≡ 0) (o : O
         let q = done-logged (base-anew f g) (standing (w .store)) e in
         let s : syncCall (w .store) .state .settled ≡ settle (W₂ f g) (Facts.emptied (w .store) (w .ledger) (w .plain) b o) =
         ap (λ (x : Outcome). x .state .settled) (anew-whole f g p) ∙ ap (λ (x : Card). x .settled) (run-is f g) ∙ done-left (base-anew f g) p .settled in
-        record { head = ap headerOf s ∙ q .0; list = ap (λ (x : List ℕ). entries x (length (standing (w .store) ++ G))) s ∙ q .1 }
+        record { head = ap (λ (x : List ℕ). blockAt x headerAt) s ∙ q .0; list = ap (λ (x : List ℕ). entries x (length (standing (w .store) ++ G))) s ∙ q .1 }
 
     pub logged : syncCall (w .store) .answer ≡ 0 → Logged (w .store) (syncCall (w .store) .state)
     logged y = go (decLe (n + length G) slots)
@@ -641,7 +641,7 @@ module _ (w : World) (m : WorldSim w) (h : refusal sync (w .plain) ≡ 0) (o : O
     calm-found f p ms l a =
         let D = calm-gone f (omega arith) in
         let L : ledgerNext sync w ≡ record { written = w .ledger .written; pending = waits (length G + 1) (log ++ G) } =
-        ap (λ (x : Outcome). noted (heads sync (w .store)) (x .orders) (w .ledger)) D
+        ap (λ (x : Outcome). noted (syncHeads (w .store)) (x .orders) (w .ledger)) D
         ∙ ap (λ (x : List Head). noted x (w .store .rec .power) (w .ledger)) (calm-heads f)
         ∙ note-at (own f) [] (w .store .rec .power) (w .ledger) (omega (arith, length-G))
         ∙ (λ i. record { written = w .ledger .written; pending = waits (sym length-G i + 1) (log-is i ++ G) }) in

@@ -19,7 +19,7 @@ use Rattle.store.specs.State.{Outcome, cardIn}
 use Rattle.store.specs.Saves.{groupOf}
 use Rattle.history.specs.Call.{sync}
 use Rattle.history.specs.Plain.{Plain, refusal, headerKept}
-use Rattle.history.specs.Ledger.{waits, heads, noted, entered, applyHead, ownHead, standing, inner, resolved, sameLog}
+use Rattle.history.specs.Ledger.{waits, syncHeads, noted, entered, applyHead, ownHead, standing, inner, resolved, sameLog}
 use Rattle.history.specs.History.{World, storeNext, ledgerNext}
 use Rattle.history.specs.Statements.{allOnes}
 use Rattle.history.specs.Worked.{at40}
@@ -116,9 +116,9 @@ module _ (w : World) (m : WorldSim w) (S : Disk) (b : List ℕ) (n p : ℕ) (few
       ∙ ap (logD (blockAt s)) logged-is
 
   halted-ledger : p ≡ 3 → ledgerNext sync w ≡ record { written = w .ledger .written; pending = waits 2 (logD (blockAt s) n ++ (at40 b ∷ [])) }
-  unfolding entered heads
+  unfolding entered syncHeads
   halted-ledger e =
-      ap (λ (x : Outcome). noted (heads sync (w .store)) (x .orders) (w .ledger)) (calm-gone w m served o some fits (gone e))
+      ap (λ (x : Outcome). noted (syncHeads (w .store)) (x .orders) (w .ledger)) (calm-gone w m served o some fits (gone e))
       ∙ ap (λ (t : Bool). noted (cond t (applyHead (w .store) ∷ ownHead (w .store) ∷ []) (ownHead (w .store) ∷ [])) (w .store .rec .power) (w .ledger))
       (calm w m served o some fits)
       ∙ note-at (ownHead (w .store)) [] (w .store .rec .power) (w .ledger) (omega (arith, power-is, no-inner, grouped-is))

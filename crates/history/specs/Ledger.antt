@@ -41,17 +41,15 @@ ownHead st = record { at = inner st + (st .rec .grouped + 1); place = st .rec .g
 abbrev pub taken : State → List Entry
 taken st = entries (st .settled) (takenCount (choose (st .rec .blocks) (st .settled)))
 
--- the headers that a call writes if all its orders happen, in turn
-unfoldable pub heads : Call → State → List Head
-heads (power k) st = []
-heads (put a b) st = []
-heads (get a) st = []
-heads commit st = []
-heads abandon st = []
-heads sync st = cond (applies st) (applyHead st ∷ ownHead st ∷ []) (ownHead st ∷ [])
-heads apply st = applyHead st ∷ []
-heads recover st = record { at = 0; place = 0; list = taken st } ∷ []
-heads (cut ms) st = []
+-- the headers that a sync, an apply and a recover write if all their orders happen, in turn
+unfoldable pub syncHeads : State → List Head
+syncHeads st = cond (applies st) (applyHead st ∷ ownHead st ∷ []) (ownHead st ∷ [])
+
+unfoldable pub applyHeads : State → List Head
+applyHeads st = applyHead st ∷ []
+
+unfoldable pub recoverHeads : State → List Head
+recoverHeads st = record { at = 0; place = 0; list = taken st } ∷ []
 
 -- a header that waits: its place and its list
 pub data Pending : Type 0 where
@@ -87,9 +85,9 @@ entered (put a b) st l = l
 entered (get a) st l = l
 entered commit st l = l
 entered abandon st l = l
-entered sync st l = noted (heads sync st) (dispatch sync st .orders) l
-entered apply st l = noted (heads apply st) (dispatch apply st .orders) l
-entered recover st l = noted (heads recover st) (dispatch recover st .orders) l
+entered sync st l = noted (syncHeads st) (dispatch sync st .orders) l
+entered apply st l = noted (applyHeads st) (dispatch apply st .orders) l
+entered recover st l = noted (recoverHeads st) (dispatch recover st .orders) l
 entered (cut ms) st l =
     cond (eqb (dispatch (cut ms) st .answer) 0) (record { written = resolved ms (l .pending) (l .written); pending = nothing }) l
 

@@ -10,9 +10,9 @@ use lib.ListN.{length, getD, take}
 use Rattle.cells.specs.Entry.{Entry}
 use Rattle.fnv.specs.Fnv.{start}
 use Rattle.card.specs.Disk.{Disk, overlay}
-use Rattle.card.specs.Card.{blocksIn}
-use Rattle.journal.specs.Layout.{isData}
-use Rattle.journal.specs.Header.{header}
+use Rattle.card.specs.Card.{blocksIn, blockAt}
+use Rattle.journal.specs.Layout.{headerAt, isData}
+use Rattle.journal.specs.Header.{encode, header}
 use Rattle.journal.specs.Log.{headerOf, entries, sumOf}
 use Rattle.store.specs.State.{State, opened}
 use Rattle.store.specs.Causes.{wrongSizes, wrongBlock, wrongRecord}
@@ -90,10 +90,11 @@ WrittenSummed =
     → acceptedCut (cut ms) (after cs (begun st)) ≡ true
     → Summed (next (cut ms) (after cs (begun st)))
 
--- what a finished sync of a nonempty group leaves on the card is the checksummed log: p and its sum, n and its sum, and the log
--- before it (empty after an inner apply), then the group
+-- what a finished sync of a nonempty group leaves on the card is the checksummed log: block 0 is the encoding of p and its sum, n and its
+-- sum, zeros included, and the entries are the log before it (empty after an inner apply), then the group
 pub record Logged (s t : State) : Type 0 where
-  pub head : headerOf (t .settled) ≡ header (s .rec .blocks) (length (standing s)) (sumOf start (standing s)) (length (standing s ++ groupOf s)) (sumOf start (standing s ++ groupOf s))
+  pub head : blockAt (t .settled) headerAt
+      ≡ encode (header (s .rec .blocks) (length (standing s)) (sumOf start (standing s)) (length (standing s ++ groupOf s)) (sumOf start (standing s ++ groupOf s)))
   pub list : entries (t .settled) (length (standing s ++ groupOf s)) ≡ standing s ++ groupOf s
 
 abbrev pub Written : Type 0
