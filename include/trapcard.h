@@ -20,8 +20,8 @@
  *   4. trapcard_recover. After 0 the record is open. After TRAPCARD_ERR_FOREIGN or TRAPCARD_ERR_UNSOUND this is no card of N
  *      blocks that a format made and these calls alone wrote since; trapcard_format makes it one, and forgets what it held.
  *
- * "Checksum collisions apart": unless at a power loss before, the log found on the card was another list than the log written,
- * as long and with the same sum.
+ * "Checksum collisions apart" says: unless, at a power loss before, the log found on the card was another list than the log
+ * written, as long and with the same sum.
  */
 #ifndef TRAPCARD_H
 #define TRAPCARD_H
@@ -46,7 +46,7 @@ extern "C" {
 #define TRAPCARD_SLOTS 32u
 #define TRAPCARD_PLACES 34u
 
-/* Where the record's numbers start, and what the first, the mode, can be. The sum of an empty log. */
+/* The byte of the record where each of its numbers starts. */
 #define TRAPCARD_RECORD_MODE 0u
 #define TRAPCARD_RECORD_BLOCKS 4u /* N */
 #define TRAPCARD_RECORD_OPEN 8u
@@ -55,6 +55,8 @@ extern "C" {
 #define TRAPCARD_RECORD_WAITING 20u
 #define TRAPCARD_RECORD_POWER 24u
 #define TRAPCARD_RECORD_SUM 28u
+
+/* Modes, the record's first number. The sum of an empty log, its last. */
 #define TRAPCARD_MODE_CLOSED 0u
 #define TRAPCARD_MODE_OPEN 1u
 #define TRAPCARD_MODE_DOWN 2u

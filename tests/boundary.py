@@ -1,4 +1,4 @@
-"""Holds include/trapcard.h to what stands behind it: the prototypes to the exported signatures of crates/firmware/src, and every
+"""Holds include/trapcard.h to what stands behind it: the prototypes to the exported signatures of crates/firmware/src, and each
 constant, as a C program prints it, to the number that the specifications have. Prints each difference."""
 import re
 import subprocess
@@ -120,7 +120,8 @@ def home(crate, name, word):
     """The file that defines a word, as the file given sees it: itself, or one that it uses."""
     if re.search(r"^(?:abbrev|unfoldable) pub %s :" % re.escape(word), spec(crate, name), re.M):
         return crate, name
-    for other, module, words in re.findall(r"^use Rattle·(\w+?)(?:·specs)?\.specs\.([\w.]+)\.\{([^}]*)\}", spec(crate, name), re.M):
+    uses = re.findall(r"^use Rattle·(\w+?)(?:·specs)?\.specs\.([\w.]+)\.\{([^}]*)\}", spec(crate, name), re.M)
+    for other, module, words in uses:
         if word in re.split(r"[,\s]+", words):
             return other, module
     unread("%s/specs/%s: where does `%s` come from?" % (crate, name, word))
@@ -205,7 +206,7 @@ def causes():
             unread("the table of causes: %d rows test `%s`" % (len(named), words))
         found[macro] = named[0]
     if sorted(found.values()) != sorted(n for n, _ in table):
-        unread("the table of causes: a row has no constant of its own")
+        raise SystemExit("boundary: a row of the table of causes has no constant of its own")
     return found
 
 
