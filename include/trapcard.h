@@ -1,8 +1,8 @@
 /* The card store of the moth trap.
  *
  * Every function returns the number of document 01: 0 for done, else the cause. A refused call leaves every byte as it was,
- * but for TRAPCARD_POWER when the power ended in the call itself: then the orders carried out have happened, open and group
- * stand, and the record is down until a cut and a recover.
+ * but for TRAPCARD_ERR_POWER when the power ended in the call itself: then the orders carried out have happened, open and
+ * group stand, and the record is down until a cut and a recover.
  *
  * A buffer is a pointer and a length in bytes, of any alignment. A buffer that is const here is never written. The proofs
  * assume of the caller: pointers that are not null, with true lengths, also where a length is 0; buffers that do not overlap
@@ -10,7 +10,18 @@
  * Out-parameters are set on every return, to 0 where there is nothing to say.
  *
  * The record is TRAPCARD_RECORD bytes: mode, N, open count, group count, log count, waiting count, power count, 4 bytes each,
- * then the log's sum, 8 bytes; all little-endian. Another record length is TRAPCARD_SIZE in every call that takes one.
+ * then the log's sum, 8 bytes; all little-endian. Another record length is TRAPCARD_ERR_SIZE in every call that takes one.
+ *
+ * Boot, the first time and after every power loss:
+ *   1. settled is the card as it is found; waiting and work have their lengths and any bytes.
+ *   2. trapcard_closed_record makes the record: closed, N set, counts 0, the empty list's sum. A cut leaves the same one, but
+ *      for the power count, which it keeps.
+ *   3. trapcard_power, before any orders: the record just made has power for none.
+ *   4. trapcard_recover. After 0 the record is open. After TRAPCARD_ERR_FOREIGN or TRAPCARD_ERR_UNSOUND this is no card of N
+ *      blocks that a format made and these calls alone wrote since; trapcard_format makes it one, and forgets what it held.
+ *
+ * "Checksum collisions apart" says: unless, at a power loss before, the log found on the card was another list than the log
+ * written, as long and with the same sum.
  */
 #ifndef TRAPCARD_H
 #define TRAPCARD_H
@@ -30,27 +41,39 @@ extern "C" {
 #define TRAPCARD_LEAST 35u
 #define TRAPCARD_MOST 65536u
 
-/* The first data block; the last is N - 1. The most entries that open, group and log hold. */
+/* The first data block; the last is N - 1. The most entries that open, group and log hold, and the most waiting writes. */
 #define TRAPCARD_FIRST 34u
 #define TRAPCARD_SLOTS 32u
+#define TRAPCARD_PLACES 34u
 
-/* Modes, the record's first number. */
-#define TRAPCARD_CLOSED 0u
-#define TRAPCARD_OPEN 1u
-#define TRAPCARD_DOWN 2u
+/* The byte of the record where each of its numbers starts. */
+#define TRAPCARD_RECORD_MODE 0u
+#define TRAPCARD_RECORD_BLOCKS 4u /* N */
+#define TRAPCARD_RECORD_OPEN 8u
+#define TRAPCARD_RECORD_GROUP 12u
+#define TRAPCARD_RECORD_LOG 16u
+#define TRAPCARD_RECORD_WAITING 20u
+#define TRAPCARD_RECORD_POWER 24u
+#define TRAPCARD_RECORD_SUM 28u
 
-/* The numbers of document 01. */
-#define TRAPCARD_DONE 0u      /* done */
-#define TRAPCARD_SIZE 1u      /* a length is wrong, or N out of bounds */
-#define TRAPCARD_STATE 2u     /* the record does not fit the bytes */
-#define TRAPCARD_SHUT 3u      /* mode closed */
-#define TRAPCARD_POWER 4u     /* mode down, or power gone in the call */
-#define TRAPCARD_OPENED 5u    /* recover when open */
-#define TRAPCARD_ADDRESS 6u   /* not a data block */
-#define TRAPCARD_FULL 7u      /* over 32 entries in open or group */
-#define TRAPCARD_FOREIGN 8u   /* the header is not this card's */
-#define TRAPCARD_UNSOUND 9u   /* neither list is good */
-#define TRAPCARD_MARKS 10u    /* marks not as many as waiting, or a mark over 1 */
+/* Modes, the record's first number. The sum of an empty log, its last. */
+#define TRAPCARD_MODE_CLOSED 0u
+#define TRAPCARD_MODE_OPEN 1u
+#define TRAPCARD_MODE_DOWN 2u
+#define TRAPCARD_EMPTY_SUM UINT64_C(14695981039346656037)
+
+/* What a call returns: done, or the cause by its number in document 01. */
+#define TRAPCARD_DONE 0u
+#define TRAPCARD_ERR_SIZE 1u     /* a length is wrong, or N out of bounds */
+#define TRAPCARD_ERR_STATE 2u    /* the record does not fit the bytes */
+#define TRAPCARD_ERR_CLOSED 3u   /* mode closed */
+#define TRAPCARD_ERR_POWER 4u    /* mode down, or power gone in the call */
+#define TRAPCARD_ERR_OPEN 5u     /* recover when open */
+#define TRAPCARD_ERR_ADDRESS 6u  /* not a data block */
+#define TRAPCARD_ERR_FULL 7u     /* over 32 entries in open or group */
+#define TRAPCARD_ERR_FOREIGN 8u  /* the header is not this card's */
+#define TRAPCARD_ERR_UNSOUND 9u  /* neither list is good */
+#define TRAPCARD_ERR_MARKS 10u   /* marks not as many as waiting, or a mark over 1 */
 
 /* The buffer in which trapcard_get found its block. */
 #define TRAPCARD_NOWHERE 0u
@@ -89,18 +112,19 @@ uint32_t trapcard_abandon(uint8_t *record, size_t record_len, const uint8_t *set
                           const uint8_t *waiting, size_t waiting_len, const uint8_t *work, size_t work_len);
 
 /* Saves the group as one: after 0 it is on the card, and every later recovery finds it. Returns 0 or 1 to 4. If power ends in
- * the call, or at any moment before it returns, the next recovery finds all of the group or none of it. *orders: the orders
- * carried out. */
+ * the call, or at any moment before it returns, the next recovery finds all of the group or none of it. Both hold checksum
+ * collisions apart. *orders: the orders carried out. */
 uint32_t trapcard_sync(uint8_t *record, size_t record_len, uint8_t *settled, size_t settled_len, uint8_t *waiting,
                        size_t waiting_len, const uint8_t *work, size_t work_len, uint32_t *orders);
 
 /* Writes the log home and empties it. Returns 0 or 1 to 4. The disk that a recovery finds is the same before, after and
- * wherever power ends in the call. *orders: the orders carried out. */
+ * wherever power ends in the call, checksum collisions apart. *orders: the orders carried out. */
 uint32_t trapcard_apply(uint8_t *record, size_t record_len, uint8_t *settled, size_t settled_len, uint8_t *waiting,
                         size_t waiting_len, const uint8_t *work, size_t work_len, uint32_t *orders);
 
-/* Opens a closed record on a card: the log written last if all of it is there, else the one before it. Returns 0, 1, 2, 4, 5,
- * 8 or 9. Two orders suffice; if power ends in the call, recover again after the cut. *orders: the orders carried out. */
+/* Opens a closed record on a card: the log written last if all of it is there, else the one before it, checksum collisions
+ * apart. Returns 0, 1, 2, 4, 5, 8 or 9; never 8 or 9 on a card that a format made and these calls alone wrote since. Two orders
+ * suffice; if power ends in the call, recover again after the cut. *orders: the orders carried out. */
 uint32_t trapcard_recover(uint8_t *record, size_t record_len, uint8_t *settled, size_t settled_len, uint8_t *waiting,
                           size_t waiting_len, const uint8_t *work, size_t work_len, uint32_t *orders);
 
@@ -125,6 +149,28 @@ static inline const uint8_t *trapcard_block(const uint8_t *settled, const uint8_
     if (buffer == TRAPCARD_IN_WORK)
         return work + offset;
     return NULL;
+}
+
+/* One of the record's 4-byte numbers, by where it starts. */
+static inline uint32_t trapcard_record_number(const uint8_t *record, size_t at)
+{
+    uint32_t number = 0;
+    for (size_t i = 0; i < 4; i++)
+        number |= (uint32_t)record[at + i] << (8 * i);
+    return number;
+}
+
+/* Makes the TRAPCARD_RECORD bytes of a closed record for a card of N blocks, with power for no orders: what trapcard_recover
+ * takes at boot, once trapcard_power has set the power. */
+static inline void trapcard_closed_record(uint8_t *record, uint32_t blocks)
+{
+    for (size_t i = 0; i < TRAPCARD_RECORD; i++)
+        record[i] = 0;
+    record[TRAPCARD_RECORD_MODE] = TRAPCARD_MODE_CLOSED;
+    for (size_t i = 0; i < 4; i++)
+        record[TRAPCARD_RECORD_BLOCKS + i] = (uint8_t)(blocks >> (8 * i));
+    for (size_t i = 0; i < 8; i++)
+        record[TRAPCARD_RECORD_SUM + i] = (uint8_t)(TRAPCARD_EMPTY_SUM >> (8 * i));
 }
 
 #ifdef __cplusplus

@@ -1,6 +1,7 @@
 #!/usr/bin/env bash
-# The C library: its example is built against the archive, run, held to its output and run under valgrind; the stack frames of
-# the archive are measured. Registers that a function saves come on top of its frame, 56 bytes at most.
+# The C library: all its functions are called through the header; its example is built against the archive, run, held to its
+# output and run under valgrind; the stack frames of the archive are measured. Registers that a function saves come on top of
+# its frame, 56 bytes at most.
 set -euo pipefail
 cd "$(dirname "$0")/.."
 
@@ -9,7 +10,16 @@ archive=target/staticlib/libfirmware.a
 out=$(mktemp -d)
 trap 'rm -rf "$out"' EXIT
 
-gcc -std=c99 -Wall -Wextra -Werror -I include examples/firmware/save.c "$archive" -o "$out/save"
+strict=(-Wall -Wextra -Werror -I include)
+gcc -std=c99 "${strict[@]}" tests/boundary.c "$archive" -o "$out/boundary"
+"$out/boundary"
+if command -v g++ >/dev/null; then
+  g++ -std=c++11 "${strict[@]}" -x c++ tests/boundary.c -x none "$archive" -o "$out/boundary-c++"
+  "$out/boundary-c++" >/dev/null
+  echo "boundary: the same from C++"
+fi
+
+gcc -std=c99 "${strict[@]}" examples/firmware/save.c "$archive" -o "$out/save"
 "$out/save" | cmp - examples/firmware/save.out
 valgrind -q --error-exitcode=1 --leak-check=full "$out/save" >/dev/null
 echo "firmware: the example saved whole, and valgrind found nothing"

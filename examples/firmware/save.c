@@ -16,7 +16,7 @@ struct card {
 #define CARD(c) (c)->record, sizeof (c)->record, (c)->settled, sizeof (c)->settled, (c)->waiting, sizeof (c)->waiting, (c)->work, sizeof (c)->work
 
 /* The catch count, the picture index and the camera state. */
-static const uint32_t addresses[3] = {34, 40, N - 1};
+static const uint32_t addresses[3] = {TRAPCARD_FIRST, 40, N - 1};
 
 static void must(uint32_t number, const char *call)
 {
@@ -54,21 +54,31 @@ static int value(const struct card *c)
     return first;
 }
 
+/* The trap wakes up after a power loss: what it had in memory is gone, and the card is all that is left. */
+static void boot(struct card *c)
+{
+    uint32_t orders;
+    memset(c->waiting, 0xee, sizeof c->waiting);
+    memset(c->work, 0xee, sizeof c->work);
+    trapcard_closed_record(c->record, N);
+    must(trapcard_power(CARD(c), 2), "power");
+    must(trapcard_recover(CARD(c), &orders), "recover");
+}
+
 /* Power for p orders, then a cut that keeps the writes of the set: 7 for old, 9 for new. */
 static int found(const struct card *start, uint32_t p, uint32_t set)
 {
     static struct card c;
-    uint8_t marks[32];
+    uint8_t marks[TRAPCARD_PLACES];
     uint32_t orders;
     c = *start;
     must(trapcard_power(CARD(&c), p), "power");
     uint32_t answer = trapcard_sync(CARD(&c), &orders);
-    uint32_t waiting = c.record[20];
+    uint32_t waiting = trapcard_record_number(c.record, TRAPCARD_RECORD_WAITING);
     for (uint32_t i = 0; i < waiting; i++)
         marks[i] = (uint8_t)(set >> i & 1u);
     must(trapcard_cut(CARD(&c), marks, waiting), "cut");
-    must(trapcard_power(CARD(&c), 2), "power");
-    must(trapcard_recover(CARD(&c), &orders), "recover");
+    boot(&c);
     int v = value(&c);
     if (answer == TRAPCARD_DONE && v != 9)
         return -1;

@@ -1,0 +1,397 @@
+/* Calls the twelve functions through include/trapcard.h. The lent buffers have lengths of their own, odd addresses and guard
+ * bytes around them; out-parameters stand between guard words. After each call whatever it may not write is compared, and a
+ * refused call may write nothing. It is C99 and C++. */
+#include <stddef.h>
+#include <stdio.h>
+#include <stdlib.h>
+#include <string.h>
+
+#include "trapcard.h"
+
+#define N 70u
+#define GUARD 16u
+#define UNSET 0xa5a5a5a5u
+#define UNSET_WIDE UINT64_C(0xa5a5a5a5a5a5a5a5)
+#define DATA (TRAPCARD_FIRST * TRAPCARD_BLOCK)
+
+struct card {
+    uint8_t g0[GUARD - 1], record[TRAPCARD_RECORD], g1[GUARD], settled[N * TRAPCARD_BLOCK], g2[GUARD], waiting[TRAPCARD_WAITING];
+    uint8_t g3[GUARD], work[TRAPCARD_WORK], g4[GUARD], block[TRAPCARD_BLOCK], g5[GUARD], marks[TRAPCARD_PLACES], g6[GUARD];
+};
+
+/* What a call may write is a sum of these. */
+enum { RECORD = 1, SETTLED = 2, WAITING = 4, WORK = 8 };
+enum { LENT = 6 };
+
+#define PART(member) {offsetof(struct card, member), sizeof(((struct card *)0)->member)}
+
+static const struct {
+    size_t at, length;
+} parts[LENT] = {PART(record), PART(settled), PART(waiting), PART(work), PART(block), PART(marks)};
+
+enum call { FORMAT, POWER, PUT, GET, COMMIT, ABANDON, SYNC, APPLY, RECOVER, CUT, CALLS };
+
+static const struct {
+    const char *name;
+    unsigned writes;
+} calls[CALLS] = {
+    {"format", RECORD | SETTLED | WAITING | WORK},
+    {"power", RECORD},
+    {"put", RECORD | WORK},
+    {"get", 0},
+    {"commit", RECORD | WORK},
+    {"abandon", RECORD},
+    {"sync", RECORD | SETTLED | WAITING},
+    {"apply", RECORD | SETTLED | WAITING},
+    {"recover", RECORD | SETTLED | WAITING},
+    {"cut", RECORD | SETTLED},
+};
+
+static struct card c, before;
+static size_t length[LENT];
+static uint32_t word[3];
+static uint64_t wide[3];
+
+static void fail(const char *call, const char *what)
+{
+    printf("boundary: %s: %s\n", call, what);
+    exit(1);
+}
+
+static void must(int holds, const char *call, const char *what)
+{
+    if (!holds)
+        fail(call, what);
+}
+
+static void same(const char *call, const char *what, uint64_t found, uint64_t expected)
+{
+    if (found != expected) {
+        printf("boundary: %s: %s %llu, not %llu\n", call, what, (unsigned long long)found, (unsigned long long)expected);
+        exit(1);
+    }
+}
+
+/* ---- guards */
+
+static void arm(void)
+{
+    word[0] = word[1] = word[2] = UNSET;
+    wide[0] = wide[1] = wide[2] = UNSET_WIDE;
+    before = c;
+}
+
+static void check_guards(const char *call)
+{
+    must(word[0] == UNSET && wide[0] == UNSET_WIDE, call, "wrote before an out-parameter");
+    must(word[2] == UNSET && wide[2] == UNSET_WIDE, call, "wrote behind an out-parameter");
+}
+
+static void check_bytes(const char *call, unsigned writes)
+{
+    const uint8_t *now = (const uint8_t *)&c, *then = (const uint8_t *)&before;
+    size_t at = 0;
+    for (unsigned p = 0; p < LENT; p++) {
+        must(memcmp(now + at, then + at, parts[p].at - at) == 0, call, "wrote outside the lent bytes");
+        at = parts[p].at + parts[p].length;
+        if ((writes >> p & 1u) == 0)
+            must(memcmp(now + parts[p].at, then + parts[p].at, parts[p].length) == 0, call, "wrote bytes that it leaves");
+    }
+    must(memcmp(now + at, then + at, sizeof c - at) == 0, call, "wrote outside the lent bytes");
+}
+
+/* ---- the ten calls with a record */
+
+#define CARD c.record, length[0], c.settled, length[1], c.waiting, length[2], c.work, length[3]
+
+static uint32_t perform(enum call call, uint32_t argument)
+{
+    switch (call) {
+    case FORMAT: return trapcard_format(CARD);
+    case POWER: return trapcard_power(CARD, argument);
+    case PUT: return trapcard_put(CARD, argument, c.block, length[4]);
+    case GET: return trapcard_get(CARD, argument, &word[1], &wide[1]);
+    case COMMIT: return trapcard_commit(CARD);
+    case ABANDON: return trapcard_abandon(CARD);
+    case SYNC: return trapcard_sync(CARD, &word[1]);
+    case APPLY: return trapcard_apply(CARD, &word[1]);
+    case RECOVER: return trapcard_recover(CARD, &word[1]);
+    case CUT: return trapcard_cut(CARD, c.marks, length[5]);
+    default: return UNSET;
+    }
+}
+
+static void expect(enum call call, uint32_t argument, uint32_t number, unsigned writes, uint32_t out, uint64_t offset)
+{
+    const char *name = calls[call].name;
+    int orders = call == SYNC || call == APPLY || call == RECOVER;
+    arm();
+    same(name, "answered", perform(call, argument), number);
+    check_guards(name);
+    check_bytes(name, writes);
+    same(name, "set its 4-byte out-parameter to", word[1], orders || call == GET ? out : UNSET);
+    same(name, "set its 8-byte out-parameter to", wide[1], call == GET ? offset : UNSET_WIDE);
+}
+
+static void done(enum call call, uint32_t argument, uint32_t orders)
+{
+    expect(call, argument, TRAPCARD_DONE, calls[call].writes, orders, 0);
+}
+
+static void refused(enum call call, uint32_t argument, uint32_t number)
+{
+    expect(call, argument, number, 0, 0, 0);
+}
+
+/* The power ends in the call. */
+static void gone(enum call call, uint32_t orders)
+{
+    expect(call, 0, TRAPCARD_ERR_POWER, calls[call].writes, orders, 0);
+}
+
+/* A get finds a block filled with a byte at a place. */
+static void got(uint32_t address, uint32_t buffer, uint64_t offset, uint8_t byte)
+{
+    const uint8_t *block;
+    expect(GET, address, TRAPCARD_DONE, 0, buffer, offset);
+    block = trapcard_block(c.settled, c.work, word[1], wide[1]);
+    must(block == (buffer == TRAPCARD_IN_WORK ? c.work : c.settled) + offset, "block", "another place");
+    for (size_t i = 0; i < TRAPCARD_BLOCK; i++)
+        same("get", "found the byte", block[i], byte);
+}
+
+static void put(uint32_t address, uint8_t byte)
+{
+    memset(c.block, byte, sizeof c.block);
+    done(PUT, address, 0);
+}
+
+static void cut(const char *marks)
+{
+    length[5] = strlen(marks);
+    for (size_t i = 0; i < length[5]; i++)
+        c.marks[i] = (uint8_t)(marks[i] - '0');
+    done(CUT, 0, 0);
+}
+
+static void holds(uint32_t mode, uint32_t opened, uint32_t grouped, uint32_t logged, uint32_t waiting, uint32_t power)
+{
+    same("the record", "has mode", trapcard_record_number(c.record, TRAPCARD_RECORD_MODE), mode);
+    same("the record", "has N", trapcard_record_number(c.record, TRAPCARD_RECORD_BLOCKS), N);
+    same("the record", "has open count", trapcard_record_number(c.record, TRAPCARD_RECORD_OPEN), opened);
+    same("the record", "has group count", trapcard_record_number(c.record, TRAPCARD_RECORD_GROUP), grouped);
+    same("the record", "has log count", trapcard_record_number(c.record, TRAPCARD_RECORD_LOG), logged);
+    same("the record", "has waiting count", trapcard_record_number(c.record, TRAPCARD_RECORD_WAITING), waiting);
+    same("the record", "has power count", trapcard_record_number(c.record, TRAPCARD_RECORD_POWER), power);
+}
+
+static void start(void)
+{
+    memset(&c, 0x5a, sizeof c);
+    for (unsigned p = 0; p < LENT; p++)
+        length[p] = parts[p].length;
+    length[5] = 0;
+    done(FORMAT, 0, 0);
+    holds(TRAPCARD_MODE_OPEN, 0, 0, 0, 0, 1000000);
+}
+
+/* ---- the tests */
+
+/* Each length counts in each call: one byte less is refused. */
+static void lengths(void)
+{
+    start();
+    for (int k = 0; k < CALLS; k++)
+        for (unsigned p = 0; p < 4; p++) {
+            length[p]--;
+            refused((enum call)k, TRAPCARD_FIRST, TRAPCARD_ERR_SIZE);
+            length[p]++;
+        }
+    length[4]--;
+    refused(PUT, TRAPCARD_FIRST, TRAPCARD_ERR_SIZE);
+}
+
+/* A block in every place where a get finds it; orders and counts that all differ. */
+static void places(void)
+{
+    start();
+    put(40, 7);
+    put(41, 8);
+    holds(TRAPCARD_MODE_OPEN, 2, 0, 0, 0, 1000000);
+    got(41, TRAPCARD_IN_WORK, 520, 8);
+    done(COMMIT, 0, 0);
+    holds(TRAPCARD_MODE_OPEN, 0, 2, 0, 0, 1000000);
+    got(41, TRAPCARD_IN_WORK, 17032, 8);
+    done(POWER, 100, 0);
+    put(42, 9);
+    done(SYNC, 0, 5);
+    holds(TRAPCARD_MODE_OPEN, 1, 0, 2, 0, 95);
+    got(41, TRAPCARD_IN_SETTLED, 1536, 8);
+    done(ABANDON, 0, 0);
+    got(42, TRAPCARD_IN_SETTLED, 21504, 0);
+    put(41, 3);
+    done(COMMIT, 0, 0);
+    done(SYNC, 0, 4);
+    holds(TRAPCARD_MODE_OPEN, 0, 0, 3, 0, 91);
+    got(41, TRAPCARD_IN_SETTLED, 2048, 3);
+    done(APPLY, 0, 6);
+    holds(TRAPCARD_MODE_OPEN, 0, 0, 0, 0, 85);
+    got(41, TRAPCARD_IN_SETTLED, 20992, 3);
+}
+
+/* Each cause, by its name. */
+static void causes(void)
+{
+    start();
+    refused(RECOVER, 0, TRAPCARD_ERR_OPEN);
+    refused(PUT, TRAPCARD_FIRST - 1, TRAPCARD_ERR_ADDRESS);
+    refused(GET, N, TRAPCARD_ERR_ADDRESS);
+    length[5] = 1;
+    refused(CUT, 0, TRAPCARD_ERR_MARKS);
+    for (uint32_t i = 0; i < TRAPCARD_SLOTS; i++)
+        put(TRAPCARD_FIRST + i, 1);
+    refused(PUT, N - 1, TRAPCARD_ERR_FULL);
+    done(COMMIT, 0, 0);
+    put(N - 1, 1);
+    refused(COMMIT, 0, TRAPCARD_ERR_FULL);
+    done(POWER, TRAPCARD_SLOTS + 2, 0);
+    gone(SYNC, TRAPCARD_SLOTS + 2);
+    holds(TRAPCARD_MODE_DOWN, 1, TRAPCARD_SLOTS, 0, TRAPCARD_PLACES, 0);
+    refused(APPLY, 0, TRAPCARD_ERR_POWER);
+    refused(CUT, 0, TRAPCARD_ERR_MARKS);
+    cut("1111111111111111111111111111111111");
+    holds(TRAPCARD_MODE_CLOSED, 0, 0, 0, 0, 0);
+    refused(ABANDON, 0, TRAPCARD_ERR_CLOSED);
+    c.record[TRAPCARD_RECORD_BLOCKS]++;
+    refused(RECOVER, 0, TRAPCARD_ERR_STATE);
+    c.record[TRAPCARD_RECORD_BLOCKS]--;
+    c.settled[24]++;
+    c.settled[16]++;
+    refused(RECOVER, 0, TRAPCARD_ERR_UNSOUND);
+    c.settled[0]++;
+    refused(RECOVER, 0, TRAPCARD_ERR_FOREIGN);
+}
+
+/* The record for a boot is what a cut leaves at power 0. It opens a card whatever work memory and waiting bytes hold, and once
+ * there is power also where recover has orders to give. */
+static void boot(void)
+{
+    uint8_t left[TRAPCARD_RECORD];
+    start();
+    put(40, 7);
+    done(COMMIT, 0, 0);
+    done(SYNC, 0, 4);
+    put(40, 9);
+    done(COMMIT, 0, 0);
+    done(POWER, 3, 0);
+    gone(SYNC, 3);
+    cut("011");
+    memcpy(left, c.record, sizeof left);
+    for (int loss = 0; loss < 2; loss++) {
+        memset(c.record, 0xee, sizeof c.record);
+        memset(c.waiting, 0xee, sizeof c.waiting);
+        memset(c.work, 0xee, sizeof c.work);
+        arm();
+        trapcard_closed_record(c.record, N);
+        check_bytes("closed_record", RECORD);
+        must(memcmp(c.record, left, sizeof left) == 0, "closed_record", "not what a cut leaves");
+        if (loss == 0)
+            gone(RECOVER, 0);
+    }
+    done(POWER, 2, 0);
+    done(RECOVER, 0, 2);
+    holds(TRAPCARD_MODE_OPEN, 0, 0, 1, 0, 0);
+    got(40, TRAPCARD_IN_SETTLED, 1024, 7);
+}
+
+/* ---- tally and alike */
+
+static uint8_t large[(TRAPCARD_MOST + 1) * TRAPCARD_BLOCK];
+
+static uint32_t format(uint8_t *settled, size_t blocks)
+{
+    return trapcard_format(c.record, sizeof c.record, settled, blocks * TRAPCARD_BLOCK, c.waiting, sizeof c.waiting, c.work,
+                           sizeof c.work);
+}
+
+/* N from the least to the most. The sum of the largest card full of 255 needs more than 4 bytes. */
+static void bounds(void)
+{
+    same("format", "answered for a card too small", format(large, TRAPCARD_LEAST - 1), TRAPCARD_ERR_SIZE);
+    same("format", "answered for the smallest card", format(large, TRAPCARD_LEAST), TRAPCARD_DONE);
+    same("format", "answered for a card too large", format(large, TRAPCARD_MOST + 1), TRAPCARD_ERR_SIZE);
+    same("format", "answered for the largest card", format(large, TRAPCARD_MOST), TRAPCARD_DONE);
+    memset(large + DATA, 255, sizeof large - DATA);
+    arm();
+    same("tally", "answered", trapcard_tally(large, sizeof large - TRAPCARD_BLOCK, &wide[1]), TRAPCARD_DONE);
+    check_guards("tally");
+    same("tally", "set sum to", wide[1], (uint64_t)255 * TRAPCARD_BLOCK * (TRAPCARD_MOST - TRAPCARD_FIRST));
+    arm();
+    same("tally", "answered", trapcard_tally(large, sizeof large, &wide[1]), TRAPCARD_ERR_SIZE);
+    check_guards("tally");
+    same("tally", "set sum to", wide[1], 0);
+}
+
+#define KINDS 5
+#define SMALL (36u * TRAPCARD_BLOCK)
+#define OTHER (40u * TRAPCARD_BLOCK)
+
+/* Two sets of cards, of 36 and of 40 blocks: good, good with another block, foreign, unsound, and one whose length is wrong. */
+static uint8_t cards[2][KINDS][OTHER], kept[2][KINDS][OTHER];
+static const uint32_t numbers[KINDS] = {TRAPCARD_DONE, TRAPCARD_DONE, TRAPCARD_ERR_FOREIGN, TRAPCARD_ERR_UNSOUND,
+                                        TRAPCARD_ERR_SIZE};
+
+static size_t bytes_of(int set, int kind)
+{
+    return (set == 0 ? SMALL : OTHER) - (kind == 4 ? 1 : 0);
+}
+
+static void compare(int set_a, int a, int set_b, int b)
+{
+    uint32_t number = numbers[a] != TRAPCARD_DONE ? numbers[a] : numbers[b];
+    arm();
+    same("alike", "answered", trapcard_alike(cards[set_a][a], bytes_of(set_a, a), cards[set_b][b], bytes_of(set_b, b), &word[1]),
+         number);
+    check_guards("alike");
+    must(memcmp(cards, kept, sizeof cards) == 0, "alike", "wrote a card");
+    same("alike", "set yes to", word[1], number == TRAPCARD_DONE && set_a == set_b && a == b);
+    same("alike", "set its 8-byte out-parameter to", wide[1], UNSET_WIDE);
+}
+
+static void inspections(void)
+{
+    for (int set = 0; set < 2; set++)
+        for (int kind = 0; kind < KINDS; kind++) {
+            uint8_t *card = cards[set][kind];
+            same("format", "answered", format(card, bytes_of(set, 0) / TRAPCARD_BLOCK), TRAPCARD_DONE);
+            card[DATA + 5] = (uint8_t)(kind == 1 ? 200 : 100);
+            card[0] = (uint8_t)(card[0] + (kind == 2));
+            card[16] = (uint8_t)(card[16] + (kind == 3));
+            card[24] = (uint8_t)(card[24] + (kind == 3));
+        }
+    memcpy(kept, cards, sizeof cards);
+    for (int i = 0; i < 2 * KINDS; i++)
+        for (int j = 0; j < 2 * KINDS; j++)
+            compare(i / KINDS, i % KINDS, j / KINDS, j % KINDS);
+    for (int i = 0; i < 2 * KINDS; i++) {
+        int kind = i % KINDS;
+        arm();
+        same("tally", "answered", trapcard_tally(cards[i / KINDS][kind], bytes_of(i / KINDS, kind), &wide[1]), numbers[kind]);
+        check_guards("tally");
+        must(memcmp(cards, kept, sizeof cards) == 0, "tally", "wrote a card");
+        same("tally", "set sum to", wide[1], numbers[kind] != TRAPCARD_DONE ? 0 : kind == 1 ? 200 : 100);
+        same("tally", "set its 4-byte out-parameter to", word[1], UNSET);
+    }
+}
+
+int main(void)
+{
+    lengths();
+    places();
+    causes();
+    boot();
+    bounds();
+    inspections();
+    printf("boundary: the twelve functions answer through the header, and write nothing else\n");
+    return 0;
+}

@@ -1,0 +1,314 @@
+"""Holds include/trapcard.h to what stands behind it: the prototypes to the exported signatures of crates/firmware/src, and each
+constant, as a C program prints it, to the number that the specifications have. Prints each difference."""
+import re
+import subprocess
+import tempfile
+from pathlib import Path
+
+ROOT = Path(__file__).resolve().parent.parent
+HEADER = ROOT / "include/trapcard.h"
+SOURCES = ROOT / "crates/firmware/src"
+
+# The types of parameters and results; a slice is two parameters.
+SLICES = {"&[u8]": "const uint8_t *", "&mut [u8]": "uint8_t *"}
+TYPES = {"u32": "uint32_t", "u64": "uint64_t", "&mut u32": "uint32_t *", "&mut u64": "uint64_t *"}
+
+# Parameters that the header calls otherwise: function or any, name in the source, name in the header. `record` is a reserved
+# word of the contracts' language.
+RENAMED = {("any", "rec"): "record", ("trapcard_alike", "a"): "settled_a", ("trapcard_alike", "b"): "settled_b"}
+
+# Constants that are numbers of the specifications: crate, file, name.
+NUMBERS = {
+    "TRAPCARD_BLOCK": ("cells", "Entry", "blockBytes"),
+    "TRAPCARD_RECORD": ("firmware", "Face", "recordBytes"),
+    "TRAPCARD_WAITING": ("store", "Causes", "waitingBytes"),
+    "TRAPCARD_WORK": ("store", "Causes", "workBytes"),
+    "TRAPCARD_LEAST": ("journal", "Layout", "leastBlocks"),
+    "TRAPCARD_MOST": ("journal", "Layout", "mostBlocks"),
+    "TRAPCARD_FIRST": ("journal", "Layout", "firstData"),
+    "TRAPCARD_SLOTS": ("journal", "Layout", "slots"),
+    "TRAPCARD_PLACES": ("card", "Card", "places"),
+    "TRAPCARD_EMPTY_SUM": ("fnv", "Fnv", "start"),
+    "TRAPCARD_MODE_CLOSED": ("store", "State", "closed"),
+    "TRAPCARD_MODE_OPEN": ("store", "State", "opened"),
+    "TRAPCARD_MODE_DOWN": ("store", "State", "down"),
+}
+
+# Constants that are clauses of a definition by cases: crate, file, definition, case.
+CLAUSES = {
+    "TRAPCARD_DONE": ("store", "Causes", "first", "[]"),
+    "TRAPCARD_NOWHERE": ("firmware", "Face", "bufferNumber", "Nowhere"),
+    "TRAPCARD_IN_SETTLED": ("firmware", "Face", "bufferNumber", "Settled"),
+    "TRAPCARD_IN_WORK": ("firmware", "Face", "bufferNumber", "Work"),
+}
+
+# Constants that are offsets in the record: the field as the encoder writes it. These are all fields.
+ENCODER = ("firmware", "Face", "encodeRecord")
+FIELDS = {
+    "TRAPCARD_RECORD_MODE": "mode",
+    "TRAPCARD_RECORD_BLOCKS": "blocks",
+    "TRAPCARD_RECORD_OPEN": "opened",
+    "TRAPCARD_RECORD_GROUP": "grouped",
+    "TRAPCARD_RECORD_LOG": "logged",
+    "TRAPCARD_RECORD_WAITING": "waiting",
+    "TRAPCARD_RECORD_POWER": "power",
+    "TRAPCARD_RECORD_SUM": "sum",
+}
+
+# Constants that are rows of the table of causes: what the test of that row, and of no other, names; in braces a case of the
+# choice, which stands for its number. These are all rows.
+TABLE = ("store", "Causes", "table")
+CHOICE = ("journal", "Choice", "choiceNumber")
+CAUSES = {
+    "TRAPCARD_ERR_SIZE": "wrongSizes",
+    "TRAPCARD_ERR_STATE": "wrongRecord",
+    "TRAPCARD_ERR_CLOSED": "closed",
+    "TRAPCARD_ERR_POWER": "down",
+    "TRAPCARD_ERR_OPEN": "opened",
+    "TRAPCARD_ERR_ADDRESS": "strayAddress",
+    "TRAPCARD_ERR_FULL": "full",
+    "TRAPCARD_ERR_FOREIGN": "unsound {Foreign}",
+    "TRAPCARD_ERR_UNSOUND": "unsound {Neither}",
+    "TRAPCARD_ERR_MARKS": "wrongMarks",
+}
+
+GUARD = "TRAPCARD_H"
+
+
+def unread(what):
+    raise SystemExit("boundary: can't read " + what)
+
+
+def squeezed(text):
+    return " ".join(text.split())
+
+
+# ---- the specifications
+
+
+def spec(crate, name):
+    """The file without its comments."""
+    path = ROOT / "crates" / crate / "specs" / (name.replace(".", "/") + ".antt")
+    if not path.exists():
+        unread("%s: there is no such file" % path.relative_to(ROOT))
+    return re.sub(r"--.*", "", path.read_text())
+
+
+def equations(crate, name, word):
+    """The clauses of a definition: the patterns and the right side, which goes on in the lines that are indented."""
+    found = re.findall(r"^%s((?: [^=\n]+)?) =(.*\n(?:[ \t]+.*\n|\n)*)" % re.escape(word), spec(crate, name) + "\n", re.M)
+    return [(patterns.split(), squeezed(right)) for patterns, right in found]
+
+
+def equation(crate, name, word, arguments):
+    """The names of the arguments and the right side of a definition in one clause."""
+    found = equations(crate, name, word)
+    if len(found) != 1 or len(found[0][0]) != arguments:
+        unread("%s/specs/%s: `%s` is not one equation with %d arguments" % (crate, name, word, arguments))
+    return found[0]
+
+
+def clause(crate, name, word, case):
+    """The number in the clause for a case."""
+    found = [right for patterns, right in equations(crate, name, word) if patterns and patterns[0].strip("()") == case]
+    if len(found) != 1 or not found[0].isdigit():
+        unread("%s/specs/%s: `%s` of %s is not one number" % (crate, name, word, case))
+    return int(found[0])
+
+
+def home(crate, name, word):
+    """The file that defines a word, as the file given sees it: itself, or one that it uses."""
+    if re.search(r"^(?:abbrev|unfoldable) pub %s :" % re.escape(word), spec(crate, name), re.M):
+        return crate, name
+    uses = re.findall(r"^use Rattle·(\w+?)(?:·specs)?\.specs\.([\w.]+)\.\{([^}]*)\}", spec(crate, name), re.M)
+    for other, module, words in uses:
+        if word in re.split(r"[,\s]+", words):
+            return other, module
+    unread("%s/specs/%s: where does `%s` come from?" % (crate, name, word))
+
+
+def number(crate, name, word, arguments=()):
+    """The value of a definition by sums and products of numerals, of its arguments and of such definitions."""
+    crate, name = home(crate, name, word)
+    names, right = equation(crate, name, word, len(arguments))
+    bound = dict(zip(names, arguments))
+    meaning = lambda head, given: bound[head] if head in bound and not given else number(crate, name, head, given)
+    tokens = re.findall(r"[()]|[^\s()]+", right) + ["end"]
+    value = summed(tokens, meaning)
+    return value if tokens == ["end"] else unread("`%s = %s`" % (word, right))
+
+
+def summed(tokens, meaning):
+    value = multiplied(tokens, meaning)
+    while tokens[0] == "+":
+        tokens.pop(0)
+        value += multiplied(tokens, meaning)
+    return value
+
+
+def multiplied(tokens, meaning):
+    value = applied(tokens, meaning)
+    while tokens[0] == "*":
+        tokens.pop(0)
+        value *= applied(tokens, meaning)
+    return value
+
+
+def applied(tokens, meaning):
+    """A word and the atoms that it is applied to, or an atom."""
+    if tokens[0] == "(" or tokens[0].isdigit():
+        return atom(tokens, meaning)
+    head, given = tokens.pop(0), []
+    while tokens[0] not in ("+", "*", ")", "end"):
+        given.append(atom(tokens, meaning))
+    return meaning(head, given)
+
+
+def atom(tokens, meaning):
+    head = tokens.pop(0)
+    if head != "(":
+        return int(head) if head.isdigit() else meaning(head, [])
+    value = summed(tokens, meaning)
+    return value if tokens.pop(0) == ")" else unread("a sum in parentheses")
+
+
+def offsets():
+    """Each field of the record with the byte where it starts."""
+    at, found = 0, {}
+    (rec,), right = equation(*ENCODER, 1)
+    for part in right.split("++"):
+        piece = re.fullmatch(r"\(?le (\d+) \(%s \.(\w+)\)\)*" % re.escape(rec), part.strip())
+        if not piece:
+            unread("`%s` of %s" % (part.strip(), ENCODER[2]))
+        found[piece[2]] = at
+        at += int(piece[1])
+    if at != number(*NUMBERS["TRAPCARD_RECORD"]) or sorted(found) != sorted(FIELDS.values()):
+        unread("%s: it writes %d bytes, %s" % (ENCODER[2], at, ", ".join(found)))
+    return found
+
+
+def rows():
+    """The table of causes: pairs of a number and a test."""
+    _, right = equation(*TABLE, 0)
+    found = re.findall(r"record \{ number = (\d+); test = λ [^.]*\. ([^{}]*?);? \}", right)
+    if len(found) != right.count("record {"):
+        unread("the table of causes")
+    return [(int(n), test) for n, test in found]
+
+
+def causes():
+    """Each constant of a cause with the number of its row."""
+    found, table = {}, rows()
+    for macro, words in CAUSES.items():
+        words = re.sub(r"\{(.*)\}", lambda case: str(clause(*CHOICE, case[1])), words)
+        named = [n for n, test in table if re.search(r"(?<![\w.])%s(?![\w.])" % re.escape(words), test)]
+        if len(named) != 1:
+            unread("the table of causes: %d rows test `%s`" % (len(named), words))
+        found[macro] = named[0]
+    if sorted(found.values()) != sorted(n for n, _ in table):
+        raise SystemExit("boundary: a row of the table of causes has no constant of its own")
+    return found
+
+
+def specified():
+    """Every constant with the number that the specifications have."""
+    values = {macro: number(*where) for macro, where in NUMBERS.items()}
+    values.update((macro, clause(*where)) for macro, where in CLAUSES.items())
+    places = offsets()
+    values.update((macro, places[field]) for macro, field in FIELDS.items())
+    values.update(causes())
+    return values
+
+
+# ---- the header
+
+
+def header():
+    """The header without its comments and its two blocks for C++."""
+    text = re.sub(r"/\*.*?\*/", " ", HEADER.read_text(), flags=re.S)
+    return re.sub(r'#ifdef __cplusplus\n(?:extern "C" \{|\})\n#endif\n', "", text)
+
+
+def macros():
+    """The names of the constants. A macro of another kind can't be read."""
+    found = re.findall(r"^[ \t]*#[ \t]*define[ \t]+(.*?)[ \t]*$", header(), re.M)
+    names = [re.fullmatch(r"(TRAPCARD_\w+)[ \t]+\S.*", text) for text in found if text != GUARD]
+    if None in names or len(set(n[1] for n in names)) != len(names):
+        unread("the macros of the header: each has a name of its own, TRAPCARD_…, and a value")
+    return [n[1] for n in names]
+
+
+def printed(names):
+    """Each constant as a C program prints it."""
+    lines = "".join('    printf("%%llu\\n", (%s) | 0ull);\n' % name for name in names)
+    source = '#include <stdio.h>\n#include "trapcard.h"\nint main(void)\n{\n%s    return 0;\n}\n' % lines
+    with tempfile.TemporaryDirectory() as out:
+        program = Path(out) / "constants"
+        gcc = ["gcc", "-std=c99", "-Wall", "-Wextra", "-Werror", "-I", HEADER.parent, "-x", "c", "-", "-o", program]
+        if subprocess.run(gcc, input=source.encode()).returncode != 0:
+            unread("the constants of the header: gcc refuses them")
+        numbers = subprocess.run([program], stdout=subprocess.PIPE, check=True).stdout.split()
+    return dict(zip(names, map(int, numbers)))
+
+
+def prototypes():
+    """Each function that the header declares: its result and its parameters. Inline functions are passed over."""
+    text = re.sub(r"^[ \t]*#.*\n", "", header(), flags=re.M)
+    text = re.sub(r"^static inline [^;{}]*\{\n(?:(?:[ \t].*)?\n)*\}\n", "", text, flags=re.M)
+    found = {}
+    for declaration in filter(None, map(squeezed, text.split(";"))):
+        parts = re.fullmatch(r"(\w+) (\w+)\(([^()]*)\)", declaration)
+        if not parts or parts[2] in found:
+            unread("the header: " + declaration)
+        found[parts[2]] = parts[1], [p.strip() for p in parts[3].split(",")]
+    return found
+
+
+# ---- the exported signatures
+
+
+def declared(function, parameter):
+    """A parameter of the source as C declares it."""
+    name, kind = map(str.strip, parameter.split(":"))
+    name = RENAMED.get((function, name), RENAMED.get(("any", name), name))
+    if kind in SLICES:
+        return [SLICES[kind] + name, "size_t %s_len" % name]
+    if kind not in TYPES:
+        unread("a parameter of type %s in %s" % (kind, function))
+    return [(TYPES[kind] + " " + name).replace("* ", "*")]
+
+
+def exported():
+    """Each exported function: its result and its parameters, as C declares them."""
+    text = "".join(re.sub(r"//.*", "", path.read_text()) for path in sorted(SOURCES.rglob("*.rt")))
+    found = {}
+    for name, parameters, result in re.findall(r'#\[no_mangle\]\s*pub extern "C" fn (\w+)\(([^()]*)\)\s*->\s*(\w+)\s', text):
+        parts = [declared(name, p) for p in parameters.split(",") if p.strip()]
+        found[name] = TYPES.get(result), sum(parts, [])
+    if not text.count("no_mangle") == text.count('extern "C"') == len(found) > 0:
+        unread("an exported function of firmware")
+    return found
+
+
+# ---- the comparison
+
+
+def differences(what, here, there):
+    for name in sorted(here.keys() | there.keys()):
+        if here.get(name) != there.get(name):
+            yield "%s: the header has %s, %s %s" % (name, here.get(name, "none"), what, there.get(name, "none"))
+
+
+def shown(functions):
+    return {name: "%s (%s)" % (result, ", ".join(parameters)) for name, (result, parameters) in functions.items()}
+
+
+functions, constants = prototypes(), printed(macros())
+wrong = list(differences("the source", shown(functions), shown(exported())))
+wrong += differences("the specifications", constants, specified())
+for line in wrong:
+    print("boundary: " + line)
+if wrong:
+    raise SystemExit(1)
+print("boundary: the header declares %d functions as they are exported, and its %d constants are the specifications'"
+      % (len(functions), len(constants)))
