@@ -9,7 +9,7 @@ An .edit file holds one or more wrong changes, each of these lines:
 
     # LABEL: what is wrong, in words
     expect: FILE                     the file of the crate in which the error has to show; more than one if need be
-    file: FILE                       then `old:` and `new:` pairs, as rt reads them
+    file: FILE                       of src/ or specs/, and not the one expected; then pairs, as rt reads them
     old: TEXT
     new: TEXT
 
@@ -67,8 +67,13 @@ def changes(edit):
         else:
             found[-1][2].append((file, old, rest))
     for label, expected, pairs in found:
-        if not expected or not pairs:
-            raise Wrong(f"{edit}: {label}: no `expect:` line, or no `old:` and `new:`")
+        edited = {file for file, _, _ in pairs}
+        if not expected or not all(file and file.startswith(("src/", "specs/")) for file in edited):
+            raise Wrong(f"{edit}: {label}: no `expect:` line, or a pair without a `file:` line that names src/ or specs/")
+        if edited & set(expected):
+            raise Wrong(f"{edit}: {label}: expected in the file that it edits, where an error says only that the edit makes no sense")
+    if not found or not all(pairs for _, _, pairs in found):
+        raise Wrong(f"{edit}: a change without `old:` and `new:`")
     return found
 
 
