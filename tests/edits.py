@@ -1,6 +1,6 @@
 """Every wrong change of the must-fail edits is refused at the fact that it breaks.
 
-usage: edits.py [CRATE...]          after `rt ci` or `rt must-fail`: the edits of crates/*/must-fail and the logs of target/must-fail
+usage: edits.py [CRATE...]          after `rt ci` or `rt must-fail`: the edits, and the logs in target/must-fail
        edits.py --fit [CRATE...]    the edits alone: each is of the form below and fits the sources
 
 `rt` holds an edit for refused whatever the reason. This script reads the edits and the prover's logs and demands more.
@@ -36,9 +36,11 @@ FACTS = [
     r"(computed as far as they go|as printed), the two (types|values|sides) ",
     r"expected type (.|\n)* but this has type ",
     r"`.*`\n  ≟ `.*`\n  does not hold ",
-    r"`omega`: the (goal|part `[^`]*` of the goal) does not follow from what it read\. All of that holds, and the (goal|part) fails, at ",
+    r"`omega`: the (goal|part `[^`]*` of the goal) does not follow from what it read\. "
+    r"All of that holds, and the (goal|part) fails, at ",
     r"`search`: no proof of `.*`(\n  | )was found",
-    r"give a proof of that as the last argument, .*\n  `rw` has no last argument, so what it leaves must be a path whose two ends are equal",
+    r"give a proof of that as the last argument, .*\n"
+    r"  `rw` has no last argument, so what it leaves must be a path whose two ends are equal",
 ]
 
 
@@ -71,7 +73,7 @@ def changes(edit):
         if not expected or not all(file and file.startswith(("src/", "specs/")) for file in edited):
             raise Wrong(f"{edit}: {label}: no `expect:` line, or a pair without a `file:` line that names src/ or specs/")
         if edited & set(expected):
-            raise Wrong(f"{edit}: {label}: expected in the file that it edits, where an error says only that the edit makes no sense")
+            raise Wrong(f"{edit}: {label}: expected in the file that it edits, where any nonsense is an error")
     if not found or not all(pairs for _, _, pairs in found):
         raise Wrong(f"{edit}: a change without `old:` and `new:`")
     return found
