@@ -1,0 +1,12 @@
+-- Every call of every list through the C functions is the store's: by `linked`.
+use Rattle.firmware.specs.Face.{faceOf}
+use Rattle.history.proofs.Links.{linked}
+use Rattle.linkage.specs.Step.{withPlace}
+use Rattle.linkage.specs.Through.{Through}
+
+pub through : Through
+through r s w k l h cs c ps p =
+    let m = linked r s w k l h cs c ps p in
+    λ j.
+    withPlace c (faceOf (m .number j) (m .orders j) (m .left .rec j) (m .left .settled j) (m .left .waiting j) (m .left .work j))
+    (λ a. m .place a j)

@@ -1,0 +1,48 @@
+-- One call of a list as C makes it: the step of `linked`, and the place of a get.
+use Prim.Native.Nat.{ℕ}
+use mathlib.Core.List.{List}
+use Rattle.firmware.specs.Face.{Face, Got, gotOf, got}
+use Rattle.history.specs.Call.{Call, power, put, get, commit, abandon, sync, apply, recover, cut}
+use Rattle.history.specs.Linked.{faceNext}
+use Rattle.linkage.specs.declared.step.Code.{Code}
+use Rattle.linkage.specs.declared.step.Code.the-variants.{Power, Put, Get, Commit, Abandon, Sync, Apply, Recover, Cut}
+
+-- the call that a code names: "put's block and cut's marks come in buffers of their own"
+abbrev pub callOf : Code → List ℕ → List ℕ → Call
+callOf (Power k) block marks = power k
+callOf (Put a) block marks = put a block
+callOf (Get a) block marks = get a
+callOf Commit block marks = commit
+callOf Abandon block marks = abandon
+callOf Sync block marks = sync
+callOf Apply block marks = apply
+callOf Recover block marks = recover
+callOf Cut block marks = cut marks
+
+-- what C sees of a call: number, orders and every lent byte; and for a get the buffer and the byte at which the block starts
+pub record Stepped : Type 0 where
+  pub face : Face
+  pub buffer : ℕ
+  pub offset : ℕ
+
+abbrev pub steppedOf : Face → ℕ → ℕ → Stepped
+steppedOf f b o = record { face = f; buffer = b; offset = o }
+
+-- a call other than get hands out no block
+abbrev pub placed : Call → (ℕ → Got) → Got
+placed (power k) g = gotOf 0 0 0
+placed (put a b) g = gotOf 0 0 0
+placed (get a) g = g a
+placed commit g = gotOf 0 0 0
+placed abandon g = gotOf 0 0 0
+placed sync g = gotOf 0 0 0
+placed apply g = gotOf 0 0 0
+placed recover g = gotOf 0 0 0
+placed (cut ms) g = gotOf 0 0 0
+
+-- the face that a call leaves, with the place among those of every address
+abbrev pub withPlace : Call → Face → (ℕ → Got) → Stepped
+withPlace c f g = steppedOf f (placed c g .buffer) (placed c g .offset)
+
+abbrev pub stepped : Call → Face → Stepped
+stepped c f = withPlace c (faceNext c f) (λ a. got a (f .rec) (f .settled) (f .waiting) (f .work))
