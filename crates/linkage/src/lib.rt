@@ -1,3 +1,3 @@
-// Every call made through the exported C functions alone, so that the theorems on lists of calls speak of these functions.
+// Every call made through the exported C functions alone, and held to the definitions that the theorems of history speak of.
 pub mod apart;
 pub mod step;

@@ -12,7 +12,7 @@ ghost use mathlib.Core.Path.{_≡_};
 ghost use Rattle.firmware.specs.Face.{faceOf};
 ghost use Rattle.linkage.specs.Step.{callOf, steppedOf, stepped};
 
-// put's block and cut's marks stand beside it.
+// The calls of a list; put's block and cut's marks stand beside it.
 pub enum Code {
     Power(u32),
     Put(u32),
@@ -25,6 +25,7 @@ pub enum Code {
     Cut,
 }
 
+// orders stays 0 for a call that gives none, buffer and offset for one other than get.
 pub fn step(
     code: Code,
     block: &[u8],
