@@ -1,0 +1,3 @@
+-- Calls through the exported C functions.
+pub mod Step
+pub mod Through

@@ -1,0 +1,25 @@
+-- Every call of every list through the C functions is the store's call.
+use Prim.Native.Nat.{ℕ}
+use mathlib.Core.Path.{_≡_}
+use mathlib.Core.List.{List}
+use Rattle.store.specs.State.{State}
+use Rattle.store.specs.Held.{stateOf}
+use Rattle.store.specs.Simple.{formatCall}
+use Rattle.firmware.specs.Face.{decodeRecord, faced, handed, gotIn}
+use Rattle.history.specs.Call.{Call}
+use Rattle.history.specs.Dispatch.{dispatch}
+use Rattle.history.specs.History.{begun, after}
+use Rattle.history.specs.Linked.{faceAfter, Passable, AllPassable}
+use Rattle.linkage.specs.Step.{Stepped, withPlace, stepped}
+
+-- the store's own call, as C would see it
+abbrev pub stored : Call → State → Stepped
+stored c st = withPlace c (handed (dispatch c st)) (λ a. gotIn a st)
+
+-- "It starts from a fresh card, as a format answering 0 left it": what `format` promises. From there what `step` promises of every
+-- call of every list is the store's: number, orders, record, every lent byte, place of a get
+abbrev pub Through : Type 0
+Through =
+    (r s w k : List ℕ) → faced formatCall r s w k .number ≡ 0
+    → (cs : List Call) (c : Call) → AllPassable cs → Passable c
+    → stepped c (faceAfter cs (faced formatCall r s w k)) ≡ stored c (after cs (begun (stateOf (decodeRecord r) s w k)) .store)
