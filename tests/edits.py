@@ -93,7 +93,7 @@ def bodies(crate, file):
     for match in head.finditer(text):
         indent, name, owner = match.groups()
         if owner:
-            home = next(f for f in (crate / "src").glob("*.rt") if f"struct {owner} {{" in f.read_text())
+            home = next(f for f in (crate / "src").glob("*.rt") if re.search(rf"(struct|enum) {owner}\b", f.read_text()))
             owned = f"{folder(home)}{owner}/"
             continue
         begin = re.compile(rf"^{indent}(\S.*)?\{{$", re.M).search(text, match.start())
