@@ -270,7 +270,7 @@ linking-after (c ∷ cs) f w p m = linking-after cs (faceNext c f) (next c w) (p
 
 pub linked : Linked
 unfolding begun formatted
-linked r s w k l h cs c ps p =
+linked r s w k l h cs c ps =
     let m = linking-after cs (faced formatCall r s w k) (begun (stateOf (decodeRecord r) s w k)) ps start-linking in
     links c (faceAfter cs (faced formatCall r s w k)) (after cs (begun (stateOf (decodeRecord r) s w k)) .store) (m .holds)
     (fits (after cs (begun (stateOf (decodeRecord r) s w k)) .store) (after cs (begun (stateOf (decodeRecord r) s w k)) .ledger) (m .safe) (m .bounded))

@@ -62,5 +62,5 @@ pub record Links (c : Call) (f : Face) (st : State) : Type 0 where
 abbrev pub Linked : Type 0
 Linked =
     (r s w k : List ℕ) → length r ≡ recordBytes → formatCall (stateOf (decodeRecord r) s w k) .answer ≡ 0
-    → (cs : List Call) (c : Call) → AllPassable cs → Passable c
+    → (cs : List Call) (c : Call) → AllPassable cs
     → Links c (faceAfter cs (faced formatCall r s w k)) (after cs (begun (stateOf (decodeRecord r) s w k)) .store)

@@ -26,8 +26,8 @@ module _ (r s w k : List ℕ) (z : faced formatCall r s w k .number ≡ 0) where
   formats = ap (λ (f : Face). f .number) (faced-outcome formatCall r s w k right-length) ∙ z
 
 pub through : Through
-through r s w k z cs c ps p =
-    let m = linked r s w k (right-length r s w k z) (formats r s w k z) cs c ps p in
+through r s w k z cs c ps =
+    let m = linked r s w k (right-length r s w k z) (formats r s w k z) cs c ps in
     λ j.
     withPlace c (faceOf (m .number j) (m .orders j) (m .left .rec j) (m .left .settled j) (m .left .waiting j) (m .left .work j))
     (λ a. m .place a j)

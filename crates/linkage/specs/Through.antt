@@ -9,7 +9,7 @@ use Rattle.firmware.specs.Face.{decodeRecord, faced, handed, gotIn}
 use Rattle.history.specs.Call.{Call}
 use Rattle.history.specs.Dispatch.{dispatch}
 use Rattle.history.specs.History.{begun, after}
-use Rattle.history.specs.Linked.{faceAfter, Passable, AllPassable}
+use Rattle.history.specs.Linked.{faceAfter, AllPassable}
 use Rattle.linkage.specs.Step.{Stepped, withPlace, stepped}
 
 -- the store's own call, as C would see it
@@ -21,5 +21,5 @@ stored c st = withPlace c (handed (dispatch c st)) (λ a. gotIn a st)
 abbrev pub Through : Type 0
 Through =
     (r s w k : List ℕ) → faced formatCall r s w k .number ≡ 0
-    → (cs : List Call) (c : Call) → AllPassable cs → Passable c
+    → (cs : List Call) (c : Call) → AllPassable cs
     → stepped c (faceAfter cs (faced formatCall r s w k)) ≡ stored c (after cs (begun (stateOf (decodeRecord r) s w k)) .store)
