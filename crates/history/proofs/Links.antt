@@ -23,7 +23,7 @@ use Rattle.store.specs.Saves.{carried, applies, synced, innerOrders, syncing, s
 use Rattle.store.proofs.Causes.{sizes-facts}
 use Rattle.firmware.specs.Face.{recordBytes, decodeRecord, Face, faced, handed, Got, gotIn, got}
 use Rattle.firmware.proofs.Records.{length-encode, Fitting, decode-encode}
-use Rattle.firmware.proofs.Faces.{faced-outcome, got-place}
+use Rattle.firmware.proofs.Faces.{faced-length, faced-outcome, got-place}
 use Rattle.history.specs.Call.{Call, requestOf, power, put, get, commit, abandon, sync, apply, recover, cut}
 use Rattle.history.specs.Plain.{Plain, Done, refusal, served, plainStep, plainSync, plainApply, plainRecover, plainCut}
 use Rattle.history.specs.Dispatch.{dispatch}
@@ -65,7 +65,7 @@ recover-power d = go (d .F) refl (decLe 2 (d .power))
 
 served-power : (c : Call) (t : Bool) (d : Plain) → Passable c → d .power < 2 ^ 32 → served c t d .plain .power < 2 ^ 32
 unfolding plainCut
-served-power (power k) t d p h = p
+served-power (power k) t d p h = p k refl
 served-power (put a b) t d p h = h
 served-power (get a) t d p h = h
 served-power commit t d p h = h
@@ -268,19 +268,31 @@ unfolding faceAfter after
 linking-after [] f w p m = m
 linking-after (c ∷ cs) f w p m = linking-after cs (faceNext c f) (next c w) (p .1) (linking-next c f w (p .0) m)
 
+-- a format through C answers 0 only for a record of the right length, and where the store does
+module _ (r s w k : List ℕ) (z : faced formatCall r s w k .number ≡ 0) where
+  right-length : length r ≡ recordBytes
+  right-length = go (ℕ-discrete (length r) recordBytes)
+    where
+      go : Dec (length r ≡ recordBytes) → length r ≡ recordBytes
+      go (yes e) = e
+      go (no h) = let one : _≡_ {A = ℕ} 1 0 = ap (λ (f : Face). f .number) (faced-length formatCall r s w k h) ∙ z in absurd (omega arith)
+
+  formats : formatCall (stateOf (decodeRecord r) s w k) .answer ≡ 0
+  formats = ap (λ (f : Face). f .number) (faced-outcome formatCall r s w k right-length) ∙ z
+
 pub linked : Linked
 unfolding begun formatted
-linked r s w k l h cs c ps =
+linked r s w k z cs c ps =
     let m = linking-after cs (faced formatCall r s w k) (begun (stateOf (decodeRecord r) s w k)) ps start-linking in
     links c (faceAfter cs (faced formatCall r s w k)) (after cs (begun (stateOf (decodeRecord r) s w k)) .store) (m .holds)
     (fits (after cs (begun (stateOf (decodeRecord r) s w k)) .store) (after cs (begun (stateOf (decodeRecord r) s w k)) .ledger) (m .safe) (m .bounded))
   where
     fresh-bounded : Bounded (formatCall (stateOf (decodeRecord r) s w k) .state)
-    fresh-bounded = rw (formatted-now (stateOf (decodeRecord r) s w k) h) (record { power = lit< tt; sum = lit< tt })
+    fresh-bounded = rw (formatted-now (stateOf (decodeRecord r) s w k) (formats r s w k z)) (record { power = lit< tt; sum = lit< tt })
 
     start-linking : Linking (faced formatCall r s w k) (begun (stateOf (decodeRecord r) s w k))
     start-linking = record {
-      holds = handed-holds (formatCall (stateOf (decodeRecord r) s w k)) (faced formatCall r s w k) (sym (faced-outcome formatCall r s w k l));
-      safe = begun-safe (stateOf (decodeRecord r) s w k) h;
+      holds = handed-holds (formatCall (stateOf (decodeRecord r) s w k)) (faced formatCall r s w k) (sym (faced-outcome formatCall r s w k (right-length r s w k z)));
+      safe = begun-safe (stateOf (decodeRecord r) s w k) (formats r s w k z);
       bounded = fresh-bounded;
     }

@@ -40,7 +40,7 @@ use Rattle.store.specs.Saves.{carried, groupOf, applies, synced, innerOrders, s
 use Rattle.store.proofs.Calls.{call-refused, call-done}
 use Rattle.store.proofs.Causes.{sizes-facts}
 use Rattle.history.specs.Dispatch.{called}
-use Rattle.history.specs.Refusals.{ordersOf, untouched, appliedFirst, Gone, Answers}
+use Rattle.history.specs.Refusals.{ordersOf, untouched, innerDone, Gone, Answers}
 use Rattle.history.proofs.Batches.{batch, Fit, batch-short, batch-done, append-fit}
 use Rattle.history.proofs.WorkLists.{data-short}
 use Rattle.history.proofs.CauseLaws.{idle, record-facts, cause-passes, IsOpen, cause-opened}
@@ -179,6 +179,19 @@ module _ (st : State) (o : IsOpen st) where
 
 -- ---- every call, by its cause
 
+-- a sync whose apply was done
+abbrev appliedFirst : Request → State → Bool
+appliedFirst format st = false
+appliedFirst (power k) st = false
+appliedFirst (put a b) st = false
+appliedFirst (get a) st = false
+appliedFirst commit st = false
+appliedFirst abandon st = false
+appliedFirst sync st = innerDone st
+appliedFirst apply st = false
+appliedFirst recover st = false
+appliedFirst (cut ms) st = false
+
 -- the record that a call cut short leaves, its mode and its queue apart
 abbrev left : Request → State → Record
 left q st = cond (appliedFirst q st) (withLog 0 start (st .rec)) (st .rec)
@@ -267,61 +280,74 @@ same-both : {A : Type 0} (t : Bool) (a : A) → cond t a a ≡ a
 same-both true a = refl
 same-both false a = refl
 
+applied-not : (q : Request) (st : State) → (q ≡ sync → innerDone st ≡ false) → appliedFirst q st ≡ false
+applied-not format st h = refl
+applied-not (power k) st h = refl
+applied-not (put a b) st h = refl
+applied-not (get a) st h = refl
+applied-not commit st h = refl
+applied-not abandon st h = refl
+applied-not sync st h = h refl
+applied-not apply st h = refl
+applied-not recover st h = refl
+applied-not (cut ms) st h = refl
+
 -- an apply takes three orders at the least
-left-powerless : (q : Request) (st : State) → st .rec .power ≡ 0 → appliedFirst q st ≡ false
-left-powerless format st e = refl
-left-powerless (power k) st e = refl
-left-powerless (put a b) st e = refl
-left-powerless (get a) st e = refl
-left-powerless commit st e = refl
-left-powerless abandon st e = refl
-left-powerless sync st e = go (applies st) (lt-leb (st .rec .logged + 3) (st .rec .power) (omega arith))
+inner-powerless : (st : State) → st .rec .power ≡ 0 → innerDone st ≡ false
+inner-powerless st e = go (applies st) (lt-leb (st .rec .logged + 3) (st .rec .power) (omega arith))
   where
     go : (t : Bool) → leb (st .rec .logged + 3) (st .rec .power) ≡ false → t && leb (st .rec .logged + 3) (st .rec .power) ≡ false
     go true h = h
     go false h = refl
-left-powerless apply st e = refl
-left-powerless recover st e = refl
-left-powerless (cut ms) st e = refl
 
-cut-short : (q : Request) (st : State) (done : Record)
+cut-short : (q : Request) (st : State)
     → called q st ≡ record { answer = 4; orders = st .rec .power; state = withCard (run (ordersOf q st) (cardIn st)) (withRecord (withMode down (left q st)) st) }
     → st .rec .power < length (ordersOf q st) → Batched (cardIn st) (ordersOf q st) → Gone q st
-cut-short q st done short less batched = record {
+cut-short q st short less batched = record {
   answer = ap (λ (o : Outcome). o .answer) short;
   orders = ap (λ (o : Outcome). o .orders) short;
   down-now = ap (λ (o : Outcome). o .state .rec .mode) short;
   N = ap (λ (o : Outcome). o .state .rec .blocks) short ∙ left-is q st (λ r. r .blocks) (st .rec .blocks) refl ∙ same-both (appliedFirst q st) (st .rec .blocks);
-  n = ap (λ (o : Outcome). o .state .rec .logged) short ∙ left-is q st (λ r. r .logged) 0 refl;
-  sum = ap (λ (o : Outcome). o .state .rec .sum) short ∙ left-is q st (λ r. r .sum) start refl;
+  emptied = λ e d. let t : appliedFirst q st ≡ true = ap (λ (x : Request). appliedFirst x st) e ∙ d in (
+    ap (λ (o : Outcome). o .state .rec .logged) short ∙ left-is q st (λ r. r .logged) 0 refl ∙ ap (λ (b : Bool). cond b 0 (st .rec .logged)) t,
+    ap (λ (o : Outcome). o .state .rec .sum) short ∙ left-is q st (λ r. r .sum) start refl ∙ ap (λ (b : Bool). cond b start (st .rec .sum)) t,
+  );
+  kept = λ d. let t : appliedFirst q st ≡ false = applied-not q st d in (
+    ap (λ (o : Outcome). o .state .rec .logged) short ∙ left-is q st (λ r. r .logged) 0 refl ∙ ap (λ (b : Bool). cond b 0 (st .rec .logged)) t,
+    ap (λ (o : Outcome). o .state .rec .sum) short ∙ left-is q st (λ r. r .sum) start refl ∙ ap (λ (b : Bool). cond b start (st .rec .sum)) t,
+  );
   power = ap (λ (o : Outcome). o .state .rec .power) short ∙ run-power (ordersOf q st) (cardIn st) ∙ (omega arith);
   work = ap (λ (o : Outcome). o .state .work) short;
   open-count = ap (λ (o : Outcome). o .state .rec .opened) short ∙ left-is q st (λ r. r .opened) (st .rec .opened) refl ∙ same-both (appliedFirst q st) (st .rec .opened);
   group-count = ap (λ (o : Outcome). o .state .rec .grouped) short ∙ left-is q st (λ r. r .grouped) (st .rec .grouped) refl ∙ same-both (appliedFirst q st) (st .rec .grouped);
+  card = ap (λ (o : Outcome). cardIn (o .state)) short;
   blocks = λ x u. ap (λ (o : Outcome). blockAt (o .state .settled) x) short ∙ batched-keep x (ordersOf q st) (cardIn st) batched u;
   powerless = λ z.
       ap (λ (o : Outcome). o .state) short
       ∙ ap (λ (c : Card). withCard c (withRecord (withMode down (left q st)) st)) (run-dead (ordersOf q st) (cardIn st) z)
-      ∙ ap (λ (t : Bool). withCard (cardIn st) (withRecord (withMode down (cond t (withLog 0 start (st .rec)) (st .rec))) st)) (left-powerless q st z);
+      ∙ ap (λ (t : Bool). withCard (cardIn st) (withRecord (withMode down (cond t (withLog 0 start (st .rec)) (st .rec))) st)) (applied-not q st (λ e. inner-powerless st z));
 }
 
 answers : (q : Request) (st : State) → Form q st → Answers q st
 answers q st (quiet now call none) = record {
   refuses = λ h. call ∙ sym (call-refused (cause q st) _ st (finished now) refl h);
   gone = λ e h. absurd (omega (arith, leb-false (length (ordersOf q st)) (st .rec .power) h, ap length none));
-  serves = λ e h. ap (λ (o : Outcome). o .answer) (call ∙ sym (call-done (cause q st) _ st (finished now) refl e));
+  serves = λ e h.
+      let p : called q st ≡ finished now = call ∙ sym (call-done (cause q st) _ st (finished now) refl e) in
+      (ap (λ (o : Outcome). o .answer) p, ap (λ (o : Outcome). o .orders) p ∙ sym (ap length none));
   two-suffice = recover-two st;
 }
 answers q st (gives done call batched) = record {
   refuses = λ h. call ∙ sym (call-refused (cause q st) _ st (carried (ordersOf q st) done (left q st) st) refl h);
   gone = λ e h.
-      cut-short q st done
+      cut-short q st
       (call ∙ sym (call-done (cause q st) _ st (carried (ordersOf q st) done (left q st) st) refl e) ∙ carried-short (ordersOf q st) done (left q st) st (leb-false _ _ h))
       (leb-false _ _ h)
       (batched e);
   serves = λ e h.
-      ap (λ (o : Outcome). o .answer)
-      (call ∙ sym (call-done (cause q st) _ st (carried (ordersOf q st) done (left q st) st) refl e) ∙ carried-done (ordersOf q st) done (left q st) st (leb-true _ _ h));
+      let p : called q st ≡ record { answer = 0; orders = length (ordersOf q st); state = withCard (run (ordersOf q st) (cardIn st)) (withRecord done st) } =
+      (call ∙ sym (call-done (cause q st) _ st (carried (ordersOf q st) done (left q st) st) refl e) ∙ carried-done (ordersOf q st) done (left q st) st (leb-true _ _ h)) in
+      (ap (λ (o : Outcome). o .answer) p, ap (λ (o : Outcome). o .orders) p);
   two-suffice = recover-two st;
 }
 

@@ -29,9 +29,10 @@ use Rattle.script.specs.Commands.{parse}
 use Rattle.script.specs.Answers.{answerLine, decimal, digits}
 use Rattle.script.specs.Performs.{perform, answered}
 use Rattle.script.specs.Transcript.{linesOf, reply, printed, said, beginning, transcript}
+use Rattle.history.specs.Call.{requestOf}
 use Rattle.history.specs.Dispatch.{called}
 use Rattle.history.specs.History.{World, begun, next, after}
-use Rattle.history.specs.Scripts.{Says, nothing, asks, saysOf, says, lineOf, leftBy, ByCall, leftAfter, NoFormat, callsBy, told, ScriptsAreHistories}
+use Rattle.history.specs.Scripts.{Says, nothing, begins, asks, saysOf, says, lineOf, leftBy, ByCall, leftAfter, worldBy, told, ScriptsAreHistories}
 
 -- ---- a line
 
@@ -148,7 +149,8 @@ sizes-kept st st′ h = rw (h .settled, h .waiting, h .work)
 
 line-sizes : (s : Says) (st : State) → wrongSizes (leftBy s st) ≡ wrongSizes st
 line-sizes nothing st = refl
-line-sizes (asks q) st = sizes-kept st (called q st .state) (called-sized q st)
+line-sizes begins st = sizes-kept st (called Request.format st .state) (called-sized Request.format st)
+line-sizes (asks c) st = sizes-kept st (called (requestOf c) st .state) (called-sized (requestOf c) st)
 
 after-sizes : (ls : List (List ℕ)) (st : State) → wrongSizes (leftAfter ls st) ≡ wrongSizes st
 unfolding leftAfter
@@ -174,27 +176,19 @@ unfolding said leftAfter
 said-append [] ms st = refl
 said-append (l ∷ ls) ms st = ap (λ (x : List ℕ). printed l st ++ x) (said-append ls ms (reply l st .state)) ∙ sym (append-assoc (printed l st) (said ls (reply l st .state)) _)
 
-called-store : (c : Command) (l : List ℕ) → c ≢ Format → (w : World) → leftBy (saysOf c l) (w .store) ≡ after (callsBy (saysOf c l)) w .store
-unfolding after next
-called-store Format l n w = absurd (n refl)
-called-store (Power k) l n w = refl
-called-store (Put a b) l n w = refl
-called-store (Get a) l n w = refl
-called-store Commit l n w = refl
-called-store Abandon l n w = refl
-called-store Sync l n w = refl
-called-store Apply l n w = refl
-called-store Recover l n w = refl
-called-store Cut l n w = refl
-called-store Bad l n w = refl
+called-store : (s : Says) (w : World) → leftBy s (w .store) ≡ worldBy s w .store
+unfolding begun next
+called-store nothing w = refl
+called-store begins w = refl
+called-store (asks c) w = refl
 
-said-told : (ms : List (List ℕ)) (w : World) → NoFormat ms → said ms (w .store) ≡ told ms w
+said-told : (ms : List (List ℕ)) (w : World) → said ms (w .store) ≡ told ms w
 unfolding said told
-said-told [] w n = refl
-said-told (l ∷ ls) w n =
+said-told [] w = refl
+said-told (l ∷ ls) w =
     ap (λ (x : List ℕ). x ++ said ls (reply l (w .store) .state)) (by-call l (w .store) .prints)
-    ∙ ap (λ (st : State). lineOf (says l) (parse l) (w .store) ++ said ls st) (by-call l (w .store) .leaves ∙ called-store (parse l) l (n .0) w)
-    ∙ ap (λ (x : List ℕ). lineOf (says l) (parse l) (w .store) ++ x) (said-told ls (after (callsBy (says l)) w) (n .1))
+    ∙ ap (λ (st : State). lineOf (says l) (parse l) (w .store) ++ said ls st) (by-call l (w .store) .leaves ∙ called-store (says l) w)
+    ∙ ap (λ (x : List ℕ). lineOf (says l) (parse l) (w .store) ++ x) (said-told ls (worldBy (says l) w))
 
 -- ---- the theorem
 
@@ -209,13 +203,13 @@ pub scripts : ScriptsAreHistories
 unfolding transcript said
 scripts ls ms = record {
   formats = done;
-  prints = λ f p n input e.
+  prints = λ f p input e.
       let st = leftAfter ls beginning in
       ap (λ (k : List (List ℕ)). said k beginning) e
       ∙ said-append ls (f ∷ ms) beginning
       ∙ ap (λ (x : List ℕ). said ls beginning ++ (x ++ said ms (reply f st .state))) (format-line f st p done)
       ∙ ap (λ (s : State). said ls beginning ++ (answerLine Format 0 0 ++ said ms s)) (format-left f st p)
-      ∙ ap (λ (x : List ℕ). said ls beginning ++ (answerLine Format 0 0 ++ x)) (said-told ms (begun st) n);
+      ∙ ap (λ (x : List ℕ). said ls beginning ++ (answerLine Format 0 0 ++ x)) (said-told ms (begun st));
 }
   where
     done : formatCall (leftAfter ls beginning) .answer ≡ 0

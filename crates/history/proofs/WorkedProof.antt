@@ -1,5 +1,5 @@
 -- Document 01's two worked scripts. The statement stands in specs/Worked.antt.
-use Prim.Native.Nat.{ℕ, _+_, _/_}
+use Prim.Native.Nat.{ℕ, _+_, _/_, _^_, _<_}
 use mathlib.Core.Path.{_≡_, refl, ap, ap₂, sym, _∙_}
 use mathlib.Core.Logic.{_⊎_}
 use mathlib.Core.Bool.{Bool, true, false, cond, not, _&&_}
@@ -30,8 +30,9 @@ use Rattle.history.specs.Dispatch.{dispatch}
 use Rattle.history.specs.Ledger.{sameLog, collides}
 use Rattle.history.specs.History.{World, begun, next, after, storeNext, ledgerNext, foundWritten, acceptedCut, exception}
 use Rattle.history.specs.Statements as S
-use Rattle.history.specs.Statements.{EndsFinished, noneFinished, shortSync, allOnes, Fate, quiet, decided, Standing, known, undecided, observe, fate, outcome}
-use Rattle.history.specs.Worked.{sevens, nines, at40, filed, crashed, metByRecover, answers, Script, Worked}
+use Rattle.history.specs.Statements.{noCut, EndsFinished, noneFinished, shortSync, allOnes, Fate, quiet, decided, Standing, known, undecided, observe, fate, outcome}
+use Rattle.history.specs.Linked.{AllPassable}
+use Rattle.history.specs.Worked.{halted, sevens, nines, at40, filed, crashed, metByRecover, answers, Script, Worked}
 use Rattle.history.proofs.Disks.{slotE, logD}
 use Rattle.history.proofs.Leads.{foundIn}
 use Rattle.history.proofs.Relation.{cutSettled, cutWritten}
@@ -335,6 +336,15 @@ module _ (st : State) (f : formatCall st .answer ≡ 0) (size : blocksIn (st .se
     is-40 : isData (blocksIn (st .settled)) 40 ≡ true
     is-40 = ap (λ (N : ℕ). isData N 40) size
 
+    passable : AllPassable (filed ++ crashed ms)
+    passable =
+        let none : (k : ℕ) → _≡_ {A = ℕ} 0 1 → k < 2 ^ 32 = λ k z. omega arith in
+        (λ k e. none k cc, (λ k e. none k cc, (λ k e. none k cc, (λ k e. none k cc, (λ k e. none k cc, (λ k e. let z : 3 ≡ k = cc in omega arith, (λ k e. none k cc, (λ k e. none k cc, (λ k e. let z : 100 ≡ k = cc in omega arith, tt)))))))))
+
+    last-cut : noCut (power 100 ∷ []) (next (cut ms) (after halted w₃)) ≡ true
+    unfolding noCut acceptedCut
+    last-cut = refl
+
     script : (new all : Bool) (b : List ℕ) → eqb (getD ms 2 0) 1 && same ≡ new → allOnes ms ≡ all → outcome (decided (at40 nines ∷ []) new all) old 40 ≡ b → Script st ms same new all k b
     unfolding after answers next
     script new all b p q e =
@@ -348,6 +358,8 @@ module _ (st : State) (f : formatCall st .answer ≡ 0) (size : blocksIn (st .se
           accepted = accepted w₃ all-filed ms (c .fit);
           found = c .found;
           usual = c .usual;
+          passed = passable;
+          last = last-cut;
           clean = all-clean w₃ all-filed ms same k c;
           answer = t₇ w₃ all-filed ms same k c .answer;
           orders = t₇ w₃ all-filed ms same k c .orders;

@@ -30,15 +30,7 @@ faceAfter (c ∷ cs) f = faceAfter cs (faceNext c f)
 
 -- a count that C can pass is a 4-byte number
 abbrev pub Passable : Call → Type 0
-Passable (power k) = k < 2 ^ 32
-Passable (put a b) = Unit {0}
-Passable (get a) = Unit {0}
-Passable commit = Unit {0}
-Passable abandon = Unit {0}
-Passable sync = Unit {0}
-Passable apply = Unit {0}
-Passable recover = Unit {0}
-Passable (cut ms) = Unit {0}
+Passable c = (k : ℕ) → c ≡ power k → k < 2 ^ 32
 
 abbrev pub AllPassable : List Call → Type 0
 AllPassable [] = Unit {0}
@@ -61,6 +53,5 @@ pub record Links (c : Call) (f : Face) (st : State) : Type 0 where
 -- at every call of every list, from what a format through C that answers 0 left
 abbrev pub Linked : Type 0
 Linked =
-    (r s w k : List ℕ) → length r ≡ recordBytes → formatCall (stateOf (decodeRecord r) s w k) .answer ≡ 0
-    → (cs : List Call) (c : Call) → AllPassable cs
+    (r s w k : List ℕ) → faced formatCall r s w k .number ≡ 0 → (cs : List Call) (c : Call) → AllPassable cs
     → Links c (faceAfter cs (faced formatCall r s w k)) (after cs (begun (stateOf (decodeRecord r) s w k)) .store)

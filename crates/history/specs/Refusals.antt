@@ -2,24 +2,24 @@
 use Prim.Native.Nat.{ℕ, _+_, _≤_}
 use mathlib.Core.Path.{_≡_}
 use mathlib.Core.Logic.{_≢_, _⊎_}
-use mathlib.Core.Bool.{Bool, true, false, cond, not, _&&_}
+use mathlib.Core.Bool.{Bool, true, false, not, _&&_}
 use mathlib.Core.List.{List, [], _∷_}
 use denote.Ref.{RefT}
 use lib.Dec.{eqb, leb}
 use lib.ListN.{length, take}
 use Rattle.cells.specs.Little.{Bytes}
 use Rattle.fnv.specs.Fnv.{start}
-use Rattle.card.specs.Card.{Order, write, flush, blockAt}
+use Rattle.card.specs.Card.{Order, write, flush, blockAt, run}
 use Rattle.journal.specs.Layout.{wrongSize}
 use Rattle.journal.specs.Orders.{applyOrders, syncOrders}
 use Rattle.journal.specs.Choice.{choose, choiceNumber, recoverOrders}
 use Rattle.store.specs.Request as Request
-use Rattle.store.specs.State.{State, down, withMode, withRecord}
+use Rattle.store.specs.State.{State, down, withMode, withRecord, cardIn}
 use Rattle.store.specs.Held.{stateOf}
 use Rattle.store.specs.Causes.{cause}
 use Rattle.store.specs.Simple.{refused}
 use Rattle.store.specs.Get.{getPlace, partAt}
-use Rattle.store.specs.Saves.{groupOf, applies, recoverCall}
+use Rattle.store.specs.Saves.{groupOf, applies}
 use Rattle.inspect.specs.Reading.{chosen, inspection}
 use Rattle.inspect.specs.Tally.{tallyOf}
 use Rattle.firmware.specs.Face.{recordBytes, decodeRecord, faceOf, faced, gotOf, got, tallied, comparedOf, compared}
@@ -48,32 +48,25 @@ untouched x (write e ∷ os) = not (eqb x (e .address)) && untouched x os
 untouched x (flush ∷ os) = untouched x os
 
 -- "a sync's apply", and "all that apply's orders happened": n+3 of them
-abbrev pub appliedFirst : Request.Request → State → Bool
-appliedFirst Request.format st = false
-appliedFirst (Request.power k) st = false
-appliedFirst (Request.put a b) st = false
-appliedFirst (Request.get a) st = false
-appliedFirst Request.commit st = false
-appliedFirst Request.abandon st = false
-appliedFirst Request.sync st = applies st && leb (st .rec .logged + 3) (st .rec .power)
-appliedFirst Request.apply st = false
-appliedFirst Request.recover st = false
-appliedFirst (Request.cut ms) st = false
+abbrev pub innerDone : State → Bool
+innerDone st = applies st && leb (st .rec .logged + 3) (st .rec .power)
 
 -- "power gone in the call": 4, the power there was as orders. "the record is down, its n and sum as before the call, or as a sync's
--- apply left them if all that apply's orders happened"; N stays, and the power is gone. Left are "group, open, and each block no order
--- touched", of the orders carried out: with no power every lent byte, and the record but for its mode
+-- apply left them if all that apply's orders happened"; N stays, and the power is gone. The card is what the orders carried out made of
+-- it. Left are "group, open, and each block no order touched", of these: with no power every lent byte, and the record but for its mode
 pub record Gone (q : Request.Request) (st : State) : Type 0 where
   pub answer : called q st .answer ≡ 4
   pub orders : called q st .orders ≡ st .rec .power
   pub down-now : called q st .state .rec .mode ≡ down
   pub N : called q st .state .rec .blocks ≡ st .rec .blocks
-  pub n : called q st .state .rec .logged ≡ cond (appliedFirst q st) 0 (st .rec .logged)
-  pub sum : called q st .state .rec .sum ≡ cond (appliedFirst q st) start (st .rec .sum)
+  pub emptied : q ≡ Request.sync → innerDone st ≡ true → (called q st .state .rec .logged ≡ 0) × (called q st .state .rec .sum ≡ start)
+  pub kept : (q ≡ Request.sync → innerDone st ≡ false)
+      → (called q st .state .rec .logged ≡ st .rec .logged) × (called q st .state .rec .sum ≡ st .rec .sum)
   pub power : called q st .state .rec .power ≡ 0
   pub work : called q st .state .work ≡ st .work
   pub open-count : called q st .state .rec .opened ≡ st .rec .opened
   pub group-count : called q st .state .rec .grouped ≡ st .rec .grouped
+  pub card : cardIn (called q st .state) ≡ run (ordersOf q st) (cardIn st)
   pub blocks : (x : ℕ) → untouched x (take (st .rec .power) (ordersOf q st)) ≡ true → blockAt (called q st .state .settled) x ≡ blockAt (st .settled) x
   pub powerless : st .rec .power ≡ 0 → called q st .state ≡ withRecord (withMode down (st .rec)) st
 
@@ -81,8 +74,8 @@ pub record Gone (q : Request.Request) (st : State) : Type 0 where
 pub record Answers (q : Request.Request) (st : State) : Type 0 where
   pub refuses : cause q st ≢ 0 → called q st ≡ refused (cause q st) st
   pub gone : cause q st ≡ 0 → leb (length (ordersOf q st)) (st .rec .power) ≡ false → Gone q st
-  pub serves : cause q st ≡ 0 → leb (length (ordersOf q st)) (st .rec .power) ≡ true → called q st .answer ≡ 0
-  pub two-suffice : recoverCall st .orders ≤ 2
+  pub serves : cause q st ≡ 0 → leb (length (ordersOf q st)) (st .rec .power) ≡ true → (called q st .answer ≡ 0) × (called q st .orders ≡ length (ordersOf q st))
+  pub two-suffice : called Request.recover st .orders ≤ 2
 
 -- "A refused get hands out a part of no bytes": the part that get promises, of whatever slices
 pub record NoPart (a : ℕ) (st : State) : Type 0 where

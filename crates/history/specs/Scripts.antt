@@ -18,45 +18,45 @@ use Rattle.script.specs.Answers.{answerLine}
 use Rattle.script.specs.Performs.{marks}
 use Rattle.script.specs.Transcript.{linesOf, reply, printed, said, beginning, transcript}
 use Rattle.history.specs.Call.{Call, power, put, get, commit, abandon, sync, apply, recover, cut}
-use Rattle.history.specs.Dispatch.{called, blockOf}
-use Rattle.history.specs.History.{World, begun, after}
+use Rattle.history.specs.Dispatch.{called, dispatch, blockOf}
+use Rattle.history.specs.History.{World, begun, next}
 
 -- ---- a line
 
--- the call that a line asks for, or none
+-- what a line says: nothing that is understood, a format, which begins a list of calls, or a call of one
 pub data Says : Type 0 where
   nothing : Says
-  asks : Request.Request → Says
+  begins : Says
+  asks : Call → Says
 
 -- "put: address, byte filling the block; get: address; power: count; cut: marks"
 abbrev pub saysOf : Command → List ℕ → Says
-saysOf Format l = asks Request.format
-saysOf (Power k) l = asks (Request.power k)
-saysOf (Put a b) l = asks (Request.put a (replicate blockBytes b))
-saysOf (Get a) l = asks (Request.get a)
-saysOf Commit l = asks Request.commit
-saysOf Abandon l = asks Request.abandon
-saysOf Sync l = asks Request.sync
-saysOf Apply l = asks Request.apply
-saysOf Recover l = asks Request.recover
-saysOf Cut l = asks (Request.cut (marks l))
+saysOf Format l = begins
+saysOf (Power k) l = asks (power k)
+saysOf (Put a b) l = asks (put a (replicate blockBytes b))
+saysOf (Get a) l = asks (get a)
+saysOf Commit l = asks commit
+saysOf Abandon l = asks abandon
+saysOf Sync l = asks sync
+saysOf Apply l = asks apply
+saysOf Recover l = asks recover
+saysOf Cut l = asks (cut (marks l))
 saysOf Bad l = nothing
 
 abbrev pub says : List ℕ → Says
 says l = saysOf (parse l) l
 
 -- "a third number: orders for sync, apply, recover; first byte for a get whose answer is 0; else 0"
-abbrev pub thirdOf : Request.Request → State → ℕ
-thirdOf Request.format st = 0
-thirdOf (Request.power k) st = 0
-thirdOf (Request.put a b) st = 0
-thirdOf (Request.get a) st = cond (eqb (called (Request.get a) st .answer) 0) (getD (blockOf a st) 0 0) 0
-thirdOf Request.commit st = 0
-thirdOf Request.abandon st = 0
-thirdOf Request.sync st = called Request.sync st .orders
-thirdOf Request.apply st = called Request.apply st .orders
-thirdOf Request.recover st = called Request.recover st .orders
-thirdOf (Request.cut ms) st = 0
+abbrev pub thirdOf : Call → State → ℕ
+thirdOf (power k) st = 0
+thirdOf (put a b) st = 0
+thirdOf (get a) st = cond (eqb (dispatch (get a) st .answer) 0) (getD (blockOf a st) 0 0) 0
+thirdOf commit st = 0
+thirdOf abandon st = 0
+thirdOf sync st = dispatch sync st .orders
+thirdOf apply st = dispatch apply st .orders
+thirdOf recover st = dispatch recover st .orders
+thirdOf (cut ms) st = 0
 
 -- "bad", 11, 0, parted by tabs and ended by LF
 abbrev pub badLine : List ℕ
@@ -64,11 +64,13 @@ badLine = 98 ∷ 97 ∷ 100 ∷ 9 ∷ 49 ∷ 49 ∷ 9 ∷ 48 ∷ 10 ∷ []
 
 abbrev pub lineOf : Says → Command → State → List ℕ
 lineOf nothing c st = badLine
-lineOf (asks q) c st = answerLine c (called q st .answer) (thirdOf q st)
+lineOf begins c st = answerLine c (called Request.format st .answer) 0
+lineOf (asks q) c st = answerLine c (dispatch q st .answer) (thirdOf q st)
 
 abbrev pub leftBy : Says → State → State
 leftBy nothing st = st
-leftBy (asks q) st = called q st .state
+leftBy begins st = called Request.format st .state
+leftBy (asks q) st = dispatch q st .state
 
 -- "script line not understood": 11, printed, and everything is left; every other line is its call
 pub record ByCall (l : List ℕ) (st : State) : Type 0 where
@@ -82,35 +84,22 @@ unfoldable pub leftAfter : List (List ℕ) → State → State
 leftAfter [] st = st
 leftAfter (l ∷ ls) st = leftAfter ls (reply l st .state)
 
--- no line of these is a format
-abbrev pub NoFormat : List (List ℕ) → Type 0
-NoFormat [] = Unit {0}
-NoFormat (l ∷ ls) = (parse l ≢ Format) × NoFormat ls
+-- a line along a list of calls: a format begins another
+abbrev pub worldBy : Says → World → World
+worldBy nothing w = w
+worldBy begins w = begun (w .store)
+worldBy (asks c) w = next c w
 
--- the calls of a list for which a line stands: one, or none if it is not understood
-abbrev pub callsBy : Says → List Call
-callsBy nothing = []
-callsBy (asks Request.format) = []
-callsBy (asks (Request.power k)) = power k ∷ []
-callsBy (asks (Request.put a b)) = put a b ∷ []
-callsBy (asks (Request.get a)) = get a ∷ []
-callsBy (asks Request.commit) = commit ∷ []
-callsBy (asks Request.abandon) = abandon ∷ []
-callsBy (asks Request.sync) = sync ∷ []
-callsBy (asks Request.apply) = apply ∷ []
-callsBy (asks Request.recover) = recover ∷ []
-callsBy (asks (Request.cut ms)) = cut ms ∷ []
-
--- what is printed for lines along a list of calls
+-- what lines print so
 unfoldable pub told : List (List ℕ) → World → List ℕ
 told [] w = []
-told (l ∷ ls) w = lineOf (says l) (parse l) (w .store) ++ told ls (after (callsBy (says l)) w)
+told (l ∷ ls) w = lineOf (says l) (parse l) (w .store) ++ told ls (worldBy (says l) w)
 
--- For every input: a format always answers 0, and what the lines behind it print, up to the next format, is what their calls come to
--- along the list of calls that begins with it
+-- For every input: a format always answers 0, and what the lines behind it print is what their calls come to along the list of calls
+-- that begins with it, up to the next format, which begins another
 pub record ScriptRun (ls ms : List (List ℕ)) : Type 0 where
   pub formats : formatCall (leftAfter ls beginning) .answer ≡ 0
-  pub prints : (f : List ℕ) → parse f ≡ Format → NoFormat ms → (input : List ℕ) → linesOf input ≡ ls ++ (f ∷ ms)
+  pub prints : (f : List ℕ) → parse f ≡ Format → (input : List ℕ) → linesOf input ≡ ls ++ (f ∷ ms)
       → transcript input ≡ said ls beginning ++ (answerLine Format 0 0 ++ told ms (begun (leftAfter ls beginning)))
 
 abbrev pub ScriptsAreHistories : Type 0

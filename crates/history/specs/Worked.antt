@@ -12,7 +12,8 @@ use Rattle.store.specs.Simple.{formatCall}
 use Rattle.history.specs.Call.{Call, power, put, get, commit, sync, recover, cut}
 use Rattle.history.specs.Dispatch.{dispatch, blockOf}
 use Rattle.history.specs.History.{World, begun, next, after, storeNext, foundWritten, acceptedCut, exception}
-use Rattle.history.specs.Statements.{EndsFinished, noneFinished, quiet, decided, known, fate}
+use Rattle.history.specs.Linked.{AllPassable}
+use Rattle.history.specs.Statements.{EndsFinished, noneFinished, quiet, decided, known, fate, noCut}
 
 -- "byte filling the block"
 unfoldable pub sevens : List ℕ
@@ -48,7 +49,7 @@ unfoldable pub answers : List Call → World → List (ℕ × ℕ)
 answers [] w = []
 answers (c ∷ cs) w = (dispatch c (w .store) .answer, dispatch c (w .store) .orders) ∷ answers cs (next c w)
 
--- a script with the marks ms: its lines, k being the orders of "recover"; what crash atomicity asks of it; `same`, which the plain disk
+-- a script with the marks ms: its lines, k being the orders of "recover"; what crash atomicity, log read back and C ask of it; `same`, which the plain disk
 -- is fed at the cut; the fate of the sync cut short; and the block b that "get 40" hands out
 pub record Script (st : State) (ms : List ℕ) (same new all : Bool) (k : ℕ) (b : List ℕ) : Type 0 where
   pub lines : answers (filed ++ (crashed ms ++ (recover ∷ get 40 ∷ []))) (begun st)
@@ -58,6 +59,8 @@ pub record Script (st : State) (ms : List ℕ) (same new all : Bool) (k : ℕ) (
   pub accepted : acceptedCut (cut ms) (metByCut st) ≡ true
   pub found : foundWritten (cut ms) (metByCut st) ≡ same
   pub usual : exception (cut ms) (metByCut st) ≡ false
+  pub passed : AllPassable (filed ++ crashed ms)
+  pub last : noCut (power 100 ∷ []) (next (cut ms) (metByCut st)) ≡ true
   pub clean : metByRecover ms st .excepted ≡ false
   pub answer : dispatch recover (metByRecover ms st .store) .answer ≡ 0
   pub orders : dispatch recover (metByRecover ms st .store) .orders ≡ k
