@@ -37,6 +37,7 @@ use Rattle.store.specs.Simple.{refused, finished, unless, formatCall, powerCall
 use Rattle.store.specs.Commit.{commitCall}
 use Rattle.store.specs.Saves.{carried, groupOf, applies, innerOrders, syncCall, applyCall, recoverCall, cutCall}
 use Rattle.store.proofs.Calls.{call-refused, call-done}
+use Rattle.store.proofs.Saves.{apply-carried}
 use Rattle.store.proofs.Causes.{sizes-facts}
 use Rattle.history.specs.Refusals.{called, ordersOf, untouched, Answers}
 use Rattle.history.proofs.Batches.{batch, Fit, batch-short, batch-done, append-fit}
@@ -208,7 +209,7 @@ form sync st =
     let t = applies st in
     gives _ _ refl (either-log s t (λ r. r .opened) (st .rec) refl) (either-log s t (λ r. r .grouped) (st .rec) refl)
     (λ e. sync-batched st (cause-opened sync st refl refl e))
-form apply st = gives _ _ refl refl refl (λ e. apply-batched st (cause-opened apply st refl refl e))
+form apply st = gives _ _ (ap (λ (o : Outcome). unless (cause apply st) st o) (apply-carried st)) refl refl (λ e. apply-batched st (cause-opened apply st refl refl e))
 form recover st =
     gives _ _ refl refl refl
     (λ e.
