@@ -1,6 +1,5 @@
 // Flat bytes seen as cells of one size, little-endian numbers, entries, and the copier.
 pub mod bytes;
-pub mod cell;
 pub mod entry;
 pub mod number;
 
