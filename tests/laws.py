@@ -9,7 +9,7 @@ from pathlib import Path
 EXEMPT = ["crates/card/proofs/Cuts.antt"]
 
 ROOT = Path(__file__).resolve().parent.parent
-WORD = re.compile(r"[^\s(){}\[\],;.:\"⌜⌝]+")
+WORD = re.compile(r"[^\s(){}\[\],;:\"⌜⌝]+")
 USE = re.compile(r"^(?:ghost |unfoldable )?(pub )?use (\S+?)(?:\.\{(.*?)\}| as (\S+?))?;?$", re.M | re.S)
 NAMED = re.compile(r"^( *)((?:(?:abbrev|unfoldable|pub) )*)(record |data |ruleset )?([^\s:(){}=]+)(?= [:=({])")
 OURS = re.compile(r"Rattle·(\w+)(?:·specs|·proofs)?\.((?:specs|proofs)\..*)")
@@ -61,7 +61,7 @@ def blocks(text):
 
 def cited(text, here, names, modules, own):
     """The declarations that a text names."""
-    for m in re.finditer(r"[^\s(){}\[\],;:\"⌜⌝]+", text):
+    for m in WORD.finditer(text):
         word = m[0].rstrip(".")
         if word.startswith(".") or re.match(" = ?", text[m.end():]) and re.search(r"([{;\n]|\blet) *$", text[:m.start()]):
             continue
