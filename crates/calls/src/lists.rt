@@ -1,11 +1,21 @@
 // Cause 2, read when open: listed addresses, and an address twice. An entry that was never written has address 0.
 use crate::say;
+use crate::say::SETTLED;
+use cells::ADDRESS;
+use cells::BLOCK;
+use cells::ENTRY;
+use journal::SLOTS;
+use store::WAITING;
+use store::WORK;
 use store::record::Record;
 
+// Where the group starts in work memory.
+const GROUP: usize = ENTRY * SLOTS as usize;
+
 fn open_at(name: &[u8], address: u8, r: Record) {
-    let s = [0u8; 35840];
-    let w = [0u8; 17544];
-    let mut k = [0u8; 33024];
+    let s = [0u8; SETTLED];
+    let w = [0u8; WAITING];
+    let mut k = [0u8; WORK];
     k[0] = address;
     say::power(name, r, &s, &w, &k);
 }
@@ -24,15 +34,15 @@ pub(crate) fn strays() {
 
 // In open, in group, in the log.
 pub(crate) fn twice() {
-    let mut s = [0u8; 35840];
-    let w = [0u8; 17544];
-    let mut k = [0u8; 33024];
-    s[512] = 35;
-    s[516] = 35;
+    let mut s = [0u8; SETTLED];
+    let w = [0u8; WAITING];
+    let mut k = [0u8; WORK];
+    s[BLOCK] = 35;
+    s[BLOCK + ADDRESS] = 35;
     k[0] = 35;
-    k[516] = 35;
-    k[16512] = 34;
-    k[17028] = 34;
+    k[ENTRY] = 35;
+    k[GROUP] = 34;
+    k[GROUP + ENTRY] = 34;
     say::power(b"once in each", say::made(1, 70, 1, 1, 1, 0), &s, &w, &k);
     say::power(b"twice in open", say::made(1, 70, 2, 1, 0, 0), &s, &w, &k);
     say::power(b"twice in group", say::made(1, 70, 1, 2, 0, 0), &s, &w, &k);

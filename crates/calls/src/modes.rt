@@ -1,11 +1,14 @@
 // Causes 3 and 4, and which cause is first.
 use crate::say;
+use crate::say::SETTLED;
+use store::WAITING;
+use store::WORK;
 use store::record::Record;
 
 fn all(r: Record) {
-    let s = [0u8; 35840];
-    let w = [0u8; 17544];
-    let mut k = [0u8; 33024];
+    let s = [0u8; SETTLED];
+    let w = [0u8; WAITING];
+    let mut k = [0u8; WORK];
     say::put(b"put", r, &s, &w, &mut k, 34, 1);
     say::get(b"get", r, &s, &w, &k, 34);
     say::commit(b"commit", r, &s, &w, &mut k);
@@ -22,10 +25,10 @@ pub(crate) fn refused() {
 
 // Two causes at once.
 pub(crate) fn first() {
-    let s = [0u8; 35840];
-    let w = [0u8; 17544];
-    let k = [0u8; 33024];
-    let short = [0u8; 17543];
+    let s = [0u8; SETTLED];
+    let w = [0u8; WAITING];
+    let k = [0u8; WORK];
+    let short = [0u8; WAITING - 1];
     say::get_any(b"1 and 3", say::made(0, 70, 0, 0, 0, 0), &s, &short, &k, 34);
     say::get_any(b"1 and 2", say::made(1, 69, 0, 0, 0, 0), &s, &short, &k, 34);
     say::get(b"2 and 3", say::made(0, 69, 0, 0, 0, 0), &s, &w, &k, 34);

@@ -1,11 +1,15 @@
 // Cause 2: the record's mode and counts, and the waiting addresses. A power checks 1 and 2 alone.
 use crate::say;
+use crate::say::SETTLED;
+use cells::ENTRY;
+use store::WAITING;
+use store::WORK;
 use store::record::Record;
 
 fn tried(name: &[u8], r: Record) {
-    let s = [0u8; 35840];
-    let w = [0u8; 17544];
-    let k = [0u8; 33024];
+    let s = [0u8; SETTLED];
+    let w = [0u8; WAITING];
+    let k = [0u8; WORK];
     say::power(name, r, &s, &w, &k);
 }
 
@@ -29,13 +33,13 @@ pub(crate) fn counts() {
 
 // Waiting addresses are below N, and are read up to the waiting count.
 pub(crate) fn waiting() {
-    let s = [0u8; 35840];
-    let mut w = [0u8; 17544];
-    let k = [0u8; 33024];
+    let s = [0u8; SETTLED];
+    let mut w = [0u8; WAITING];
+    let k = [0u8; WORK];
     let r = say::made(2, 70, 0, 0, 0, 2);
-    w[516] = 69;
+    w[ENTRY] = 69;
     say::power(b"waiting for 69", r, &s, &w, &k);
-    w[516] = 70;
+    w[ENTRY] = 70;
     say::power(b"waiting for 70", r, &s, &w, &k);
     say::power(
         b"beyond the count",

@@ -1,8 +1,12 @@
 // Cause 7: room in open and in the group.
 use crate::say;
+use crate::say::SETTLED;
 use crate::say::Settled;
 use crate::say::Waiting;
 use crate::say::Work;
+use cells::BLOCK;
+use store::WAITING;
+use store::WORK;
 use store::record::Record;
 ghost use Prim.Native.Nat.{_+_, _≤_};
 
@@ -20,7 +24,7 @@ fn puts(r: Record, s: &Settled, w: &Waiting, k: &mut Work, from: u32, n: u32) ->
 }
 
 fn quiet(r: Record, s: &Settled, w: &Waiting, k: &mut Work, address: u32) -> Record {
-    let block = [5u8; 512];
+    let block = [5u8; BLOCK];
     let a = r.put(s, w, k, address, &block);
     a.rec
 }
@@ -36,9 +40,9 @@ fn grouped(r: Record, s: &Settled, w: &Waiting, k: &mut Work, from: u32, n: u32)
 
 // A put of a 33rd address, and of one of the 32.
 pub(crate) fn of_open() {
-    let s = [0u8; 35840];
-    let w = [0u8; 17544];
-    let mut k = [0u8; 33024];
+    let s = [0u8; SETTLED];
+    let w = [0u8; WAITING];
+    let mut k = [0u8; WORK];
     let most = puts(Record::fresh(70), &s, &w, &mut k, 34, 31);
     let full = say::put(b"32nd", most, &s, &w, &mut k, 65, 6);
     say::put(b"33rd", full, &s, &w, &mut k, 66, 7);
@@ -49,9 +53,9 @@ pub(crate) fn of_open() {
 
 // A commit into a full group: of one of its addresses, and of a new one.
 pub(crate) fn of_group() {
-    let s = [0u8; 35840];
-    let w = [0u8; 17544];
-    let mut k = [0u8; 33024];
+    let s = [0u8; SETTLED];
+    let w = [0u8; WAITING];
+    let mut k = [0u8; WORK];
     let full = grouped(Record::fresh(70), &s, &w, &mut k, 34, 32);
     let old = say::put(b"old", full, &s, &w, &mut k, 40, 6);
     let done = say::commit(b"commit old", old, &s, &w, &mut k);
@@ -62,9 +66,9 @@ pub(crate) fn of_group() {
 
 // 20 grouped and 20 open, of which 8 are grouped already; then one more.
 pub(crate) fn of_both() {
-    let s = [0u8; 35840];
-    let w = [0u8; 17544];
-    let mut k = [0u8; 33024];
+    let s = [0u8; SETTLED];
+    let w = [0u8; WAITING];
+    let mut k = [0u8; WORK];
     let some = grouped(Record::fresh(70), &s, &w, &mut k, 34, 20);
     let both = puts(some, &s, &w, &mut k, 46, 20);
     let more = say::put(b"21st", both, &s, &w, &mut k, 66, 6);

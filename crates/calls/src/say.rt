@@ -1,14 +1,20 @@
 // Calls that write a line. The card has 70 blocks.
+use cells::BLOCK;
 use libc::STDOUT_FILENO;
+use store::WAITING;
+use store::WORK;
 use store::place::Place;
 use store::record::Answer;
 use store::record::Record;
 
-pub type Settled = [u8; 35840];
+// The bytes of 70 blocks.
+pub(crate) const SETTLED: usize = BLOCK * 70;
 
-pub type Waiting = [u8; 17544];
+pub type Settled = [u8; SETTLED];
 
-pub type Work = [u8; 33024];
+pub type Waiting = [u8; WAITING];
+
+pub type Work = [u8; WORK];
 
 // A record made up, with power 7.
 pub(crate) fn made(
@@ -83,7 +89,7 @@ pub(crate) fn put(
     address: u32,
     byte: u8,
 ) -> Record {
-    let block = [byte; 512];
+    let block = [byte; BLOCK];
     answer(name, r.put(s, w, k, address, &block))
 }
 

@@ -15,7 +15,7 @@ use Rattle.cells.specs.Cell.Laws.{length-setCell, cell-same, cell-other}
 use Rattle.cells.specs.Upto.{upTo}
 use Rattle.cells.specs.Upto.Laws.{ext-upTo}
 use Rattle.cells.specs.Entry.{blockBytes, entryBytes, Entry, entryAt, setEntry}
-use Rattle.cells.specs.Entry.Laws.{length-setEntry, length-block, entry-same, entry-other}
+use Rattle.cells.specs.Entry.Laws.{length-setEntry, entry-same, entry-other}
 use Rattle.card.specs.Disk.{lay, overlay}
 use Rattle.card.specs.Card.{Card, Order, write, flush, queue, settle, order, run, blockAt, blocksIn}
 use Rattle.card.specs.Held.{Below}
@@ -91,15 +91,7 @@ unfolding queue order
 queue-write e c h w l =
     rw (add-one, ext-upTo (entryAt (setEntry (c .waiting) (c .count) e)) (entryAt (c .waiting)) (c .count) (λ i p. entry-other (c .waiting) (c .count) i e (λ q. omega arith)), entry-same (c .waiting) (c .count) e h w l)
 
-pub queue-flush : (c : Card) → queue (order flush c) ≡ []
-unfolding queue order
-queue-flush c = refl
-
--- ---- what waits has room, so it is whole; its addresses, as a list and place by place
-
-pub queue-whole : (c : Card) → entryBytes * c .count ≤ length (c .waiting) → All Whole (queue c)
-unfolding queue
-queue-whole c h = all-upTo Whole (entryAt (c .waiting)) (c .count) (λ i p. length-block (c .waiting) i (omega arith))
+-- ---- the addresses of what waits, as a list and place by place
 
 pub below-queue : (n : ℕ) (c : Card) → Below n (c .waiting) (c .count) → All (λ e. e .address < n) (queue c)
 unfolding queue
@@ -152,17 +144,6 @@ pub run-power : (os : List Order) (c : Card) → run os c .power ≡ c .power - 
 run-power [] c = rw (run-nil) (omega arith)
 run-power (o ∷ os) c =
     run-step (λ r. r .power ≡ c .power - suc (length os)) o os c (λ z. omega arith) (λ l. rw (run-power os (order o c), order-power) (omega arith))
-
-pub order-count : (o : Order) (c : Card) → order o c .count ≤ c .count + 1
-unfolding order
-order-count (write e) c = omega arith
-order-count flush c = omega arith
-
--- no order adds more than one waiting write
-pub run-count : (os : List Order) (c : Card) → run os c .count ≤ c .count + length os
-run-count [] c = rw (run-nil) (omega arith)
-run-count (o ∷ os) c =
-    run-step (λ r. r .count ≤ c .count + suc (length os)) o os c (λ z. omega arith) (λ l. omega (arith, run-count os (order o c), order-count o c))
 
 pub order-lengths : (o : Order) (c : Card) → (length (order o c .settled) ≡ length (c .settled)) × (length (order o c .waiting) ≡ length (c .waiting))
 unfolding order

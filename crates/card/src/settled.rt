@@ -1,4 +1,5 @@
-// The settled bytes: a block read where it lies, or no bytes of them; and, without orders, a block settled and all bytes wiped.
+// The settled bytes: how many blocks they hold; a block read where it lies, or no bytes of them; and, without orders, a block settled and
+// all bytes wiped.
 use cells::BLOCK;
 use cells::bytes::copy;
 use cells::bytes::zero;
@@ -17,6 +18,13 @@ pub fn read<'a>(settled: &'a [u8], address: u32) -> &'a [u8]
 {
     let at = BLOCK * (address as usize);
     &settled[at..at + BLOCK]
+}
+
+// N: how many blocks the settled bytes hold.
+pub fn blocks_in(settled: &[u8]) -> usize
+    ensures { λ r. ⌜ r ≡ blocksIn (now (settled .entry)) ⌝ }
+{
+    settled.len() / BLOCK
 }
 
 // The part of no bytes at the front.

@@ -1,4 +1,5 @@
-// The i-th entry of a run of them: 4 address bytes, then 512 bytes.
+// The i-th entry of a run of them: 4 address bytes, then a block.
+use crate::ADDRESS;
 use crate::BLOCK;
 use crate::ENTRY;
 use crate::bytes::copy;
@@ -23,7 +24,7 @@ pub fn block<'a>(s: &'a [u8], i: usize) -> &'a [u8]
     requires { ⌜ entryBytes * i + entryBytes ≤ length (now s) ⌝ }
     ensures { λ r. ⌜ viewOf r ≡ partOf (s .entry) (entryBytes * i + 4) blockBytes ⌝ }
 {
-    let at = ENTRY * i + 4;
+    let at = ENTRY * i + ADDRESS;
     &s[at..at + BLOCK]
 }
 
@@ -35,6 +36,6 @@ pub fn set(s: &mut [u8], i: usize, address: u32, block: &[u8])
 {
     let at = ENTRY * i;
     write_u32(s, at, address);
-    let from = at + 4;
+    let from = at + ADDRESS;
     copy(&mut s[from..from + BLOCK], block);
 }

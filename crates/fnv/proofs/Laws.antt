@@ -17,10 +17,6 @@ pub sumFrom-nil : (h : ℕ) → sumFrom h [] ≡ h
 unfolding sumFrom
 sumFrom-nil h = refl
 
-pub sumFrom-cons : (h b : ℕ) (bs : List ℕ) → sumFrom h (b ∷ bs) ≡ sumFrom (step h b) bs
-unfolding sumFrom
-sumFrom-cons h b bs = refl
-
 pub sumFrom-append : (h : ℕ) (a b : List ℕ) → sumFrom h (a ++ b) ≡ sumFrom (sumFrom h a) b
 unfolding sumFrom
 sumFrom-append h [] b = refl
@@ -37,18 +33,6 @@ pub sumFrom-next : (h : ℕ) (s : List ℕ) (i : ℕ) → i < length s
 unfolding sumFrom
 sumFrom-next h s i l = rw (add-one, take-suc s i 0) (sumFrom-append h (take i s) (getD s i 0 ∷ []))
 
-pub sum-start : (bs : List ℕ) → sum bs ≡ sumFrom start bs
-unfolding sum
-sum-start bs = refl
-
 pub sum-nil : sum [] ≡ start
 unfolding sum sumFrom
 sum-nil = refl
-
-pub sum-append : (a b : List ℕ) → sum (a ++ b) ≡ sumFrom (sum a) b
-unfolding sum
-sum-append a b = sumFrom-append start a b
-
-pub sum-lt : (bs : List ℕ) → sum bs < 2 ^ 64
-unfolding sum
-sum-lt bs = sumFrom-lt start bs (lit< tt)

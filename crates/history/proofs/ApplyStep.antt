@@ -19,6 +19,7 @@ use Rattle.store.specs.Request as Request
 use Rattle.store.specs.State.{State, Outcome, withLog, withCard, withRecord, cardIn}
 use Rattle.store.specs.Causes.{cause}
 use Rattle.store.specs.Saves.{carried, applyCall}
+use Rattle.store.proofs.Saves.{apply-carried}
 use Rattle.history.specs.Call.{Call, get, apply}
 use Rattle.history.specs.Plain.{Plain, ofApply, Done, refusal, plainStep, plainApply, applyVerdict, applyWaits, headerKept, unchanged}
 use Rattle.history.specs.Dispatch.{dispatch}
@@ -78,7 +79,7 @@ module _ (w : World) (m : WorldSim w) (h : refusal apply (w .plain) ≡ 0) (o : 
   call : applyCall (w .store) ≡ carried (applyOrders (w .store .rec .blocks) (w .store .settled) (w .store .rec .logged))
       (cond (eqb (w .store .rec .logged) 0) (w .store .rec) (withLog 0 start (w .store .rec))) (w .store .rec) (w .store)
   unfolding applyCall
-  call = rw (eq-eqb _ 0 accepted)
+  call = rw (eq-eqb _ 0 accepted) (apply-carried (w .store))
 
   plain : plainStep apply (foundWritten apply w) (w .plain) ≡ plainApply (w .plain)
   plain = plain-served apply (foundWritten apply w) (w .plain) h

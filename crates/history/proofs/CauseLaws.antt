@@ -1,11 +1,11 @@
 -- What checks 1 and 2 say in plain facts, and what `cause` comes to in a state that passes them.
-use Prim.Native.Nat.{ℕ, _%_, _^_, _≤_, _<_}
+use Prim.Native.Nat.{ℕ, _%_, _≤_}
 use mathlib.Core.Path.{_≡_, refl, ap, sym}
 use mathlib.Core.Bool.{Bool, true, false, cond, not, _&&_, _||_, and-false}
 use mathlib.Core.Logic.{_≢_}
 use mathlib.Core.List.{List, [], _∷_}
 use native.Mathlib.Omega.{arith}
-use borrow.Author.Tests.{eq-eqb, le-ltb, lt-ltb, eqb-true, eqb-false, ltb-false, leb-false, not-false}
+use borrow.Author.Tests.{eq-eqb, le-ltb, lt-ltb, eqb-true, eqb-false, not-false}
 use lib.Dec.{eqb, ltb}
 use lib.ListN.{length, drop}
 use Rattle.cells.specs.Upto.Laws.{length-upTo}
@@ -13,24 +13,21 @@ use Rattle.cells.specs.Entry.{blockBytes, entryAt}
 use Rattle.card.specs.Card.{places, blocksIn}
 use Rattle.card.specs.Held.{Below}
 use Rattle.card.proofs.All.{All}
-use Rattle.journal.specs.Layout.{slots, mostBlocks, wrongSize}
+use Rattle.journal.specs.Layout.{slots, wrongSize}
 use Rattle.journal.specs.Log.{entries}
 use Rattle.journal.specs.Choice.{choose, choiceNumber}
 use Rattle.journal.proofs.Logs.{neither, allData-all, all-allData}
 use Rattle.store.specs.State.{State, closed, opened, down}
-use Rattle.store.specs.Lists.{openFrom, groupFrom, listed, listOf, find}
+use Rattle.store.specs.Lists.{openFrom, groupFrom, listed, listOf}
 use Rattle.store.specs.Request as Request
 use Rattle.store.specs.Request.{Request}
 use Rattle.store.specs.Causes as Causes
-use Rattle.store.specs.Causes.{wrongSizes, wrongCounts, wrongWaiting, wrongLists, wrongRecord, wrongBlock, some, readsRecord, needsOpen, isRecover, isFound, Row, table, first, cause}
-use Rattle.store.specs.Simple.{putAt}
-use Rattle.store.specs.Commit.{joined}
+use Rattle.store.specs.Causes.{wrongSizes, wrongCounts, wrongWaiting, wrongLists, wrongRecord, wrongBlock, some, readsRecord, needsOpen, isRecover, Row, table, first, cause}
 use Rattle.store.proofs.Causes.{other, SizeFacts, sizes-facts, counts-facts, waiting-facts, Passes, cause-passes as Causes·cause-passes}
-use Rattle.store.proofs.Places.{data-lt}
 use Rattle.history.specs.Call.{Call, requestOf, power, put, get, commit, abandon, sync, apply, recover, cut}
 use Rattle.history.specs.Plain.{Plain, overOne, refusal}
 use Rattle.history.proofs.Lists.{none-some, find-has, Distinct, twice-distinct, distinct-twice, Data, strays-all, all-strays}
-use Rattle.history.proofs.WorkLists.{data-short, PutOpen, put-open, Merged, joined-group, newcomers-merge}
+use Rattle.history.proofs.WorkLists.{newcomers-merge}
 
 -- ---- 1: the sizes
 
@@ -133,9 +130,6 @@ pub record SoundFacts (st : State) : Type 0 where
 
 pub sound-facts : (st : State) → wrongSizes st ≡ false → wrongRecord st ≡ false → SoundFacts st
 sound-facts st s r = record { sizes = sizes-facts st s; counts = record-facts st r }
-
-pub facts-sound : (st : State) → SoundFacts st → (wrongSizes st ≡ false) × (wrongRecord st ≡ false)
-facts-sound st f = (facts-sizes st (f .sizes), facts-record st (f .counts))
 
 -- only a record that is down waits
 pub idle : (st : State) → RecordFacts st → st .rec .mode ≢ down → st .rec .waiting ≡ 0
@@ -252,24 +246,3 @@ cause-opened q st reads needs e =
     let few : st .rec .mode ≤ down = f .counts .mode in
     let mode : st .rec .mode ≡ opened = omega arith in
     record { facts = f; mode = mode; lists = f .counts .lists mode }
-
--- a put that is done
-pub put-done : (a : ℕ) (b : List ℕ) (st : State) → cause (Request.put a b) st ≡ 0
-    → PutOpen (record { address = a; block = b }) st (putAt (find (st .work) openFrom (st .rec .opened) a) (record { address = a; block = b }) st)
-put-done a b st e =
-    let p = cause-passes (Request.put a b) st e in
-    let o = cause-opened (Request.put a b) st refl refl e in
-    let below : a < st .rec .blocks = data-lt (st .rec .blocks) a (not-false _ (p .address)) in
-    let small : a < 2 ^ 32 = omega (arith, o .facts .counts .blocks, o .facts .sizes .most) in
-    put-open (record { address = a; block = b }) st (o .facts .sizes .work) (o .facts .counts .open-count) (eqb-true _ _ (not-false _ (p .block))) small (o .lists .open-distinct)
-    (λ h. leb-false _ _ (other _ _ (p .room) (ap (λ f. not (isFound f)) h)))
-
--- a commit that is done
-pub commit-done : (st : State) → cause Request.commit st ≡ 0
-    → Merged (st .work) (st .rec .grouped) (st .rec .opened) (joined (st .rec .opened) (record { work = st .work; count = st .rec .grouped }))
-commit-done st e =
-    let p = cause-passes Request.commit st e in
-    let o = cause-opened Request.commit st refl refl e in
-    let few : st .rec .blocks ≤ mostBlocks = omega (arith, o .facts .counts .blocks, o .facts .sizes .most) in
-    joined-group (st .work) (st .rec .grouped) (st .rec .opened) (o .facts .sizes .work) (o .facts .counts .open-count) (o .lists .open-distinct) (o .lists .group-distinct)
-    (data-short (st .rec .blocks) few (listOf (st .work) openFrom (st .rec .opened)) (o .lists .open-data)) (ltb-false _ _ (p .room))

@@ -20,6 +20,7 @@ use Rattle.store.specs.Held.{stateOf}
 use Rattle.store.specs.Causes.{needsOpen, cause}
 use Rattle.store.specs.Simple.{formatted, formatCall, powerCall}
 use Rattle.store.specs.Saves.{carried, applies, synced, innerOrders, syncing, syncCall, applyCall, recoverCall, cutCall}
+use Rattle.store.proofs.Saves.{apply-carried}
 use Rattle.store.proofs.Causes.{sizes-facts}
 use Rattle.firmware.specs.Face.{recordBytes, decodeRecord, Face, faced, handed, Got, gotIn, got}
 use Rattle.firmware.proofs.Records.{length-encode, Fitting, decode-encode}
@@ -146,7 +147,7 @@ module _ (st : State) (l : Ledger) (s : Safe st l) where
   served-sums abandon h = _⊎_.inl (still-open abandon Request.abandon refl refl h refl)
   served-sums sync h =
       rw (eq-eqb _ 0 h) (sync-sums st (is-open st (s .ledger) (s .plain) (s .sim) Request.sync refl (cause-passes Request.sync st h) .mode))
-  served-sums apply h = rw (eq-eqb _ 0 h) (apply-sums st _)
+  served-sums apply h = rw (eq-eqb _ 0 h, apply-carried st) (apply-sums st _)
   served-sums recover h = rw (eq-eqb _ 0 h) (carried-sums _ _ _ st (_⊎_.inl refl) (_⊎_.inl refl))
   served-sums (cut ms) h = rw (eq-eqb _ 0 h) (_⊎_.inr (_⊎_.inr refl))
 

@@ -1,8 +1,7 @@
 -- Lists of entries: an address in them, none twice, data blocks; an entry that replaces or joins, and a list that does.
-use Prim.Native.Nat.{ℕ, zero, suc, _+_, _≤_, _<_}
+use Prim.Native.Nat.{ℕ, zero, suc, _+_, _<_}
 use mathlib.Core.Path.{_≡_, refl, ap, ap₂, sym, _∙_}
 use mathlib.Core.Bool.{Bool, true, false, cond, not, _||_, or-true, or-false, or-assoc, or-self-left, false≢true}
-use mathlib.Core.Logic.{_≢_}
 use mathlib.Core.List.{List, [], _∷_, _++_, append-nil}
 use native.Mathlib.Nat.{add-zero, suc-add}
 use native.Mathlib.Omega.{arith}
@@ -223,12 +222,3 @@ pub all-merge : (P : Entry → Type 0) (t g : List Entry) → All P t → All P 
 unfolding merge
 all-merge P [] g p q = q
 all-merge P (e ∷ t) g p q = all-merge P t (insert e g) (p .1) (all-insert P e g (p .0) q)
-
--- a list only grows
-pub merge-grows : (t g : List Entry) → length g ≤ length (merge t g)
-unfolding merge
-merge-grows [] g = omega arith
-merge-grows (e ∷ t) g =
-    let p : length (insert e g) ≤ length (merge t (insert e g)) = merge-grows t (insert e g) in
-    let q : length (insert e g) ≡ length g + cond (has (e .address) g) 0 1 = length-insert e g in
-    omega arith

@@ -69,9 +69,6 @@ module _ (st : State) (l : Ledger) (d : Plain) (b : Basics st d) (o : OpenSim st
   pub n-most : st .rec .logged ≤ slots
   n-most = rc .log-count
 
-  pub m-most : st .rec .grouped ≤ slots
-  m-most = rc .group-count
-
   pub length-group : length (groupOf st) ≡ st .rec .grouped
   length-group = length-upTo (listed (st .work) groupFrom) (st .rec .grouped)
 

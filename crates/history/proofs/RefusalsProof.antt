@@ -38,6 +38,7 @@ use Rattle.store.specs.Simple.{refused, finished, unless, formatCall, powerCall
 use Rattle.store.specs.Commit.{commitCall}
 use Rattle.store.specs.Saves.{carried, groupOf, applies, synced, innerOrders, syncCall, applyCall, recoverCall, cutCall}
 use Rattle.store.proofs.Calls.{call-refused, call-done}
+use Rattle.store.proofs.Saves.{apply-carried}
 use Rattle.store.proofs.Causes.{sizes-facts}
 use Rattle.history.specs.Dispatch.{called}
 use Rattle.history.specs.Refusals.{ordersOf, untouched, innerDone, Gone, Answers}
@@ -244,7 +245,7 @@ form abandon st = quiet _ refl refl
 form sync st =
     let done = withGrouped 0 (withLog (synced st .logged + st .rec .grouped) (sumOf (synced st .sum) (groupOf st)) (synced st)) in
     gives done (ap (λ (r : Record). unless (cause sync st) st (carried (ordersOf sync st) done r st)) (sync-left st)) (λ e. sync-batched st (cause-opened sync st refl refl e))
-form apply st = gives _ refl (λ e. apply-batched st (cause-opened apply st refl refl e))
+form apply st = gives _ (ap (λ (o : Outcome). unless (cause apply st) st o) (apply-carried st)) (λ e. apply-batched st (cause-opened apply st refl refl e))
 form recover st =
     gives _ refl
     (λ e.

@@ -23,6 +23,7 @@ use Rattle.store.specs.Causes.{waitingBytes, workBytes, wrongSizes, cause}
 use Rattle.store.specs.Simple.{refused, finished, unless, formatted, formatCall, powerCall, putAt, putCall, abandonCall}
 use Rattle.store.specs.Commit.{Group, joinAt, join, joined, commitCall}
 use Rattle.store.specs.Saves.{carried, syncCall, applyCall, recoverCall, cutCall}
+use Rattle.store.proofs.Saves.{apply-carried}
 use Rattle.script.specs.declared.command.Command.{Command}
 use Rattle.script.specs.declared.command.Command.the-variants.{Format, Power, Put, Get, Commit, Abandon, Sync, Apply, Recover, Cut, Bad}
 use Rattle.script.specs.Commands.{parse}
@@ -138,7 +139,7 @@ called-sized Request.commit st =
     done-sized Request.commit st _ refl (record { settled = refl; waiting = refl; work = joined-sized (st .rec .opened) (record { work = st .work; count = st .rec .grouped }) })
 called-sized Request.abandon st = done-sized Request.abandon st _ refl (record { settled = refl; waiting = refl; work = refl })
 called-sized Request.sync st = orders-sized Request.sync st _ _ _ refl
-called-sized Request.apply st = orders-sized Request.apply st _ _ _ refl
+called-sized Request.apply st = orders-sized Request.apply st _ _ _ (ap (λ (o : Outcome). unless (cause Request.apply st) st o) (apply-carried st))
 called-sized Request.recover st = orders-sized Request.recover st _ _ _ refl
 called-sized (Request.cut ms) st =
     done-sized (Request.cut ms) st _ refl (record { settled = cut-sized ms st; waiting = ap length (cut-queue ms st); work = refl })

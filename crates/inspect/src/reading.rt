@@ -1,6 +1,6 @@
 // A card as recover would find it: its size, the list chosen, and each block with that list laid over.
+use card::settled::blocks_in;
 use card::settled::read;
-use cells::BLOCK;
 use journal::choice::Choice;
 use journal::choice::choose;
 use journal::log::slot_block;
@@ -52,7 +52,7 @@ pub(crate) fn inspect(settled: &[u8]) -> Reading
     if wrong_size(settled) {
         return refused(1);
     }
-    let blocks = (settled.len() / BLOCK) as u32;
+    let blocks = blocks_in(settled) as u32;
     match choose(settled, blocks) {
         Choice::Whole(n, _) => accepted(blocks, n),
         Choice::Fallback(n, _) => accepted(blocks, n),

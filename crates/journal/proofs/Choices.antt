@@ -4,7 +4,7 @@ use mathlib.Core.Path.{_≡_, refl, sym}
 use mathlib.Core.Bool.{Bool, true, false, cond, not}
 use mathlib.Core.List.{List}
 use native.Mathlib.Omega.{arith}
-use borrow.Author.Tests.{eq-eqb, le-leb, le-ltb, lt-ltb, eqb-true, leb-true, leb-false, not-false}
+use borrow.Author.Tests.{le-ltb, lt-ltb, eqb-true, leb-true, leb-false, not-false}
 use lib.Dec.{leb, ltb}
 use Rattle.journal.specs.declared.header.Header.{Header}
 use Rattle.journal.specs.declared.choice.Choice.the-variants.{Whole, Fallback, Foreign, Neither}
@@ -43,10 +43,6 @@ ours N h e =
       count = leb-true _ _ (q .1);
       previous = leb-true _ _ (p .1);
     }
-
-pub ours-foreign : (N : ℕ) (h : Header) → Ours N h → foreign N h ≡ false
-ours-foreign N h o =
-    rw (eq-eqb (h .format) formatNumber (o .format), eq-eqb (h .blocks) N (o .blocks), le-leb (h .count) slots (o .count), le-leb (h .previous) (h .count) (o .previous))
 
 -- ---- the choice, case by case
 

@@ -1,26 +1,19 @@
--- The laws of the descriptor's bytes, and of the log after an append.
+-- The laws of the descriptor's bytes.
 use Prim.Native.Nat.{ℕ, zero, suc, _+_, _*_, _-_, _≤_, _<_}
-use mathlib.Core.Path.{_≡_, refl, ap, ap₂, sym, _∙_}
+use mathlib.Core.Path.{_≡_, refl, ap, sym, _∙_}
 use mathlib.Core.List.{List, [], _∷_, _++_, append-assoc, append-nil}
 use native.Mathlib.Numerals.{add-one}
 use native.Mathlib.Omega.{arith}
 use lib.ListN.{length, getD, take, drop, replicate, length-append, length-drop, length-replicate}
-use lib.Seq.{sets, sets-eq, length-take-le, take-at, take-take, take-append-le, drop-drop, drop-append-le, drop-append-add, ext-getD}
+use lib.Seq.{sets, sets-eq, length-take-le, take-at, take-take, take-append-le, drop-drop, drop-append-le, drop-append-add}
 use Rattle.cells.specs.Cell.{cell}
 use Rattle.cells.specs.Cell.Laws.{cell-part, drop-take, sets-append}
-use Rattle.cells.specs.Little.{le, num}
-use Rattle.cells.specs.Little.Laws.{length-le, num-le}
+use Rattle.cells.specs.Little.{le}
+use Rattle.cells.specs.Little.Laws.{length-le}
 use Rattle.cells.specs.Upto.{upTo}
-use Rattle.cells.specs.Upto.Laws.{length-upTo, getD-upTo, ext-upTo}
+use Rattle.cells.specs.Upto.Laws.{length-upTo}
 use Rattle.cells.specs.Entry.{blockBytes, Entry}
-use Rattle.cells.specs.Entry.Laws.{entry-eq}
-use Rattle.card.specs.Card.{blockAt}
-use Rattle.card.proofs.All.{All}
-use Rattle.card.proofs.Runs.{Short}
-use Rattle.journal.specs.Layout.{descriptorAt, slotAt}
-use Rattle.journal.specs.Log.{slotEntry, entries}
 use Rattle.journal.specs.Orders.{addressBytes, describe}
-use Rattle.journal.proofs.Logs.{slot-cells, entries-agree, entries-add}
 
 -- ---- addresses in a row
 
@@ -121,33 +114,3 @@ describe-new old n es i d h k =
     ∙ ap (λ (x : ℕ). take 4 (drop x (describe old n es))) place
     ∙ ap (take 4) (drop-append-add (take (4 * n) old) (addressBytes es ++ rest) (4 * i))
     ∙ address-at es i d rest k
-
--- ---- the log after an append
-
-all-getD : (P : Entry → Type 0) (es : List Entry) (i : ℕ) (d : Entry) → All P es → i < length es → P (getD es i d)
-all-getD P (e ∷ es) zero d h k = h .0
-all-getD P (e ∷ es) (suc i) d h k = all-getD P es i d (h .1) (omega arith)
-
-upTo-getD : (es : List Entry) (d : Entry) → upTo (λ i. getD es i d) (length es) ≡ es
-upTo-getD es d =
-    let size : length (upTo (λ i. getD es i d) (length es)) ≡ length es = length-upTo (λ i. getD es i d) (length es) in
-    ext-getD d (upTo (λ i. getD es i d) (length es)) es size (λ i p. getD-upTo (λ i. getD es i d) (length es) i d (omega arith))
-
--- on a card t that has the new descriptor, the old slots of s and the new blocks, the log is that of s, then es
-pub entries-append : (s t : List ℕ) (n : ℕ) (es : List Entry) (d : Entry) → 4 * n ≤ length (blockAt s descriptorAt) → All Short es
-    → blockAt t descriptorAt ≡ describe (blockAt s descriptorAt) n es
-    → ((i : ℕ) → i < n → blockAt t (slotAt i) ≡ blockAt s (slotAt i))
-    → ((i : ℕ) → i < length es → blockAt t (slotAt (n + i)) ≡ getD es i d .block)
-    → entries t (n + length es) ≡ entries s n ++ es
-entries-append s t n es d h short told old new =
-    entries-add t n (length es)
-    ∙ ap₂ (λ (a b : List Entry). a ++ b)
-    (entries-agree t s n (λ i p. ap (λ (b : List ℕ). cell 4 b i) told ∙ describe-old (blockAt s descriptorAt) n es i h p) old)
-    (ext-upTo (λ i. slotEntry t (n + i)) (λ i. getD es i d) (length es) each ∙ upTo-getD es d)
-  where
-    each : (i : ℕ) → i < length es → slotEntry t (n + i) ≡ getD es i d
-    each i p =
-        slot-cells t (n + i)
-        ∙ entry-eq
-        (ap (λ (b : List ℕ). num (cell 4 b (n + i))) told ∙ ap num (describe-new (blockAt s descriptorAt) n es i d h p) ∙ num-le 4 (getD es i d .address) (all-getD Short es i d short p))
-        (new i p)

@@ -1,16 +1,16 @@
 -- The laws of the header's bytes.
-use Prim.Native.Nat.{ℕ, zero, suc, _+_, _^_, _≤_, _<_}
+use Prim.Native.Nat.{ℕ, _+_, _^_, _≤_, _<_}
 use mathlib.Core.Path.{_≡_, ap, sym, _∙_}
-use mathlib.Core.List.{List, [], _∷_, _++_, append-assoc}
-use lib.Dec.{lit<, lit≤}
+use mathlib.Core.List.{List, [], _++_, append-assoc}
+use lib.Dec.{lit≤}
 use lib.ListN.{length, take, drop, replicate, length-append, length-replicate}
 use lib.Seq.{sets, sets-eq}
 use Rattle.cells.specs.Cell.Laws.{sets-append}
-use Rattle.cells.specs.Little.{le, num, Bytes}
-use Rattle.cells.specs.Little.Laws.{length-le, bytes-le, front, next}
+use Rattle.cells.specs.Little.{le, num}
+use Rattle.cells.specs.Little.Laws.{length-le, front, next}
 use Rattle.cells.specs.Entry.{blockBytes}
 use Rattle.journal.specs.declared.header.Header.{Header}
-use Rattle.journal.specs.Header.{encode, decode, header}
+use Rattle.journal.specs.Header.{encode, decode}
 
 pub length-encode : (h : Header) → length (encode h) ≡ blockBytes
 unfolding encode
@@ -26,9 +26,6 @@ pub record Fitting (h : Header) : Type 0 where
   pub count : h .count < 2 ^ 32
   pub presum : h .presum < 2 ^ 64
   pub sum : h .sum < 2 ^ 64
-
-pub fitting : (N p ps n ns : ℕ) → N < 2 ^ 32 → p < 2 ^ 32 → ps < 2 ^ 64 → n < 2 ^ 32 → ns < 2 ^ 64 → Fitting (header N p ps n ns)
-fitting N p ps n ns a b c d e = record { format = lit< tt; blocks = a; previous = b; count = d; presum = c; sum = e }
 
 pub decode-encode : (h : Header) → Fitting h → decode (encode h) ≡ h
 unfolding decode encode
@@ -86,30 +83,3 @@ filled h z l e =
     in-turn : sets z 0 numbers
         ≡ sets (sets (sets (sets (sets (sets z 0 (le 4 (h .format))) 4 (le 4 (h .blocks))) 8 (le 4 (h .previous))) 12 (le 4 (h .count))) 16 (le 8 (h .presum))) 24 (le 8 (h .sum))
     in-turn = simp (sets-append, length-le)
-
--- ---- bytes
-
-bytes-append : (a b : List ℕ) → Bytes a → Bytes b → Bytes (a ++ b)
-bytes-append [] b p q i = q i
-bytes-append (x ∷ a) b p q zero = p zero
-bytes-append (x ∷ a) b p q (suc i) = bytes-append a b (λ j. p (suc j)) q i
-
-bytes-zeros : (n : ℕ) → Bytes (replicate n 0)
-bytes-zeros zero i = lit< tt
-bytes-zeros (suc n) zero = lit< tt
-bytes-zeros (suc n) (suc i) = bytes-zeros n i
-
-bytes-number : (w v : ℕ) (rest : List ℕ) → Bytes rest → Bytes (le w v ++ rest)
-bytes-number w v rest h = bytes-append (le w v) rest (bytes-le w v) h
-
-pub bytes-encode : (h : Header) → Bytes (encode h)
-unfolding encode
-bytes-encode h =
-    let z : List ℕ = replicate 480 0 in
-    let n : List ℕ = le 8 (h .sum) ++ z in
-    let p : List ℕ = le 8 (h .presum) ++ n in
-    let c : List ℕ = le 4 (h .count) ++ p in
-    let d : List ℕ = le 4 (h .previous) ++ c in
-    let b : List ℕ = le 4 (h .blocks) ++ d in
-    bytes-number 4 (h .format) b (bytes-number 4 (h .blocks) d (bytes-number 4 (h .previous) c
-    (bytes-number 4 (h .count) p (bytes-number 8 (h .presum) n (bytes-number 8 (h .sum) z (bytes-zeros 480))))))

@@ -2,13 +2,11 @@
 use Prim.Native.Nat.{ℕ, zero, suc, _+_, _*_, _-_, _^_, _≤_, _<_}
 use mathlib.Core.Path.{_≡_, refl, ap, sym, _∙_}
 use mathlib.Core.Bool.{Bool, true, false, _&&_, _||_, and-true, and-false, true≢false, false≢true}
-use mathlib.Core.Logic.{_≢_}
 use mathlib.Core.List.{List, [], _∷_, _++_, append-nil}
 use native.Mathlib.Numerals.{add-one}
 use native.Mathlib.Omega.{arith}
-use borrow.Author.Tests.{eq-eqb, ne-eqb, eqb-true, le-leb, leb-true, lt-ltb, ltb-true}
+use borrow.Author.Tests.{le-leb, leb-true, lt-ltb, ltb-true}
 use denote.Ref.{RefT}
-use lib.Dec.{eqb}
 use lib.ListN.{length, drop-of-length-le}
 use lib.Seq.{sets, sets-eq}
 use Rattle.cells.specs.Cell.{cell}
@@ -16,17 +14,17 @@ use Rattle.cells.specs.Cell.Laws.{cell-part, length-cell, bytes-cell}
 use Rattle.cells.specs.Little.{le, num, Bytes}
 use Rattle.cells.specs.Little.Laws.{num-lt}
 use Rattle.cells.specs.Upto.{upTo}
-use Rattle.cells.specs.Upto.Laws.{length-upTo, ext-upTo, upTo-add}
+use Rattle.cells.specs.Upto.Laws.{length-upTo}
 use Rattle.cells.specs.Entry.{blockBytes, entryBytes, Entry, toBytes, flat, entryAt}
 use Rattle.cells.specs.Entry.Laws.{entry-eq, length-block, block-part, flat-nil, flat-one, flat-append}
 use Rattle.cells.specs.Part.{View, viewOf, partOf}
-use Rattle.fnv.specs.Fnv.{start, sumFrom}
+use Rattle.fnv.specs.Fnv.{sumFrom}
 use Rattle.fnv.proofs.Laws.{sumFrom-nil, sumFrom-append, sumFrom-lt}
 use Rattle.card.specs.Card.{blockAt, blocksIn}
 use Rattle.card.proofs.All.{All, all-upTo, upTo-all}
 use Rattle.card.proofs.Runs.{Whole, Short}
 use Rattle.journal.specs.Layout.{slotAt, descriptorAt, firstData, slots, isData}
-use Rattle.journal.specs.Log.{slotAddress, slotEntry, entries, entriesFrom, sumOf, allData, good}
+use Rattle.journal.specs.Log.{slotAddress, slotEntry, entries, entriesFrom, sumOf, allData}
 
 -- ---- tests
 
@@ -103,20 +101,6 @@ pub slot-data : (s : List ℕ) (N n i : ℕ) → i < n → allData N (entries s 
 unfolding slotEntry
 slot-data s N n i h e = upTo-all (λ x. isData N (x .address) ≡ true) (slotEntry s) n (allData-all N (entries s n) e) i h
 
--- what makes a list good
-pub good-sum : (N : ℕ) (es : List Entry) (sum : ℕ) → good N es sum ≡ true → sumOf start es ≡ sum
-good-sum N es sum h = eqb-true _ _ (both (eqb (sumOf start es) sum) (allData N es) h .0)
-
-pub good-data : (N : ℕ) (es : List Entry) (sum : ℕ) → good N es sum ≡ true → allData N es ≡ true
-good-data N es sum h = both (eqb (sumOf start es) sum) (allData N es) h .1
-
-pub sum-good : (N : ℕ) (es : List Entry) (sum : ℕ) → sumOf start es ≡ sum → allData N es ≡ true → good N es sum ≡ true
-sum-good N es sum p q = rw (eq-eqb (sumOf start es) sum p, q)
-
--- another sum
-pub sum-bad : (N : ℕ) (es : List Entry) (sum : ℕ) → sumOf start es ≢ sum → good N es sum ≡ false
-sum-bad N es sum p = rw (ne-eqb (sumOf start es) sum p)
-
 pub allData-append : (N : ℕ) (a b : List Entry) → allData N (a ++ b) ≡ allData N a && allData N b
 unfolding allData
 allData-append N [] b = refl
@@ -132,25 +116,6 @@ allData-append N (e ∷ a) b = go (isData N (e .address)) (allData-append N a b)
 pub slot-entry : (s : List ℕ) (i : ℕ) (e : Entry) → e .address ≡ slotAddress s i → e .block ≡ blockAt s (slotAt i) → e ≡ slotEntry s i
 unfolding slotEntry
 slot-entry s i e p q = entry-eq p q
-
-pub slot-cells : (s : List ℕ) (i : ℕ) → slotEntry s i ≡ record { address = num (cell 4 (blockAt s descriptorAt) i); block = blockAt s (slotAt i) }
-unfolding slotEntry slotAddress
-slot-cells s i = refl
-
--- cards that agree on n addresses and n slots have the same first n entries
-pub entries-agree : (s t : List ℕ) (n : ℕ)
-    → ((i : ℕ) → i < n → cell 4 (blockAt s descriptorAt) i ≡ cell 4 (blockAt t descriptorAt) i)
-    → ((i : ℕ) → i < n → blockAt s (slotAt i) ≡ blockAt t (slotAt i))
-    → entries s n ≡ entries t n
-unfolding slotEntry slotAddress
-entries-agree s t n p q = ext-upTo (slotEntry s) (slotEntry t) n (λ i h. entry-eq (ap num (p i h)) (q i h))
-
--- one list of entries: the first n, then m more
-pub entries-add : (s : List ℕ) (n m : ℕ) → entries s (n + m) ≡ entries s n ++ upTo (λ i. slotEntry s (n + i)) m
-entries-add s n m = upTo-add (slotEntry s) n m
-
-pub length-entries : (s : List ℕ) (n : ℕ) → length (entries s n) ≡ n
-length-entries s n = length-upTo (slotEntry s) n
 
 -- the sum goes on over the next entry
 pub sum-more : (f : ℕ → Entry) (h i g : ℕ) (e : Entry) → g ≡ sumOf h (upTo f i) → e ≡ f i → sumOf g (e ∷ []) ≡ sumOf h (upTo f (i + 1))

@@ -75,9 +75,6 @@ last-means f a (suc n) = go (eqb (f n) a) refl (lastOf f a n) (last-means f a n)
 pub last-at : (f : ℕ → ℕ) (a n k : ℕ) → lastOf f a n ≡ At k → Last f a n k
 last-at f a n k e = rw e at (last-means f a n)
 
-pub last-absent : (f : ℕ → ℕ) (a n : ℕ) → lastOf f a n ≡ Absent → (i : ℕ) → i < n → f i ≢ a
-last-absent f a n e = rw e at (last-means f a n)
-
 -- ---- a lookup in a list is a read of its overlay
 
 -- the block at the place that was found, or another

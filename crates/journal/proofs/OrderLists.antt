@@ -2,29 +2,25 @@
 use Prim.Native.Nat.{ℕ, zero, suc, _+_, _*_, _^_, _≤_, _<_}
 use mathlib.Core.Path.{_≡_, refl, ap, ap₂, sym, _∙_}
 use mathlib.Core.Bool.{Bool, true, false, cond}
-use mathlib.Core.Logic.{_≢_}
 use mathlib.Core.List.{List, [], _∷_, _++_, map, map-append, append-assoc}
 use native.Mathlib.Nat.{add-zero, add-suc, suc-add}
 use native.Mathlib.Omega.{arith}
-use lib.Dec.{eqb, leb, lit≤}
-use lib.ListN.{length, getD, length-append, length-map}
-use Rattle.cells.specs.Cell.{setCell}
-use Rattle.cells.specs.Cell.Laws.{length-setCell, cell-same}
+use lib.Dec.{eqb, leb}
+use lib.ListN.{length, length-append, length-map}
 use Rattle.cells.specs.Upto.{upTo}
 use Rattle.cells.specs.Upto.Laws.{length-upTo}
-use Rattle.cells.specs.Entry.{blockBytes, entryBytes, Entry}
+use Rattle.cells.specs.Entry.{entryBytes, Entry}
 use Rattle.fnv.specs.Fnv.{start}
-use Rattle.card.specs.Card.{Order, write, flush, run, settle, blockAt, blocksIn}
+use Rattle.card.specs.Card.{Order, write, flush, run, blockAt}
 use Rattle.card.specs.declared.queue.Queue.{Queue}
 use Rattle.card.specs.Held.{cardOf, Below}
-use Rattle.card.proofs.All.{All, all-append, all-map}
-use Rattle.card.proofs.Runs.{Whole, Short, writes-below, settle-other}
+use Rattle.card.proofs.All.{All, all-append}
+use Rattle.card.proofs.Runs.{Whole, Short, writes-below}
 use Rattle.journal.specs.declared.header.Header.{Header}
 use Rattle.journal.specs.Layout.{headerAt, descriptorAt, slotAt, slots, firstData}
 use Rattle.journal.specs.Header.{encode, header, emptyHeader}
 use Rattle.journal.specs.Log.{slotEntry, entries, sumOf}
 use Rattle.journal.specs.Orders.{headerWrite, slotWrites, describe, appendOrders, checkpointOrders, fallbackOrders, applyOrders, syncOrders}
-use Rattle.journal.proofs.Headers.{length-encode}
 pub use Rattle.journal.proofs.Descriptors.{length-describe}
 use Rattle.journal.proofs.Phases.{below-card}
 
@@ -54,11 +50,6 @@ unfolding slotBlocks
 slotBlocks-append n [] b = rw (add-zero)
 slotBlocks-append n (e ∷ a) b =
     rw (add-suc, ← suc-add n (length a)) (ap (λ (l : List Entry). slotBlock n e ∷ l) (slotBlocks-append (suc n) a b))
-
-pub slotWrites-append : (n : ℕ) (a b : List Entry) → slotWrites n (a ++ b) ≡ slotWrites n a ++ slotWrites (n + length a) b
-slotWrites-append n a b =
-    rw (slotWrites-blocks n (a ++ b), slotBlocks-append, map-append write (slotBlocks n a) (slotBlocks (n + length a) b))
-    (ap₂ (λ (x y : List Order). x ++ y) (sym (slotWrites-blocks n a)) (sym (slotWrites-blocks (n + length a) b)))
 
 pub slotBlocks-upTo : (n : ℕ) (e : ℕ → Entry) (m : ℕ) → slotBlocks n (upTo e m) ≡ upTo (λ i. slotBlock (n + i) (e i)) m
 unfolding slotBlocks
@@ -182,34 +173,3 @@ length-sync N s n h es = go (eqb (length es) 0) (leb (n + length es) slots)
     go true u = refl
     go false true = length-append-orders N s n h es
     go false false = rw (length-append, length-checkpoint, length-upTo, length-append-orders)
-
-pub length-appendWrites : (N : ℕ) (s : List ℕ) (n h : ℕ) (es : List Entry) → length (appendWrites N s n h es) ≡ length es + 2
-length-appendWrites N s n h es = rw (length-append, length-slotBlocks)
-
--- ---- what an append writes is whole, and lies below the data blocks
-
-pub append-whole : (N : ℕ) (s : List ℕ) (n h : ℕ) (es : List Entry) → All Whole es → 4 * n ≤ length (blockAt s descriptorAt) → 4 * (n + length es) ≤ blockBytes
-    → All Whole (appendWrites N s n h es)
-append-whole N s n h es w l k =
-    all-append Whole (slotBlocks n es) (descriptorEntry s n es ∷ headerEntry (header N n h (n + length es) (sumOf h es)) ∷ [])
-    (slots-whole n es w) (length-describe (blockAt s descriptorAt) n es l k, (length-encode (header N n h (n + length es) (sumOf h es)), tt))
-
-pub append-below : (X N : ℕ) (s : List ℕ) (n h : ℕ) (es : List Entry) → n + length es ≤ slots → firstData ≤ X → All (λ e. e .address < X) (appendWrites N s n h es)
-append-below X N s n h es k l =
-    all-append (λ e. e .address < X) (slotBlocks n es) (descriptorEntry s n es ∷ headerEntry (header N n h (n + length es) (sumOf h es)) ∷ [])
-    (slots-below X n es (omega arith)) (omega arith, (omega arith, tt))
-
-pub append-short : (N : ℕ) (s : List ℕ) (n h : ℕ) (es : List Entry) → n + length es ≤ slots → All Short (appendWrites N s n h es)
-append-short N s n h es k = append-below (2 ^ 32) N s n h es k (lit≤ tt)
-
--- log blocks that have settled stand in their slots
-pub slots-settled : (n : ℕ) (es : List Entry) (s : List ℕ) (i : ℕ) (d : Entry) → All Whole es → slotAt (n + length es) ≤ blocksIn s → i < length es
-    → blockAt (settle (slotBlocks n es) s) (slotAt (n + i)) ≡ getD es i d .block
-unfolding slotBlocks settle
-slots-settled n (e ∷ es) s zero d w h k =
-    rw (add-zero)
-    (settle-other (slotBlocks (suc n) es) (setCell blockBytes s (slotAt n) (e .block)) (slotAt n) (all-map (λ x. slotAt (suc n) ≤ x .address) (λ x. slotAt n ≢ x .address) (λ x p q. omega arith) (slotBlocks (suc n) es) (slots-from (slotAt (suc n)) (suc n) es (omega arith)))
-    ∙ cell-same blockBytes s (slotAt n) (e .block) (omega arith) (w .0))
-slots-settled n (e ∷ es) s (suc i) d w h k =
-    let same : length (setCell blockBytes s (slotAt n) (e .block)) ≡ length s = length-setCell blockBytes s (slotAt n) (e .block) in
-    rw (add-suc, ← suc-add n i) (slots-settled (suc n) es (setCell blockBytes s (slotAt n) (e .block)) i d (w .1) (omega arith) (omega arith))

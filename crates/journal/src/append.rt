@@ -6,6 +6,8 @@ use crate::log::sum_entry;
 use card::queue::Ordered;
 use card::queue::Queue;
 use card::settled::read;
+use cells::ADDRESS;
+use cells::BLOCK;
 use cells::bytes::copy;
 use cells::bytes::zero;
 use cells::entry;
@@ -74,7 +76,7 @@ fn list_addresses(block: &mut [u8], at: usize, work: &[u8], group: Group)
     let count = group.count as usize;
     let mut i = 0;
     while i < count {
-        write_u32(block, at + 4 * i, entry::address(work, from + i));
+        write_u32(block, at + ADDRESS * i, entry::address(work, from + i));
         i += 1;
     }
 }
@@ -88,7 +90,7 @@ fn describe(block: &mut [u8], old: &[u8], n: u32, work: &[u8], group: Group)
     ensures { λ _. ⌜ now (block .exit) ≡ Orders.describe (now (old .entry)) n (entriesFrom (now (work .entry)) (group .from) (group .count)) ⌝ }
 {
     zero(block);
-    let at = 4 * (n as usize);
+    let at = ADDRESS * (n as usize);
     copy(&mut block[..at], &old[..at]);
     list_addresses(block, at, work, group);
 }
@@ -143,7 +145,7 @@ fn write_list(
     if !w.happened {
         return w;
     }
-    let mut block = [0u8; 512];
+    let mut block = [0u8; BLOCK];
     describe(&mut block, read(settled, DESCRIPTOR_AT), n, work, group);
     w.queue.write(waiting, DESCRIPTOR_AT, &block)
 }

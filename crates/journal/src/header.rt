@@ -2,6 +2,7 @@
 use crate::HEADER_AT;
 use card::queue::Ordered;
 use card::queue::Queue;
+use cells::BLOCK;
 use cells::bytes::zero;
 use cells::number::read_u32;
 use cells::number::read_u64;
@@ -90,7 +91,7 @@ impl Header {
         ensures { λ r. ⌜ r .happened ≡ leb 2 (q .power) ⌝ }
         ensures { λ r. ⌜ cardOf (now (settled .exit)) (now (waiting .exit)) (r .queue) ≡ run (headerWrite self ∷ flush ∷ []) (cardOf (now (settled .entry)) (now (waiting .entry)) q) ⌝ }
     {
-        let mut block = [0u8; 512];
+        let mut block = [0u8; BLOCK];
         self.fill(&mut block);
         let w = q.write(waiting, HEADER_AT, &block);
         if !w.happened {

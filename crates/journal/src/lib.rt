@@ -17,9 +17,9 @@ pub const FIRST_SLOT: u32 = 2;
 pub const SLOTS: u32 = 32;
 
 // Data blocks start behind the slots.
-pub const FIRST_DATA: u32 = 34;
+pub const FIRST_DATA: u32 = FIRST_SLOT + SLOTS;
 
-// The bounds of N.
-pub const LEAST: usize = 35;
+// The bounds of N: at least one data block.
+pub const LEAST: usize = FIRST_DATA as usize + 1;
 
 pub const MOST: usize = 65536;

@@ -3,6 +3,7 @@ use crate::DESCRIPTOR_AT;
 use crate::FIRST_DATA;
 use crate::FIRST_SLOT;
 use card::settled::read;
+use cells::ADDRESS;
 use cells::number::read_u32;
 use cells::number::write_u32;
 ghost use mathlib.Core.Path.{_≡_};
@@ -29,7 +30,7 @@ pub fn slot_address(settled: &[u8], i: u32) -> u32
     requires { ⌜ i < slots ⌝ }
     ensures { λ r. ⌜ r ≡ slotAddress (now (settled .entry)) i ⌝ }
 {
-    read_u32(read(settled, DESCRIPTOR_AT), 4 * (i as usize))
+    read_u32(read(settled, DESCRIPTOR_AT), ADDRESS * (i as usize))
 }
 
 // The block of slot i, where it lies.
@@ -45,7 +46,7 @@ pub fn slot_block<'a>(settled: &'a [u8], i: u32) -> &'a [u8]
 pub fn sum_entry(h: u64, address: u32, block: &[u8]) -> u64
     ensures { λ r. ⌜ r ≡ sumOf h (record { address = address; block = now (block .entry) } ∷ []) ⌝ }
 {
-    let mut bytes = [0u8; 4];
+    let mut bytes = [0u8; ADDRESS];
     write_u32(&mut bytes, 0, address);
     fnv::sum_from(fnv::sum_from(h, &bytes), block)
 }

@@ -1,6 +1,7 @@
 // The size of a card.
 use crate::LEAST;
 use crate::MOST;
+use card::settled::blocks_in;
 use cells::BLOCK;
 ghost use mathlib.Core.Path.{_≡_};
 ghost use Rattle.journal.specs.Layout.{wrongSize};
@@ -12,8 +13,9 @@ pub fn wrong_size(settled: &[u8]) -> bool
     if settled.len() % BLOCK != 0 {
         return true;
     }
-    if settled.len() / BLOCK < LEAST {
+    let blocks = blocks_in(settled);
+    if blocks < LEAST {
         return true;
     }
-    MOST < settled.len() / BLOCK
+    MOST < blocks
 }

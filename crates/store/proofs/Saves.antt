@@ -25,7 +25,7 @@ use Rattle.journal.specs.Layout.{slots}
 use Rattle.journal.specs.Header.{emptyHeader}
 use Rattle.journal.specs.Log.{slotAddress, entries, sumOf}
 use Rattle.journal.specs.Orders.{checkpointOrders, appendOrders, applyOrders, syncOrders}
-use Rattle.journal.specs.Choice.{choiceNumber, choose, takenCount, takenSum, recoverOrders}
+use Rattle.journal.specs.Choice.{choiceNumber, choose}
 use Rattle.journal.proofs.Logs.{sumOf-nil}
 use Rattle.journal.proofs.OrderLists.{headerEntry, checkpoint-writes, append-afresh}
 use Rattle.journal.proofs.Phases.{stopped, resumed}
@@ -36,8 +36,7 @@ use Rattle.store.specs.Lists.{groupFrom, listed}
 use Rattle.store.specs.Request.{power, abandon, recover}
 use Rattle.store.specs.Causes.{cause}
 use Rattle.store.specs.Simple.{finished, unless}
-use Rattle.store.specs.Saves.{carried, groupOf, applies, recoverCall, syncing, reopened}
-use Rattle.store.specs.Steps.{emptying, appending, recovering}
+use Rattle.store.specs.Saves.{carried, emptying, groupOf, appending, recovering, applies, syncing, recoverCall}
 use Rattle.store.proofs.Causes.{Sound, cause-passes, passes-sound, cause-2}
 use Rattle.store.proofs.Places.{data-lt}
 
@@ -135,16 +134,22 @@ same-counts os st x y w p = go (leb (length os) (st .rec .power))
 
 -- ---- apply
 
-module _ (st : State) where
-  pub apply-none : st .rec .logged ≡ 0 → carried [] (st .rec) (st .rec) st
-      ≡ carried (applyOrders (st .rec .blocks) (st .settled) (st .rec .logged)) (cond (eqb (st .rec .logged) 0) (st .rec) (withLog 0 start (st .rec))) (st .rec) st
-  unfolding applyOrders
-  apply-none n = rw (eq-eqb _ _ n)
+pub apply-none : (st : State) → st .rec .logged ≡ 0 → finished st ≡ cond (eqb (st .rec .logged) 0) (finished st) (emptying st)
+apply-none st n = rw (eq-eqb _ _ n)
 
-  pub apply-some : st .rec .logged ≢ 0 → emptying st
-      ≡ carried (applyOrders (st .rec .blocks) (st .settled) (st .rec .logged)) (cond (eqb (st .rec .logged) 0) (st .rec) (withLog 0 start (st .rec))) (st .rec) st
-  unfolding applyOrders
-  apply-some n = rw (ne-eqb _ _ n)
+pub apply-some : (st : State) → st .rec .logged ≢ 0 → emptying st ≡ cond (eqb (st .rec .logged) 0) (finished st) (emptying st)
+apply-some st n = rw (ne-eqb _ _ n)
+
+-- with a log or without, its orders are carried out
+pub apply-carried : (st : State) → cond (eqb (st .rec .logged) 0) (finished st) (emptying st)
+    ≡ carried (applyOrders (st .rec .blocks) (st .settled) (st .rec .logged)) (cond (eqb (st .rec .logged) 0) (st .rec) (withLog 0 start (st .rec))) (st .rec) st
+unfolding applyOrders
+apply-carried st = go (eqb (st .rec .logged) 0)
+  where
+    go : (t : Bool) → cond t (finished st) (emptying st)
+        ≡ carried (cond t [] (checkpointOrders (st .rec .blocks) (entries (st .settled) (st .rec .logged)))) (cond t (st .rec) (withLog 0 start (st .rec))) (st .rec) st
+    go true = sym (carried-none (st .rec) (st .rec) st)
+    go false = refl
 
 -- ---- sync
 
@@ -245,11 +250,9 @@ recover-cause st n e z d o =
     go Neither = refl
 
 pub recover-call : (st : State) (n : ℕ) → n ≡ cause (power 0) st → n ≡ 0 → st .rec .mode ≢ down → st .rec .mode ≢ opened
-    → recovering (choose (st .rec .blocks) (st .settled)) st ≡ recoverCall st
+    → unless (choiceNumber (choose (st .rec .blocks) (st .settled))) st (recovering (choose (st .rec .blocks) (st .settled)) st) ≡ recoverCall st
 unfolding recoverCall
-recover-call st n e z d o =
-    let c = choose (st .rec .blocks) (st .settled) in
-    ap (λ (k : ℕ). unless k st (carried (recoverOrders (st .rec .blocks) c) (reopened (takenCount c) (takenSum c) (st .rec)) (st .rec) st)) (sym (recover-cause st n e z d o))
+recover-call st n e z d o = ap (λ (k : ℕ). unless k st (recovering (choose (st .rec .blocks) (st .settled)) st)) (sym (recover-cause st n e z d o))
 
 -- ---- cut
 

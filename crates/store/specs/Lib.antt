@@ -8,4 +8,3 @@ pub mod Simple
 pub mod Get
 pub mod Commit
 pub mod Saves
-pub mod Steps

@@ -8,9 +8,10 @@ use Rattle.cells.specs.Entry.{Entry}
 use Rattle.fnv.specs.Fnv.{start}
 use Rattle.card.specs.Card as Card
 use Rattle.card.specs.Card.{Order, run}
+use Rattle.journal.specs.declared.choice.Choice.{Choice}
 use Rattle.journal.specs.Layout.{slots}
 use Rattle.journal.specs.Log.{entries, sumOf}
-use Rattle.journal.specs.Orders.{checkpointOrders, applyOrders, syncOrders}
+use Rattle.journal.specs.Orders.{checkpointOrders, appendOrders, syncOrders}
 use Rattle.journal.specs.Choice.{choose, takenCount, takenSum, recoverOrders}
 use Rattle.store.specs.declared.record.Record.{Record}
 use Rattle.store.specs.State.{State, Outcome, closed, opened, down, withMode, withOpened, withGrouped, withLog, withRecord, cardIn, withCard}
@@ -29,10 +30,36 @@ carried os done gone st =
       state = withCard (run os (cardIn st)) (withRecord (cond whole done (withMode down gone)) st);
     }
 
--- ---- sync
+-- ---- the steps, each as it goes on from the state that it is given
+
+-- "n home blocks in slot order, flush, an empty log's header, flush": the log is empty then
+abbrev pub emptying : State → Outcome
+emptying st =
+    carried (checkpointOrders (st .rec .blocks) (entries (st .settled) (st .rec .logged)))
+    (withLog 0 start (st .rec))
+    (st .rec)
+    st
 
 abbrev pub groupOf : State → List Entry
 groupOf st = listOf (st .work) groupFrom (st .rec .grouped)
+
+-- the group is appended to the log: "The group becomes empty; open stays. Sums continue from the record's."
+abbrev pub appending : State → Outcome
+appending st =
+    carried (appendOrders (st .rec .blocks) (st .settled) (st .rec .logged) (st .rec .sum) (groupOf st))
+    (withGrouped 0 (withLog (st .rec .logged + st .rec .grouped) (sumOf (st .rec .sum) (groupOf st)) (st .rec)))
+    (st .rec)
+    st
+
+-- "Done, the mode is open, open and group are empty, n and sum those of the list taken."
+abbrev pub reopened : ℕ → ℕ → Record → Record
+reopened n sum r = withMode opened (withOpened 0 (withGrouped 0 (withLog n sum r)))
+
+-- the list of a choice is taken
+abbrev pub recovering : Choice → State → Outcome
+recovering c st = carried (recoverOrders (st .rec .blocks) c) (reopened (takenCount c) (takenSum c) (st .rec)) (st .rec) st
+
+-- ---- sync
 
 -- "If n+m > 32, apply runs first"
 abbrev pub applies : State → Bool
@@ -61,25 +88,14 @@ syncCall st = unless (cause sync st) st (syncing st)
 
 -- ---- apply
 
+-- "n = 0: done, no orders."
 unfoldable pub applyCall : State → Outcome
-applyCall st =
-    unless (cause apply st) st
-    (carried (applyOrders (st .rec .blocks) (st .settled) (st .rec .logged))
-    (cond (eqb (st .rec .logged) 0) (st .rec) (withLog 0 start (st .rec)))
-    (st .rec)
-    st)
+applyCall st = unless (cause apply st) st (cond (eqb (st .rec .logged) 0) (finished st) (emptying st))
 
 -- ---- recover
 
--- "Done, the mode is open, open and group are empty, n and sum those of the list taken."
-abbrev pub reopened : ℕ → ℕ → Record → Record
-reopened n sum r = withMode opened (withOpened 0 (withGrouped 0 (withLog n sum r)))
-
 unfoldable pub recoverCall : State → Outcome
-recoverCall st =
-    let c = choose (st .rec .blocks) (st .settled) in
-    unless (cause recover st) st
-    (carried (recoverOrders (st .rec .blocks) c) (reopened (takenCount c) (takenSum c) (st .rec)) (st .rec) st)
+recoverCall st = unless (cause recover st) st (recovering (choose (st .rec .blocks) (st .settled)) st)
 
 -- ---- cut: "The queue is emptied, the record closed, its open, group and log counts 0, its sum the empty list's. N and the power
 -- count stay."

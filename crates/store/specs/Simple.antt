@@ -6,13 +6,13 @@ use lib.Dec.{eqb}
 use lib.ListN.{length, replicate}
 use Rattle.cells.specs.Cell.{setCell}
 use Rattle.cells.specs.Entry.{blockBytes, Entry, setEntry}
-use Rattle.fnv.specs.Fnv.{start}
 use Rattle.card.specs.Card.{blocksIn}
 use Rattle.journal.specs.declared.lookup.Found.{Found}
 use Rattle.journal.specs.declared.lookup.Found.the-variants.{At, Absent}
 use Rattle.journal.specs.Layout.{headerAt}
 use Rattle.journal.specs.Header.{encode, emptyHeader}
-use Rattle.store.specs.State.{State, Outcome, opened, withOpened, withQueue, withRecord, withWork}
+use Rattle.store.specs.State.{State, Outcome, withOpened, withQueue, withRecord, withWork}
+use Rattle.store.specs.Held.{fresh}
 use Rattle.store.specs.Lists.{openFrom, find}
 use Rattle.store.specs.Request.{format, power, put, abandon}
 use Rattle.store.specs.Causes.{cause}
@@ -35,7 +35,7 @@ unfoldable pub formatted : State → State
 formatted st =
     let N = blocksIn (st .settled) in
     record {
-      rec = record { mode = opened; blocks = N; opened = 0; grouped = 0; logged = 0; waiting = 0; power = 1000000; sum = start };
+      rec = fresh N;
       settled = setCell blockBytes (replicate (length (st .settled)) 0) headerAt (encode (emptyHeader N));
       waiting = replicate (length (st .waiting)) 0;
       work = replicate (length (st .work)) 0;

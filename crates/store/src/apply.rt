@@ -11,8 +11,7 @@ ghost use Rattle.journal.specs.Layout.{slots, firstData};
 ghost use Rattle.journal.specs.Log.{slotAddress};
 ghost use Rattle.store.specs.Held.{stateOf, outcomeOf};
 ghost use Rattle.store.specs.Causes.{waitingBytes};
-ghost use Rattle.store.specs.Saves.{applyCall};
-ghost use Rattle.store.specs.Steps.{emptying};
+ghost use Rattle.store.specs.Saves.{emptying, applyCall};
 
 impl Record {
     pub fn apply(self, settled: &mut [u8], waiting: &mut [u8], work: &[u8]) -> Saved

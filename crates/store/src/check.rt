@@ -1,4 +1,6 @@
 // The table of causes: rows 1 to 4, shared by the calls.
+use crate::WAITING;
+use crate::WORK;
 use crate::lists::GROUP;
 use crate::lists::OPEN;
 use crate::lists::address;
@@ -8,7 +10,7 @@ use crate::record::DOWN;
 use crate::record::OPENED;
 use crate::record::Record;
 use card::PLACES;
-use cells::BLOCK;
+use card::settled::blocks_in;
 use journal::SLOTS;
 use journal::log::all_data;
 use journal::log::is_data;
@@ -26,11 +28,6 @@ ghost use Rattle.store.specs.Request as Request;
 ghost use Rattle.store.specs.Causes as Causes;
 ghost use Rattle.store.specs.Causes.{cause, workBytes};
 
-// The lengths of the waiting bytes and of work memory.
-const WAITING_BYTES: usize = 17544;
-
-const WORK_BYTES: usize = 33024;
-
 // Row 1: the lengths of the lent buffers and N.
 pub(crate) fn wrong_sizes(settled: &[u8], waiting: &[u8], work: &[u8]) -> bool
     ensures { λ r. ⌜ ((q : Declared.Record) → r ≡ Causes.wrongSizes (stateOf q (now (settled .entry)) (now (waiting .entry)) (now (work .entry)))) ⌝ }
@@ -38,10 +35,10 @@ pub(crate) fn wrong_sizes(settled: &[u8], waiting: &[u8], work: &[u8]) -> bool
     if wrong_size(settled) {
         return true;
     }
-    if waiting.len() != WAITING_BYTES {
+    if waiting.len() != WAITING {
         return true;
     }
-    work.len() != WORK_BYTES
+    work.len() != WORK
 }
 
 // Row 2, a list in work memory: an address that is not that of a data block.
@@ -97,7 +94,7 @@ impl Record {
         if self.waiting != 0 && self.mode != DOWN {
             return true;
         }
-        self.blocks as usize != settled.len() / BLOCK
+        self.blocks as usize != blocks_in(settled)
     }
 
     // Row 2: a waiting address not below N.

@@ -2,6 +2,7 @@
 use crate::check::wrong_sizes;
 use crate::record::Answer;
 use crate::record::Record;
+use card::settled::blocks_in;
 use card::settled::settle;
 use card::settled::wipe;
 use cells::BLOCK;
@@ -26,7 +27,7 @@ impl Record {
         if wrong_sizes(settled, waiting, work) {
             return self.answer(1);
         }
-        let blocks = (settled.len() / BLOCK) as u32;
+        let blocks = blocks_in(settled) as u32;
         wipe(settled, waiting);
         settle_header(settled, blocks);
         zero(work);
@@ -39,7 +40,7 @@ fn settle_header(settled: &mut [u8], blocks: u32)
     requires { ⌜ headerAt < blocksIn (now settled) ⌝ }
     ensures { λ _. ⌜ now (settled .exit) ≡ setCell blockBytes (now (settled .entry)) headerAt (encode (emptyHeader blocks)) ⌝ }
 {
-    let mut block = [0u8; 512];
+    let mut block = [0u8; BLOCK];
     Header::empty(blocks).fill(&mut block);
     settle(settled, HEADER_AT, &block);
 }

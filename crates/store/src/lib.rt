@@ -13,3 +13,12 @@ pub mod record;
 pub mod recover;
 pub mod saved;
 pub mod sync;
+
+use card::PLACES;
+use cells::ENTRY;
+use journal::SLOTS;
+
+// The lengths of the waiting bytes and of work memory: 32 open entries, then 32 group entries.
+pub const WAITING: usize = ENTRY * PLACES;
+
+pub const WORK: usize = ENTRY * (SLOTS + SLOTS) as usize;

@@ -1,7 +1,10 @@
 // The lists in work memory: open, and group behind it.
+use cells::ADDRESS;
+use cells::BLOCK;
 use cells::ENTRY;
 use cells::bytes::copy;
 use cells::entry;
+use journal::SLOTS;
 use journal::lookup::Found;
 ghost use mathlib.Core.Path.{_≡_};
 ghost use Prim.Native.Nat.{_+_, _*_, _≤_, _<_};
@@ -16,7 +19,7 @@ ghost use Rattle.store.specs.Get.{listedPlace};
 // The entry at which each starts.
 pub const OPEN: usize = 0;
 
-pub const GROUP: usize = 32;
+pub const GROUP: usize = SLOTS as usize;
 
 // The address of the i-th entry of the list that starts at from.
 pub(crate) fn address(work: &[u8], from: usize, i: u32) -> u32
@@ -31,7 +34,7 @@ pub(crate) fn place_of(from: usize, i: u32) -> usize
     requires { ⌜ from + i < slots + slots ⌝ }
     ensures { λ r. ⌜ r ≡ listedPlace from i ⌝ }
 {
-    ENTRY * (from + (i as usize)) + 4
+    ENTRY * (from + (i as usize)) + ADDRESS
 }
 
 // The entry with the address a among its first n.
@@ -66,7 +69,7 @@ pub(crate) fn copy_entry(work: &mut [u8], from: usize, to: usize)
     requires { ⌜ entryBytes * to + entryBytes ≤ length (now work) ⌝ }
     ensures { λ _. ⌜ now (work .exit) ≡ setEntry (now (work .entry)) to (entryAt (now (work .entry)) from) ⌝ }
 {
-    let mut block = [0u8; 512];
+    let mut block = [0u8; BLOCK];
     copy(&mut block, entry::block(work, from));
     let a = entry::address(work, from);
     entry::set(work, to, a, &block);

@@ -11,6 +11,9 @@ pub const OPENED: u32 = 1;
 
 pub const DOWN: u32 = 2;
 
+// The power count of a fresh card.
+pub const POWER: u32 = 1000000;
+
 pub struct Record {
     pub mode: u32,
     pub blocks: u32,
@@ -40,7 +43,7 @@ impl Record {
             grouped: 0,
             logged: 0,
             waiting: 0,
-            power: 1000000,
+            power: POWER,
             sum: fnv::START,
         }
     }

@@ -12,11 +12,12 @@ ghost use Prim.Native.Nat.{ℕ, _≤_, _<_};
 ghost use lib.ListN.{length};
 ghost use Rattle.card.specs.Card.{blocksIn};
 ghost use Rattle.journal.specs.Layout.{firstData};
+ghost use Rattle.journal.specs.Choice.{choiceNumber};
 ghost use Rattle.store.specs.Held.{stateOf, outcomeOf};
 ghost use Rattle.store.specs.Causes.{waitingBytes};
-ghost use Rattle.store.specs.Saves.{recoverCall};
+ghost use Rattle.store.specs.Simple.{unless};
 ghost use Rattle.store.specs.Saves as Saves;
-ghost use Rattle.store.specs.Steps.{recovering};
+ghost use Rattle.store.specs.Saves.{recovering, recoverCall};
 
 impl Record {
     pub fn recover(self, settled: &mut [u8], waiting: &mut [u8], work: &[u8]) -> Saved
@@ -41,7 +42,7 @@ impl Record {
         requires { ⌜ firstData < blocksIn (now settled) ⌝ }
         requires { ⌜ self .waiting ≡ 0 ⌝ }
         requires { ⌜ waitingBytes ≤ length (now waiting) ⌝ }
-        ensures { λ r. ⌜ ((k : List ℕ) → outcomeOf (r .number) (r .orders) (r .rec) (now (settled .exit)) (now (waiting .exit)) k ≡ recovering choice (stateOf self (now (settled .entry)) (now (waiting .entry)) k)) ⌝ }
+        ensures { λ r. ⌜ ((k : List ℕ) → outcomeOf (r .number) (r .orders) (r .rec) (now (settled .exit)) (now (waiting .exit)) k ≡ unless (choiceNumber choice) (stateOf self (now (settled .entry)) (now (waiting .entry)) k) (recovering choice (stateOf self (now (settled .entry)) (now (waiting .entry)) k))) ⌝ }
     {
         match choice {
             Choice::Whole(n, sum) => self.saved(self.reopened(n, sum)),

@@ -17,8 +17,7 @@ ghost use Rattle.journal.specs.Log.{slotAddress};
 ghost use Rattle.store.specs.State.{opened};
 ghost use Rattle.store.specs.Held.{stateOf, outcomeOf};
 ghost use Rattle.store.specs.Causes.{waitingBytes, workBytes};
-ghost use Rattle.store.specs.Saves.{syncing, syncCall};
-ghost use Rattle.store.specs.Steps.{appending};
+ghost use Rattle.store.specs.Saves.{appending, syncing, syncCall};
 
 impl Record {
     pub fn sync(self, settled: &mut [u8], waiting: &mut [u8], work: &[u8]) -> Saved

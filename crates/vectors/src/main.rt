@@ -2,9 +2,14 @@
 // hex and the bytes. The file stdout holds the published sums.
 use libc::STDOUT_FILENO;
 
+// The printable bytes: from the space, up to the delete.
+const SPACE: u8 = 32;
+
+const DELETE: u8 = 127;
+
 // A byte: itself if it is printable, else \x and its two hex digits.
 fn show(b: u8) {
-    if b >= 32 && b < 127 {
+    if b >= SPACE && b < DELETE {
         io::write_all(STDOUT_FILENO, &[b]);
     } else {
         io::write_all(STDOUT_FILENO, b"\\x");

@@ -1,14 +1,14 @@
 -- The laws of cells, each once over the cell's size k.
-use Prim.Native.Nat.{ℕ, zero, suc, _+_, _*_, _-_, _≤_, _<_, min}
-use mathlib.Core.Path.{_≡_, refl, ap, ap₂, sym, _∙_}
+use Prim.Native.Nat.{ℕ, zero, suc, _+_, _*_, _≤_, _<_, min}
+use mathlib.Core.Path.{_≡_, refl, ap, sym, _∙_}
 use mathlib.Core.Logic.{_≢_, _⊎_, ⊎-elim}
 use mathlib.Core.List.{List, [], _∷_, _++_, append-assoc}
 use native.Mathlib.Nat.{mul-suc, mul-le-mul-left, add-suc, suc-add}
 use native.Mathlib.Decide.{decLt}
 use native.Mathlib.Omega.{arith}
 use lib.Dec.{lit<}
-use lib.ListN.{length, take, drop, getD, set, replicate, length-take, length-drop, length-set, length-replicate, getD-replicate}
-use lib.Seq.{sets, sets-eq, length-sets, length-take-le, take-nil, take-all, take-add, take-at, drop-at, drop-drop, getD-take, getD-drop, getD-set-same, getD-set-other, ext-getD}
+use lib.ListN.{length, take, drop, getD, set, replicate, length-take, length-drop, length-replicate, getD-replicate}
+use lib.Seq.{sets, sets-eq, length-sets, length-take-le, take-nil, take-all, take-at, drop-at, drop-drop, getD-take, getD-drop, getD-set-other, ext-getD}
 use Rattle.cells.specs.Cell.{cell, setCell}
 use Rattle.cells.specs.Little.{Bytes}
 
@@ -21,15 +21,6 @@ sets-outside (v ∷ vs) l i j h =
     sets-outside vs (set l i v) (suc i) j (⊎-elim (λ p. _⊎_.inl (omega arith)) (λ p. _⊎_.inr (omega arith)) h)
     ∙ getD-set-other l i j v 0 (⊎-elim (λ p e. omega arith) (λ p e. omega arith) h)
 
--- the run itself
-pub sets-inside : (vs l : List ℕ) (i j : ℕ) → i + length vs ≤ length l → j < length vs → getD (sets l i vs) (i + j) 0 ≡ getD vs j 0
-sets-inside (v ∷ vs) l i zero h k =
-    rw (native.Mathlib.Nat.add-zero)
-    (sets-outside vs (set l i v) (suc i) i (_⊎_.inl (omega arith)) ∙ getD-set-same l i v 0 (omega arith))
-sets-inside (v ∷ vs) l i (suc j) h k =
-    let h′ : suc i + length vs ≤ length (set l i v) = rw (length-set) (omega arith) in
-    rw (add-suc, ← suc-add i j) (sets-inside vs (set l i v) (suc i) j h′ (omega arith))
-
 pub sets-append : (u v l : List ℕ) (i : ℕ) → sets l i (u ++ v) ≡ sets (sets l i u) (i + length u) v
 sets-append [] v l i = rw (native.Mathlib.Nat.add-zero)
 sets-append (x ∷ u) v l i = sets-append u v (set l i x) (suc i) ∙ rw (suc-add, ← add-suc i (length u))
@@ -39,17 +30,6 @@ pub put-sets : (a n : ℕ) (s v : List ℕ) → a + n ≤ length s → n ≡ len
 put-sets a n s v h e =
     let h′ : a + length v ≤ length s = omega arith in
     rw (e, sets-eq v s a h′, append-assoc, drop-drop)
-
-pub bytes-sets : (vs l : List ℕ) (i : ℕ) → Bytes vs → Bytes l → Bytes (sets l i vs)
-bytes-sets [] l i hv hl = hl
-bytes-sets (v ∷ vs) l i hv hl = bytes-sets vs (set l i v) (suc i) (λ j. hv (suc j)) (bytes-set l i v (hv 0) hl)
-  where
-    bytes-set : (l : List ℕ) (i v : ℕ) → v < 256 → Bytes l → Bytes (set l i v)
-    bytes-set [] i v hv hl j = hl j
-    bytes-set (x ∷ l) zero v hv hl zero = hv
-    bytes-set (x ∷ l) zero v hv hl (suc j) = hl (suc j)
-    bytes-set (x ∷ l) (suc i) v hv hl zero = hl zero
-    bytes-set (x ∷ l) (suc i) v hv hl (suc j) = bytes-set l i v hv (λ m. hl (suc m)) j
 
 -- ---- places
 
@@ -145,18 +125,6 @@ cell-other k s i j v h =
         ∙ sym (getD-take k (drop (k * j) s) x 0 less)
 
 -- ---- the whole by its cells
-
--- equal cells make equal lists
-pub ext-cells : (k n : ℕ) (s t : List ℕ) → length s ≡ k * n → length t ≡ k * n → ((i : ℕ) → i < n → cell k s i ≡ cell k t i) → s ≡ t
-unfolding cell
-ext-cells k n s t hs ht e =
-    sym (take-all (k * n) s (omega arith)) ∙ front n (omega arith) ∙ take-all (k * n) t (omega arith)
-  where
-    front : (m : ℕ) → m ≤ n → take (k * m) s ≡ take (k * m) t
-    front zero h = rw (native.Mathlib.Nat.mul-zero)
-    front (suc m) h =
-        let less : m < n = omega arith in
-        rw (mul-suc, take-add (k * m) k s, take-add (k * m) k t) (ap₂ (λ (a b : List ℕ). a ++ b) (front m (omega arith)) (e m less))
 
 -- every cell of zeros is zeros
 pub cell-zeros : (k n i : ℕ) → k * i + k ≤ n → cell k (replicate n 0) i ≡ replicate k 0

@@ -4,6 +4,7 @@ use mathlib.Core.Path.{_≡_}
 use mathlib.Core.Bool.{false}
 use native.Mathlib.Omega.{arith}
 use borrow.Author.Tests.{eq-eqb, ne-eqb, lt-ltb, le-ltb}
+use borrow.Author.Needs.{needs}
 use lib.Dec.{eqb}
 use lib.ListN.{length}
 use Rattle.cells.specs.Entry.{blockBytes}
@@ -15,16 +16,25 @@ use Rattle.journal.proofs.size.wrong_size.Tie as tie
 returns : tie.Need-returns
 unfolding wrongSize
 returns c =
-    let torn : eqb (length (c .before .args .settled .now) % blockBytes) 0 ≡ false = ne-eqb _ _ (c .if1 .taken) in
+    let torn : eqb (length (c .before .before .args .settled .now) % blockBytes) 0 ≡ false = ne-eqb _ _ (c .if1 .taken) in
     rw torn
+
+blocks-in-requires : tie.Need-blocks-in-requires
+blocks-in-requires c κs = search needs
 
 returns-2 : tie.Need-returns-2
 unfolding wrongSize
-returns-2 c = rw (eq-eqb _ _ (c .before .if1 .left), lt-ltb (blocksIn (c .before .before .args .settled .now)) leastBlocks (omega arith))
+returns-2 c =
+    let N = blocksIn (c .before .before .before .before .args .settled .now) in
+    let told : c .before .blocks-in .result ≡ N = c .before .blocks-in .ensures in
+    rw (eq-eqb _ _ (c .before .before .if1 .left), lt-ltb N leastBlocks (omega arith))
 
 returns-3 : tie.Need-returns-3
 unfolding wrongSize
-returns-3 c = rw (eq-eqb _ _ (c .before .if1 .left), le-ltb (blocksIn (c .before .before .args .settled .now)) leastBlocks (omega arith))
+returns-3 c =
+    let N = blocksIn (c .before .before .before .before .args .settled .now) in
+    let told : c .before .blocks-in .result ≡ N = c .before .blocks-in .ensures in
+    rw (told, eq-eqb _ _ (c .before .before .if1 .left), le-ltb N leastBlocks (omega arith))
 
 pub wrong-size-spec : {M : Type 1} → statement M
-wrong-size-spec = tie.close (tie.spec returns returns-2 returns-3)
+wrong-size-spec = tie.close (tie.spec returns blocks-in-requires returns-2 returns-3)

@@ -50,7 +50,7 @@ returns-2 c =
     let st = given (k .before .before .before .before .before .before .before) in
     rw (c .saved .ensures)
     (carried-ends [] (st .rec) (st .rec) st (checked k .live) _ _ _ _ (sym (ap (λ (o : Outcome). o .state) (carried-none (st .rec) (st .rec) st)))
-    ∙ apply-none st (c .before .if2 .taken) ∙ call-done _ _ _ _ (k .before .not-open .ensures) (k .if1 .left))
+    ∙ carried-none (st .rec) (st .rec) st ∙ apply-none st (c .before .if2 .taken) ∙ call-done _ _ _ _ (k .before .not-open .ensures) (k .if1 .left))
 
 emptied-requires : tie.Need-emptied-requires
 emptied-requires c κs =

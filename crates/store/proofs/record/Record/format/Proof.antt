@@ -3,6 +3,7 @@ use mathlib.Core.Path.{_≡_, refl, sym, _∙_}
 use mathlib.Core.Bool.{true, false}
 use native.Mathlib.Omega.{arith}
 use lib.ListN.{length, replicate, length-replicate}
+use Rattle.card.specs.Card.{blocksIn}
 use Rattle.store.specs.State.{State}
 use Rattle.store.specs.Held.{stateOf}
 use Rattle.store.specs.Request.{format}
@@ -41,15 +42,23 @@ returns c =
     let e : wrongSizes (given (c .before .before .before .before .before .before .before .before .before)) ≡ true = sym (c .before .before .wrong-sizes .ensures _) ∙ c .before .if1 .taken in
     rw (c .answer .ensures) (call-refused 1 (cause format (given (c .before .before .before .before .before .before .before .before .before))) (given (c .before .before .before .before .before .before .before .before .before)) _ (rw e) (λ z. omega arith))
 
+blocks-in-requires : tie.Need-blocks-in-requires
+blocks-in-requires c κs = search needs
+
 cast-blocks : tie.Need-cast-blocks
-cast-blocks c = let s = sizes-facts (given (c .before .before .before .before .before .before .before .before)) (sized c) in omega arith
+cast-blocks c =
+    let e = c .before .before in
+    let st = given (e .before .before .before .before .before .before .before .before) in
+    let told : c .blocks-in .result ≡ blocksIn (st .settled) = c .blocks-in .ensures in
+    let s = sizes-facts st (sized e) in
+    omega arith
 
 wipe-requires : tie.Need-wipe-requires
 wipe-requires c κs = search needs
 
 settle-header-requires : tie.Need-settle-header-requires
 settle-header-requires c κs =
-    let e = c .before .before .before .before .before .before .before .before in
+    let e = c .before .before .before .before .before .before .before .before .before .before in
     let s = sizes-facts (given (e .before .before .before .before .before .before .before .before)) (sized e) in
     let zeros : c .before .before .before .before .before .wipe .last .0 ≡ replicate (length (e .before .before .before .before .before .before .before .before .args .settled .now)) 0 = c .before .before .before .before .before .wipe .ensures .0 in
     rw (zeros, length-replicate) (omega arith)
@@ -76,9 +85,10 @@ returns-2 : tie.Need-returns-2
 unfolding formatCall formatted
 returns-2 c =
     let wiped = c .before .before .before .before .before .before .before .before .before .before .before .before .before .before in
-    let e = wiped .before .before .before in
+    let b = wiped .before .before .before in
+    let e = b .before .before in
     let empty : wiped .wipe .last .1 .0 ≡ replicate (length (given (e .before .before .before .before .before .before .before .before) .waiting)) 0 = wiped .wipe .ensures .1 in
-    rw (c .answer2 .ensures, c .before .fresh .ensures, c .before .before .before .before .before .before .before .before .settle-header .ensures, wiped .wipe .ensures .0, empty, c .before .before .before .before .zero .ensures)
+    rw (c .answer2 .ensures, c .before .fresh .ensures, c .before .before .before .before .before .before .before .before .settle-header .ensures, b .blocks-in .ensures, wiped .wipe .ensures .0, empty, c .before .before .before .before .zero .ensures)
     (call-done 0 (cause format (given (e .before .before .before .before .before .before .before .before))) (given (e .before .before .before .before .before .before .before .before)) _ (rw (sized e)) refl)
 
 pub format-spec : {M : Type 1} → statement M
@@ -91,6 +101,7 @@ format-spec =
     same-length-2
     same-length-3
     returns
+    blocks-in-requires
     cast-blocks
     wipe-requires
     settle-header-requires

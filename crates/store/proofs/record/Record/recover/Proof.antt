@@ -6,12 +6,13 @@ use borrow.Author.Tests.{eq-eqb, ne-eqb, eqb-false}
 use lib.Dec.{eqb}
 use lib.ListN.{drop}
 use Rattle.journal.specs.declared.choice.Choice.{Choice}
+use Rattle.journal.specs.Choice.{choiceNumber}
 use Rattle.store.specs.State.{State, down}
 use Rattle.store.specs.Held.{stateOf}
 use Rattle.store.specs.Request.{power, recover}
 use Rattle.store.specs.Causes.{table, first, cause}
-use Rattle.store.specs.Saves.{recoverCall}
-use Rattle.store.specs.Steps.{recovering}
+use Rattle.store.specs.Simple.{unless}
+use Rattle.store.specs.Saves.{recovering, recoverCall}
 use Rattle.store.proofs.Calls.{call-refused}
 use Rattle.store.proofs.Causes.{Sound, passes-sound, cause-2}
 use Rattle.store.proofs.Saves.{idle, recover-call}
@@ -97,7 +98,7 @@ returns-4 c =
     let r = c .before .before .before .before in
     let e = r .before .before .before .before .before .before .before .before .before in
     let st = given (r .before .before .before .before .before .before .before .before .before .before .before .before .before .before .before .before) in
-    r .recovered .ensures (st .work) ∙ ap (λ (x : Choice). recovering x st) (r .before .before .before .choose .ensures)
+    r .recovered .ensures (st .work) ∙ ap (λ (x : Choice). unless (choiceNumber x) st (recovering x st)) (r .before .before .before .choose .ensures)
     ∙ recover-call st (e .before .bad-record .result) (e .before .bad-record .ensures) (e .if1 .left) (r .before .before .before .before .before .before .before .if2 .left) (r .before .before .before .before .before .if3 .left)
 
 pub recover-spec : {M : Type 1} → statement M

@@ -7,12 +7,13 @@ use borrow.Author.Tests.{eqb-false}
 use Rattle.card.specs.declared.queue.Queue.{Queue}
 use Rattle.journal.specs.Orders.{fallbackOrders}
 use Rattle.journal.specs.declared.choice.Choice.{Choice}
+use Rattle.journal.specs.Choice.{choiceNumber}
 use Rattle.journal.proofs.OrderLists.{length-fallback}
 use Rattle.store.specs.declared.record.Record.{Record}
 use Rattle.store.specs.State.{State, Outcome, opened, down}
 use Rattle.store.specs.Held.{stateOf}
-use Rattle.store.specs.Saves.{carried, reopened}
-use Rattle.store.specs.Steps.{recovering}
+use Rattle.store.specs.Simple.{unless}
+use Rattle.store.specs.Saves.{carried, reopened, recovering}
 use Rattle.store.proofs.Saves as Saves
 use Rattle.store.proofs.Saves.{carried-power, carried-ends, carried-none}
 use borrow.Author.Needs.{needs}
@@ -21,6 +22,10 @@ use Rattle.store.proofs.record.Record.recovered.Tie as tie
 
 abbrev given : tie.Start → List ℕ → State
 given c k = stateOf (c .args .self) (c .args .settled .now) (c .args .waiting .now) k
+
+-- what it promises of a choice
+abbrev by : State → Choice → Outcome
+by st x = unless (choiceNumber x) st (recovering x st)
 
 -- what a fallback left
 fell : (c : tie.After-after) (k : List ℕ) → let x = c .before .before .before .before .before .before .before .before .before .before .before .choice2 .given .0 in let a = c .before .before .before .before .before .before .before .before .before .before .before .before .before .before .before .args in
@@ -89,7 +94,7 @@ returns c =
     rw (c .saved .ensures)
     (carried-ends [] (reopened (a .0 .0) (a .0 .1 .0) (st .rec)) (st .rec) st (eqb-false opened down refl) _ _ _ _
     (ap (λ (r : Record). stateOf r (st .settled) (st .waiting) k) (c .before .reopened .ensures) ∙ sym (ap (λ (o : Outcome). o .state) (carried-none (reopened (a .0 .0) (a .0 .1 .0) (st .rec)) (st .rec) st)))
-    ∙ ap (λ (x : Choice). recovering x st) (sym (a .1)))
+    ∙ ap (by st) (sym (a .1)))
 
 same-length : tie.Need-same-length
 same-length c = search needs
@@ -103,13 +108,13 @@ returns-2 c =
     λ k.
     rw (c .saved2 .ensures)
     (carried-ends _ _ _ (given start k) (eqb-false opened down refl) _ _ _ _ (fell (c .before) k)
-    ∙ ap (λ (x : Choice). recovering x (given start k)) (sym (c .before .before .before .before .before .before .before .before .before .before .before .before .choice2 .given .1)))
+    ∙ ap (by (given start k)) (sym (c .before .before .before .before .before .before .before .before .before .before .before .before .choice2 .given .1)))
 
 returns-3 : tie.Need-returns-3
-returns-3 c = λ k. rw (c .refused .ensures) (ap (λ (x : Choice). recovering x (given (c .before .before .before .before .before) k)) (sym (c .before .enum-told .given .1)))
+returns-3 c = λ k. rw (c .refused .ensures) (ap (by (given (c .before .before .before .before .before) k)) (sym (c .before .enum-told .given .1)))
 
 returns-4 : tie.Need-returns-4
-returns-4 c = λ k. rw (c .refused2 .ensures) (ap (λ (x : Choice). recovering x (given (c .before .before .before .before .before) k)) (sym (c .before .enum-told2 .given .1)))
+returns-4 c = λ k. rw (c .refused2 .ensures) (ap (by (given (c .before .before .before .before .before) k)) (sym (c .before .enum-told2 .given .1)))
 
 pub recovered-spec : {M : Type 1} → statement M
 recovered-spec =

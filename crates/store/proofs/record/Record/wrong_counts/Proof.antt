@@ -38,11 +38,14 @@ returns-6 c =
 cast-result : tie.Need-cast-result
 cast-result c = search needs
 
+blocks-in-requires : tie.Need-blocks-in-requires
+blocks-in-requires c κs = search needs
+
 returns-7 : tie.Need-returns-7
 unfolding wrongCounts
 returns-7 c =
-    let e = c .before .before .before in
-    λ w k. rw (le-ltb _ _ (e .before .before .before .before .before .before .before .before .if1 .left), le-ltb _ _ (e .before .before .before .before .before .before .if2 .left), le-ltb _ _ (e .before .before .before .before .if3 .left), le-ltb _ _ (e .before .before .if4 .left), le-ltb _ _ (e .if5 .left)) (⊎-elim (λ p. rw (ne-eqb _ _ (p .0 .taken), p .2 .left)) (λ p. rw (eq-eqb _ _ (p .left))) (c .before .if6 .came))
+    let e = c .before .before .before .before in
+    λ w k. rw (le-ltb _ _ (e .before .before .before .before .before .before .before .before .if1 .left), le-ltb _ _ (e .before .before .before .before .before .before .if2 .left), le-ltb _ _ (e .before .before .before .before .if3 .left), le-ltb _ _ (e .before .before .if4 .left), le-ltb _ _ (e .if5 .left), c .blocks-in .ensures) (⊎-elim (λ p. rw (ne-eqb _ _ (p .0 .taken), p .2 .left)) (λ p. rw (eq-eqb _ _ (p .left))) (c .before .before .if6 .came))
 
 pub wrong-counts-spec : {M : Type 1} → statement M
 wrong-counts-spec =
@@ -56,4 +59,5 @@ wrong-counts-spec =
     returns-5
     returns-6
     cast-result
+    blocks-in-requires
     returns-7)
