@@ -25,7 +25,7 @@ use Rattle.journal.specs.Header.{header, emptyHeader}
 use Rattle.journal.specs.Log.{entries, sumOf, slotEntry}
 use Rattle.journal.specs.Orders.{appendOrders, checkpointOrders, applyOrders, syncOrders}
 use Rattle.journal.specs.Choice.{choose, recoverOrders}
-use Rattle.journal.proofs.Logs.{from-whole, entries-whole, length-blockAt, length-entries}
+use Rattle.journal.proofs.Logs.{from-whole, entries-whole, length-blockAt}
 use Rattle.journal.proofs.Choices.{both}
 use Rattle.journal.proofs.Headers.{length-encode}
 use Rattle.journal.proofs.OrderLists.{headerEntry, appendWrites, append-writes, checkpoint-writes, fallback-writes, length-checkpoint, length-fallback}
@@ -231,7 +231,7 @@ sync-left st = go (applies st)
     go : (t : Bool)
         → cond (leb (length (cond t (checkpointOrders N log) [])) (st .rec .power)) (cond t (withLog 0 start (st .rec)) (st .rec)) (st .rec)
         ≡ cond (t && leb (st .rec .logged + 3) (st .rec .power)) (withLog 0 start (st .rec)) (st .rec)
-    go true = ap (λ (k : ℕ). cond (leb k (st .rec .power)) (withLog 0 start (st .rec)) (st .rec)) (length-checkpoint N log ∙ ap (λ (k : ℕ). k + 3) (length-entries (st .settled) (st .rec .logged)))
+    go true = ap (λ (k : ℕ). cond (leb k (st .rec .power)) (withLog 0 start (st .rec)) (st .rec)) (length-checkpoint N log ∙ ap (λ (k : ℕ). k + 3) (length-upTo (slotEntry (st .settled)) (st .rec .logged)))
     go false = either (leb 0 (st .rec .power))
 
 form : (q : Request) (st : State) → Form q st
