@@ -63,14 +63,20 @@ pub fed-none : (all bytes : List ℕ) (s : Session) → _≡_ {A = Step} (record
 unfolding fed
 fed-none all bytes s = refl
 
+-- a run behind a run
+pub fed-append : (a b : List ℕ) (s : Session)
+    → fed (a ++ b) s ≡ record { print = fed a s .print ++ fed b (fed a s .next) .print; next = fed b (fed a s .next) .next }
+unfolding fed
+fed-append [] b s = refl
+fed-append (x ∷ a) b s =
+    let p = fed-append a b (feed x s .next) in
+    λ j. record { print = (ap (λ (q : Step). feed x s .print ++ q .print) p ∙ sym (append-assoc (feed x s .print) (fed a (feed x s .next) .print) (fed b (fed a (feed x s .next) .next) .print))) j; next = p j .next }
+
 -- one byte more
 fed-snoc : (bs : List ℕ) (b : ℕ) (s : Session)
     → fed (bs ++ (b ∷ [])) s ≡ record { print = fed bs s .print ++ feed b (fed bs s .next) .print; next = feed b (fed bs s .next) .next }
 unfolding fed
-fed-snoc [] b s = λ j. record { print = append-nil (feed b s .print) j; next = feed b s .next }
-fed-snoc (x ∷ bs) b s =
-    let p = fed-snoc bs b (feed x s .next) in
-    λ j. record { print = (ap (λ (q : Step). feed x s .print ++ q .print) p ∙ sym (append-assoc (feed x s .print) (fed bs (feed x s .next) .print) (feed b (fed bs (feed x s .next) .next) .print))) j; next = p j .next }
+fed-snoc bs b s = fed-append bs (b ∷ []) s ∙ ap (λ (l : List ℕ). record { print = fed bs s .print ++ l; next = feed b (fed bs s .next) .next }) (append-nil (feed b (fed bs s .next) .print))
 
 -- what it prints goes behind what was printed
 take-behind : (all out : List ℕ) (at n : ℕ) → at + n ≤ length all → n ≤ length out

@@ -14,7 +14,8 @@ use Rattle.script.specs.Commands.{lineBytes, keptBytes, parse}
 use Rattle.script.specs.Answers.{lf}
 use Rattle.script.specs.Performs.{perform}
 use Rattle.script.specs.Transcript.{linesOf, said, printed, reply, transcript}
-use Rattle.script.specs.Steps.{Session, keep, answer, feed, fed, finish, steps, fresh}
+use Rattle.script.specs.Steps.{Session, Step, keep, answer, feed, fed, finish, steps, joined, parts, fresh}
+use Rattle.script.proofs.Sessions.{fed-append}
 
 -- ---- lines
 
@@ -126,3 +127,15 @@ steps-said (b ∷ bs) k st h = steps-cons b bs (record { kept = k; state = st })
 pub steps-transcript : (input : List ℕ) → steps input fresh ≡ transcript input
 unfolding transcript
 steps-transcript input = steps-said input [] _ tt
+
+-- however the input is parted
+parts-steps : (ps : List (List ℕ)) (s : Session) → parts ps s ≡ steps (joined ps) s
+unfolding parts joined steps fed
+parts-steps [] s = refl
+parts-steps (p ∷ ps) s =
+    let q = fed-append p (joined ps) s in
+    ap (λ (l : List ℕ). fed p s .print ++ l) (parts-steps ps (fed p s .next))
+        ∙ sym (ap (λ (t : Step). t .print ++ finish (t .next) .print) q ∙ append-assoc (fed p s .print) (fed (joined ps) (fed p s .next) .print) (finish (fed (joined ps) (fed p s .next) .next) .print))
+
+pub parts-transcript : (ps : List (List ℕ)) → parts ps fresh ≡ transcript (joined ps)
+parts-transcript ps = parts-steps ps fresh ∙ steps-transcript (joined ps)

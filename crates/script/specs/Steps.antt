@@ -43,6 +43,15 @@ finish s = cond (eqb (length (s .kept)) 0) (record { print = []; next = s }) (an
 unfoldable pub steps : List ℕ → Session → List ℕ
 steps bs s = fed bs s .print ++ finish (fed bs s .next) .print
 
+-- an input in parts, each fed at once
+unfoldable pub joined : List (List ℕ) → List ℕ
+joined [] = []
+joined (p ∷ ps) = p ++ joined ps
+
+unfoldable pub parts : List (List ℕ) → Session → List ℕ
+parts [] s = finish s .print
+parts (p ∷ ps) s = fed p s .print ++ parts ps (fed p s .next)
+
 abbrev pub fresh : Session
 fresh = record { kept = []; state = beginning }
 
