@@ -135,7 +135,7 @@ parts-steps [] s = refl
 parts-steps (p ∷ ps) s =
     let q = fed-append p (joined ps) s in
     ap (λ (l : List ℕ). fed p s .print ++ l) (parts-steps ps (fed p s .next))
-        ∙ sym (ap (λ (t : Step). t .print ++ finish (t .next) .print) q ∙ append-assoc (fed p s .print) (fed (joined ps) (fed p s .next) .print) (finish (fed (joined ps) (fed p s .next) .next) .print))
+    ∙ sym (ap (λ (t : Step). t .print ++ finish (t .next) .print) q ∙ append-assoc (fed p s .print) (fed (joined ps) (fed p s .next) .print) (finish (fed (joined ps) (fed p s .next) .next) .print))
 
 pub parts-transcript : (ps : List (List ℕ)) → parts ps fresh ≡ transcript (joined ps)
 parts-transcript ps = parts-steps ps fresh ∙ steps-transcript (joined ps)

@@ -2,7 +2,7 @@
 use Prim.Native.Nat.{ℕ}
 use mathlib.Core.Path.{_≡_}
 use mathlib.Core.Bool.{Bool, true, false, _&&_}
-use lib.Dec.{ltb}
+use lib.Dec.{eqb, ltb}
 use lib.IntN.{ℤ, pos, negsuc}
 
 -- the descriptors that the program reads and writes
@@ -17,6 +17,11 @@ output = pos 1
 abbrev pub goesOn : Bool → ℤ → Bool → Bool
 goesOn whole (pos n) interrupted = whole && ltb 0 n
 goesOn whole (negsuc n) interrupted = whole && interrupted
+
+-- the input's end: a read of no bytes, all written before it
+abbrev pub atEnd : Bool → ℤ → Bool
+atEnd whole (pos n) = whole && eqb n 0
+atEnd whole (negsuc n) = false
 
 -- the reads of a run, at the most: nothing says that an input ends
 abbrev pub mostReads : ℕ

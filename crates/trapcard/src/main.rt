@@ -1,13 +1,15 @@
 // Reads a script from standard input and prints its transcript.
-mod sizes;
 mod output;
+mod sizes;
 mod turn;
+
 use crate::output::Sent;
 use crate::output::send;
 use crate::sizes::SETTLED;
 use crate::sizes::WAITING;
 use crate::sizes::WORK;
 use crate::turn::MOST_READS;
+use crate::turn::Received;
 use crate::turn::Turn;
 use crate::turn::take_turn;
 use libc::STDOUT_FILENO;
@@ -16,12 +18,13 @@ use script::KEPT;
 use script::PRINTED;
 use script::session::Session;
 ghost use mathlib.Core.Path.{_≡_};
+ghost use mathlib.Core.Bool.{true};
 ghost use mathlib.Core.List.{List};
 ghost use Prim.Native.Nat.{ℕ};
 ghost use lib.ListN.{take};
 ghost use Rattle.script.specs.Steps.{fresh, fed, finish};
 ghost use Rattle.script.specs.Held.{sessionOf};
-ghost use Rattle.trapcard.specs.Turns.{output, goesOn, Stops};
+ghost use Rattle.trapcard.specs.Turns.{output, goesOn, atEnd, Stops};
 
 // Reads until the input ends or something fails. What has been fed is some input, from the first byte on.
 fn read_all(
@@ -65,7 +68,26 @@ fn close(
     send(STDOUT_FILENO, printed, last.print)
 }
 
-// The whole input, on a card as the program starts with it.
+// The last turn, and the write of what a last line printed, or of the last turn where the input did not end.
+struct Ending {
+    last: Turn,
+    sent: Sent,
+}
+
+// Whether the input ended, with all written.
+fn at_end(sent: Sent, received: Received) -> bool
+    ensures { λ r. ⌜ r ≡ atEnd (sent .whole) (received .got) ⌝ }
+{
+    if !sent.whole {
+        return false;
+    }
+    if received.got < 0 {
+        return false;
+    }
+    !(0 < received.got)
+}
+
+// The whole input, from the card as it is at the beginning.
 fn run(
     session: Session,
     bytes: &mut [u8; FED],
@@ -74,21 +96,27 @@ fn run(
     waiting: &mut [u8; WAITING],
     work: &mut [u8; WORK],
     printed: &mut [u8; PRINTED],
-)
+) -> Ending
     requires { ⌜ sessionOf (session .len) (now line) (session .rec) (now settled) (now waiting) (now work) ≡ fresh ⌝ }
+    ensures { λ r. ⌜ Stops (r .last .more) (r .last .reads) × (r .last .more ≡ goesOn (r .last .sent .whole) (r .last .received .got) (r .last .received .interrupted)) × ((all : List ℕ) × (atEnd (r .last .sent .whole) (r .last .received .got) ≡ true → (r .sent .to ≡ output) × (take (r .sent .count) (now (printed .exit)) ≡ finish (fed all fresh .next) .print))) ⌝ }
 {
     let last = read_all(session, bytes, line, settled, waiting, work, printed);
-    if !last.sent.whole {
-        os::fail(b"trapcard: standard output");
-        return;
-    }
-    if last.received.got < 0 {
-        os::fail(b"trapcard: standard input");
-        return;
+    let sent = last.sent;
+    let received = last.received;
+    if !at_end(sent, received) {
+        return Ending { last, sent };
     }
     let sent = close(last.session, line, settled, waiting, work, printed);
-    if !sent.whole {
+    Ending { last, sent }
+}
+
+// A line on standard error for a write or a read that failed.
+fn report(ending: Ending) {
+    if !ending.sent.whole {
         os::fail(b"trapcard: standard output");
+    }
+    if ending.last.received.got < 0 {
+        os::fail(b"trapcard: standard input");
     }
 }
 
@@ -99,5 +127,13 @@ fn main() {
     let mut waiting = [0u8; WAITING];
     let mut work = [0u8; WORK];
     let mut printed = [0u8; PRINTED];
-    run(Session::new(), &mut bytes, &mut line, &mut settled, &mut waiting, &mut work, &mut printed);
+    report(run(
+        Session::new(),
+        &mut bytes,
+        &mut line,
+        &mut settled,
+        &mut waiting,
+        &mut work,
+        &mut printed,
+    ));
 }

@@ -53,16 +53,17 @@ fn receive(from: i32, bytes: &mut [u8; FED]) -> Received
     }
 }
 
-fn goes_on(whole: bool, got: isize, interrupted: bool) -> bool
-    ensures { λ r. ⌜ r ≡ goesOn whole got interrupted ⌝ }
+// Whether there is to be another turn.
+fn goes_on(sent: Sent, received: Received) -> bool
+    ensures { λ r. ⌜ r ≡ goesOn (sent .whole) (received .got) (received .interrupted) ⌝ }
 {
-    if !whole {
+    if !sent.whole {
         return false;
     }
-    if got < 0 {
-        return interrupted;
+    if received.got < 0 {
+        return received.interrupted;
     }
-    0 < got
+    0 < received.got
 }
 
 pub(crate) fn take_turn(
@@ -81,7 +82,7 @@ pub(crate) fn take_turn(
     let received = receive(STDIN_FILENO, bytes);
     let next = session.feed(bytes, received.count, line, settled, waiting, work, printed);
     let sent = send(STDOUT_FILENO, printed, next.print);
-    let more = goes_on(sent.whole, received.got, received.interrupted);
+    let more = goes_on(sent, received);
     Turn {
         session: next,
         received,

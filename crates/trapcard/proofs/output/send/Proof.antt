@@ -1,24 +1,19 @@
+-- `trapcard::output::send` meets its contract.
 use mathlib.Core.Path.{sym}
 use native.Mathlib.Omega.{arith}
 use lib.Seq.{length-take-le}
 use borrow.Author.Needs.{needs}
 use Rattle.trapcard.proofs.output.send.Statement.{statement}
 use Rattle.trapcard.proofs.output.send.Tie as tie
-use Rattle.trapcard.proofs.output.send.Reads as reads
-use Rattle.trapcard.proofs.output.send.Lts as lts
-use Rattle.io.proofs.write_all.Reads as write-all-reads
 
--- src/output.rt:20:35
 slice-aggregate-write-all : tie.Need-slice-aggregate-write-all
 slice-aggregate-write-all c =
     let a = c .before .before .args in
     sym (length-take-le (a .count) (a .printed .now) (omega arith))
 
--- src/output.rt:20:9
 write-all-requires : tie.Need-write-all-requires
 write-all-requires c κs = search needs
 
--- src/output.rt:15:1
 returns : tie.Need-returns
 returns c = search needs
 

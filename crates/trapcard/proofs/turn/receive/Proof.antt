@@ -1,3 +1,4 @@
+-- `trapcard::turn::receive` meets its contract.
 use mathlib.Core.Path.{_≡_}
 use native.Mathlib.Omega.{arith}
 use borrow.Author.Needs.{needs}
@@ -6,25 +7,16 @@ use Rattle.script.specs.Steps.{fedBytes}
 use mir.Facts.{toZ-ofZ}
 use Rattle.trapcard.proofs.turn.receive.Statement.{statement}
 use Rattle.trapcard.proofs.turn.receive.Tie as tie
-use Rattle.trapcard.proofs.turn.receive.Reads as reads
-use Rattle.trapcard.proofs.turn.receive.Lts as lts
-use Rattle.io.proofs.count.Reads as count-reads
-use Rattle.libc.proofs.read.Reads as read-reads
-use Rattle.os.proofs.errno.Reads as errno-reads
 
--- src/turn.rt:45:9
 read-requires : tie.Need-read-requires
 read-requires c κs = search needs
 
--- src/turn.rt:46:23
 errno-requires : tie.Need-errno-requires
 errno-requires c κs = search needs
 
--- src/turn.rt:47:9
 count-requires : tie.Need-count-requires
 count-requires c κs = search needs
 
--- src/turn.rt:42:1
 returns : tie.Need-returns
 returns c =
     let r = c .before .before .before .before .read in
