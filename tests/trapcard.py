@@ -38,6 +38,17 @@ def started(command=COMMAND, **more):
     return subprocess.Popen([command], stdin=subprocess.PIPE, stdout=subprocess.PIPE, stderr=subprocess.PIPE, bufsize=0, **more)
 
 
+def send(name, program, piece):
+    try:
+        program.stdin.write(piece)
+    except BrokenPipeError:
+        fail(name, "ended before its input did")
+
+
+def late(number, frame):
+    fail("an answer", "did not come before the next line was sent")
+
+
 def answer(name, program, expected):
     """Reads as many bytes as are expected, and nothing else: they must be there before anything more is sent."""
     signal.alarm(LIMIT)
@@ -68,7 +79,7 @@ def line_by_line(name, pieces):
     program = started()
     for line, expected in zip(SCRIPT.splitlines(True), ANSWERS.splitlines(True)):
         for piece in pieces(line):
-            program.stdin.write(piece)
+            send(name, program, piece)
             time.sleep(PAUSE)
         answer(name, program, expected)
     ended(name, program)
@@ -92,13 +103,13 @@ def interrupted():
         subprocess.run(["gcc", "-shared", "-fPIC", "-o", library, source], check=True)
         program = started(PROGRAM, env=dict(os.environ, LD_PRELOAD=str(library)))
         for line, expected in zip(SCRIPT.splitlines(True), ANSWERS.splitlines(True)):
-            program.stdin.write(line[:3])
+            send("an interrupted read", program, line[:3])
             time.sleep(PAUSE)
             program.send_signal(signal.SIGUSR1)
             time.sleep(PAUSE)
             program.send_signal(signal.SIGSTOP)
             program.send_signal(signal.SIGCONT)
-            program.stdin.write(line[3:])
+            send("an interrupted read", program, line[3:])
             answer("an interrupted read", program, expected)
         ended("an interrupted read", program)
 
@@ -132,6 +143,7 @@ def closed_descriptors():
         fail("a closed input", "status %d, standard error %r" % (program.returncode, err))
 
 
+signal.signal(signal.SIGALRM, late)
 line_by_line("a line a write", lambda line: [line])
 line_by_line("a byte a write", lambda line: [line[i:i + 1] for i in range(len(line))])
 without_lf()
