@@ -1,5 +1,5 @@
 -- The steps print the transcript.
-use Prim.Native.Nat.{ℕ, suc, _<_}
+use Prim.Native.Nat.{ℕ, _<_}
 use mathlib.Core.Path.{_≡_, refl, ap, sym, _∙_}
 use mathlib.Core.Bool.{Bool, true, false, cond}
 use mathlib.Core.List.{List, [], _∷_, _++_, append-assoc, append-nil}
@@ -10,11 +10,12 @@ use lib.ListN.{length, length-append}
 use Rattle.store.specs.State.{State}
 use Rattle.script.specs.declared.command.Command.the-variants.{Bad}
 use Rattle.script.specs.Fields.{push}
-use Rattle.script.specs.Commands.{lineBytes, parse}
+use Rattle.script.specs.Commands.{lineBytes, keptBytes, parse}
 use Rattle.script.specs.Answers.{lf}
 use Rattle.script.specs.Performs.{perform}
 use Rattle.script.specs.Transcript.{linesOf, said, printed, reply, transcript}
-use Rattle.script.specs.Steps.{keep, feed, finish, steps, fresh}
+use Rattle.script.specs.Steps.{Session, Step, keep, answer, feed, fed, finish, steps, joined, parts, fresh}
+use Rattle.script.proofs.Sessions.{fed-append}
 
 -- ---- lines
 
@@ -83,35 +84,40 @@ beyond x k b r st h l e = rw (lines-front x k (b ∷ r) h, lines-front x k r h, 
 keep-on : (k : List ℕ) (b : ℕ) (r : List ℕ) (st : State) → NoLf k → eqb b lf ≡ false
     → said (linesOf (k ++ (b ∷ r))) st ≡ said (linesOf (keep k b ++ r)) st
 unfolding keep
-keep-on k b r st h e = go k h (ltb (length k) (suc lineBytes)) refl
+keep-on k b r st h e = go k h (ltb (length k) (keptBytes)) refl
   where
-    go : (k : List ℕ) → NoLf k → (t : Bool) → ltb (length k) (suc lineBytes) ≡ t
+    go : (k : List ℕ) → NoLf k → (t : Bool) → ltb (length k) (keptBytes) ≡ t
         → said (linesOf (k ++ (b ∷ r))) st ≡ said (linesOf (cond t (k ++ (b ∷ [])) k ++ r)) st
     go k n true q = ap (λ (l : List ℕ). said (linesOf l) st) (sym (append-assoc k (b ∷ []) r))
-    go [] n false q = absurd (omega (arith, ltb-false 0 (suc lineBytes) q))
-    go (x ∷ k) n false q = beyond x k b r st n (omega (arith, ltb-false (length (x ∷ k)) (suc lineBytes) q)) e
+    go [] n false q = absurd (omega (arith, ltb-false 0 (keptBytes) q))
+    go (x ∷ k) n false q = beyond x k b r st n (omega (arith, ltb-false (length (x ∷ k)) (keptBytes) q)) e
 
 keep-no-lf : (k : List ℕ) (b : ℕ) → NoLf k → eqb b lf ≡ false → NoLf (keep k b)
 unfolding keep
-keep-no-lf k b h e = go (ltb (length k) (suc lineBytes))
+keep-no-lf k b h e = go (ltb (length k) (keptBytes))
   where
     go : (t : Bool) → NoLf (cond t (k ++ (b ∷ [])) k)
     go true = no-lf-snoc k b h e
     go false = h
 
-finish-said : (k : List ℕ) (st : State) → NoLf k → finish (record { kept = k; state = st }) ≡ said (linesOf k) st
-unfolding finish said linesOf
+finish-said : (k : List ℕ) (st : State) → NoLf k → finish (record { kept = k; state = st }) .print ≡ said (linesOf k) st
+unfolding finish answer said linesOf
 finish-said [] st h = refl
 finish-said (x ∷ k) st h = rw (eqb·suc-zero (length k)) (sym (ap (λ (ls : List (List ℕ)). said ls st) (lines-end x k h) ∙ append-nil (printed (x ∷ k) st)))
 
+-- a byte in front
+steps-cons : (b : ℕ) (bs : List ℕ) (s : Session) → steps (b ∷ bs) s ≡ feed b s .print ++ steps bs (feed b s .next)
+unfolding steps fed
+steps-cons b bs s = append-assoc (feed b s .print) (fed bs (feed b s .next) .print) (finish (fed bs (feed b s .next) .next) .print)
+
 steps-said : (bs k : List ℕ) (st : State) → NoLf k → steps bs (record { kept = k; state = st }) ≡ said (linesOf (k ++ bs)) st
-unfolding steps feed finish said linesOf
+unfolding steps fed feed answer said linesOf
 steps-said [] k st h = finish-said k st h ∙ ap (λ (l : List ℕ). said (linesOf l) st) (sym (append-nil k))
-steps-said (b ∷ bs) k st h = go (eqb b lf) refl (λ k' st' n. steps-said bs k' st' n)
+steps-said (b ∷ bs) k st h = steps-cons b bs (record { kept = k; state = st }) ∙ go (eqb b lf) refl (λ k' st' n. steps-said bs k' st' n)
   where
     go : (t : Bool) → eqb b lf ≡ t
         → ((k' : List ℕ) (st' : State) → NoLf k' → steps bs (record { kept = k'; state = st' }) ≡ said (linesOf (k' ++ bs)) st')
-        → steps (b ∷ bs) (record { kept = k; state = st }) ≡ said (linesOf (k ++ (b ∷ bs))) st
+        → feed b (record { kept = k; state = st }) .print ++ steps bs (feed b (record { kept = k; state = st }) .next) ≡ said (linesOf (k ++ (b ∷ bs))) st
     go true e rest =
         let eq : b ≡ lf = eqb-true b lf e in
         rw (e, rest [] (reply k st .state) tt, eq, lines-one k bs h)
@@ -121,3 +127,15 @@ steps-said (b ∷ bs) k st h = go (eqb b lf) refl (λ k' st' n. steps-said bs k'
 pub steps-transcript : (input : List ℕ) → steps input fresh ≡ transcript input
 unfolding transcript
 steps-transcript input = steps-said input [] _ tt
+
+-- however the input is parted
+parts-steps : (ps : List (List ℕ)) (s : Session) → parts ps s ≡ steps (joined ps) s
+unfolding parts joined steps fed
+parts-steps [] s = refl
+parts-steps (p ∷ ps) s =
+    let q = fed-append p (joined ps) s in
+    ap (λ (l : List ℕ). fed p s .print ++ l) (parts-steps ps (fed p s .next))
+    ∙ sym (ap (λ (t : Step). t .print ++ finish (t .next) .print) q ∙ append-assoc (fed p s .print) (fed (joined ps) (fed p s .next) .print) (finish (fed (joined ps) (fed p s .next) .next) .print))
+
+pub parts-transcript : (ps : List (List ℕ)) → parts ps fresh ≡ transcript (joined ps)
+parts-transcript ps = parts-steps ps fresh ∙ steps-transcript (joined ps)

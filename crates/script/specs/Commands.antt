@@ -1,5 +1,5 @@
 -- What a line says.
-use Prim.Native.Nat.{ℕ}
+use Prim.Native.Nat.{ℕ, suc}
 use mathlib.Core.Bool.{cond}
 use mathlib.Core.List.{List, [], _∷_}
 use lib.Dec.{ltb}
@@ -16,6 +16,10 @@ use Rattle.script.specs.Numbers.{most4Bytes, most1Byte, numberOf, isMark
 -- "lines of at most 80 bytes (a longer one is 11 …)"
 abbrev pub lineBytes : ℕ
 lineBytes = 80
+
+-- one byte more is kept of a line, which tells that it is longer
+abbrev pub keptBytes : ℕ
+keptBytes = suc lineBytes
 
 -- a word with no field. "A cut may lack its field"
 unfoldable pub alone : List ℕ → Command

@@ -4,14 +4,11 @@ use mathlib.Core.List.{List}
 use lib.ListN.{take}
 use Rattle.store.specs.declared.record.Record.{Record}
 use Rattle.store.specs.Held.{stateOf}
-use Rattle.script.specs.Performs.{Reply, Execution}
+use Rattle.script.specs.Performs.{Reply}
 use Rattle.script.specs.Steps.{Session, Step}
 
 abbrev pub replyOf : ℕ → ℕ → Record → List ℕ → List ℕ → List ℕ → Reply
 replyOf number third r settled waiting work = record { answer = number; third = third; state = stateOf r settled waiting work }
-
-abbrev pub executionOf : ℕ → List ℕ → Record → List ℕ → List ℕ → List ℕ → Execution
-executionOf n out r settled waiting work = record { length = n; out = out; state = stateOf r settled waiting work }
 
 -- the first len bytes of the line's buffer are kept
 abbrev pub sessionOf : ℕ → List ℕ → Record → List ℕ → List ℕ → List ℕ → Session

@@ -7,6 +7,10 @@ use lib.ListN.{length}
 use Rattle.script.specs.declared.number.Number.{Number}
 use Rattle.script.specs.declared.number.Number.the-variants.{Of, Not}
 
+-- the digits that a number may have
+abbrev pub numberDigits : ℕ
+numberDigits = 10
+
 -- the byte of the digit 0
 abbrev pub zeroDigit : ℕ
 zeroDigit = 48
@@ -32,7 +36,7 @@ most1Byte = 255
 -- a field as a number of at most `most`
 unfoldable pub numberOf : ℕ → List ℕ → Number
 numberOf most s =
-    cond (leb 1 (length s) && leb (length s) 10 && allDigits s && leb (valueFrom 0 s) most) (Of (valueFrom 0 s)) Not
+    cond (leb 1 (length s) && leb (length s) numberDigits && allDigits s && leb (valueFrom 0 s) most) (Of (valueFrom 0 s)) Not
 
 -- it is no more than that
 abbrev pub Within : ℕ → Number → Type 0

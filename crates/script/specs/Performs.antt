@@ -3,8 +3,7 @@ use Prim.Native.Nat.{ℕ, _-_}
 use mathlib.Core.Bool.{cond}
 use mathlib.Core.List.{List, [], _∷_}
 use lib.Dec.{eqb}
-use lib.ListN.{length, drop, getD, replicate}
-use lib.Seq.{sets}
+use lib.ListN.{drop, getD, replicate}
 use Rattle.cells.specs.Entry.{blockBytes}
 use Rattle.store.specs.State.{State, Outcome}
 use Rattle.store.specs.Request.{get}
@@ -16,6 +15,7 @@ use Rattle.store.specs.Saves.{syncCall, applyCall, recoverCall, cutCall}
 use Rattle.script.specs.declared.command.Command.{Command}
 use Rattle.script.specs.declared.command.Command.the-variants.{Format, Power, Put, Get, Commit, Abandon, Sync, Apply, Recover, Cut, Bad}
 use Rattle.script.specs.Numbers.{zeroDigit}
+use Rattle.script.specs.Commands.{keptBytes}
 use Rattle.script.specs.Answers.{answerLine}
 
 -- the answer, the third number, and what is left
@@ -46,6 +46,10 @@ unfoldable pub values : List ℕ → List ℕ
 values [] = []
 values (b ∷ s) = (b - zeroDigit) ∷ values s
 
+-- the most that the kept bytes of a line hold behind a word of three and a tab
+abbrev pub mostMarks : ℕ
+mostMarks = keptBytes - 4
+
 -- a cut's marks, behind its word and a tab. A lacking field "gives no marks"
 abbrev pub marks : List ℕ → List ℕ
 marks line = values (drop 4 line)
@@ -66,14 +70,3 @@ perform Bad line st = record { answer = 11; third = 0; state = st }
 -- the line that says so
 abbrev pub answered : Command → Reply → List ℕ
 answered c r = answerLine c (r .answer) (r .third)
-
--- a command carried out: the length of the line that answers it, that line in the front of a buffer, and what is left
-pub record Execution : Type 0 where
-  pub length : ℕ
-  pub out : List ℕ
-  pub state : State
-
-unfoldable pub execute : Command → List ℕ → List ℕ → State → Execution
-execute c line out st =
-    let r = perform c line st in
-    record { length = length (answered c r); out = sets out 0 (answered c r); state = r .state }

@@ -1,4 +1,5 @@
 // What a line says: a word and its fields.
+use crate::LINE;
 use crate::field::to_tab;
 use crate::number::Number;
 use crate::number::is_marks;
@@ -9,14 +10,13 @@ ghost use mathlib.Core.List.{_∷_};
 ghost use Rattle.script.specs.Fields.{fields};
 ghost use Rattle.script.specs.Commands as Commands;
 
-// The bytes that a line may have, its LF not counted.
-pub const LINE: usize = 80;
-
-// The most that 4 bytes hold.
+// The most that 4 bytes hold, and 1.
 const MOST: u32 = 4294967295;
 
+const MOST_BYTE: u32 = 255;
+
 // A cut's marks stay in the line, behind its word and a tab.
-pub enum Command {
+pub(crate) enum Command {
     Format,
     Power(u32),
     Put(u32, u8),
@@ -30,7 +30,7 @@ pub enum Command {
     Bad,
 }
 
-pub fn parse(line: &[u8]) -> Command
+pub(crate) fn parse(line: &[u8]) -> Command
     ensures { λ r. ⌜ r ≡ Commands.parse (now (line .entry)) ⌝ }
 {
     if LINE < line.len() {
@@ -122,7 +122,7 @@ fn with_two(word: &[u8], x: &[u8], y: &[u8]) -> Command
     let Number::Of(address) = to_number(x, MOST) else {
         return Command::Bad;
     };
-    let Number::Of(byte) = to_number(y, 255) else {
+    let Number::Of(byte) = to_number(y, MOST_BYTE) else {
         return Command::Bad;
     };
     Command::Put(address, byte as u8)

@@ -1,12 +1,16 @@
 // Numbers and marks as digits.
+use crate::DIGITS;
 ghost use mathlib.Core.Path.{_≡_};
 ghost use mathlib.Core.Bool.{true};
 ghost use Prim.Native.Nat.{_-_, _≤_, _<_};
 ghost use lib.ListN.{length, getD};
-ghost use Rattle.script.specs.Numbers.{zeroDigit, isDigit, allDigits, valueFrom, numberOf, isMarks, Within};
+ghost use Rattle.script.specs.Numbers.{numberDigits, zeroDigit, isDigit, allDigits, valueFrom, numberOf, isMarks, Within};
+
+// What a digit counts more than the one behind it.
+const BASE: u64 = 10;
 
 // A field as a number.
-pub enum Number {
+pub(crate) enum Number {
     Of(u32),
     Not,
 }
@@ -39,26 +43,26 @@ fn digit(s: &[u8], i: usize) -> u64
 
 // The value of at most 10 digits.
 fn value(s: &[u8]) -> u64
-    requires { ⌜ (length (now s) ≤ 10) × (allDigits (now s) ≡ true) ⌝ }
+    requires { ⌜ (length (now s) ≤ numberDigits) × (allDigits (now s) ≡ true) ⌝ }
     ensures { λ r. ⌜ r ≡ valueFrom 0 (now (s .entry)) ⌝ }
 {
     let mut v: u64 = 0;
     let mut i = 0;
     while i < s.len() {
-        v = 10 * v + digit(s, i);
+        v = BASE * v + digit(s, i);
         i += 1;
     }
     v
 }
 
 // A field of 1 to 10 digits as a number of at most `most`.
-pub fn to_number(s: &[u8], most: u32) -> Number
+pub(crate) fn to_number(s: &[u8], most: u32) -> Number
     ensures { λ r. ⌜ (r ≡ numberOf most (now (s .entry))) × Within most r ⌝ }
 {
     if s.len() == 0 {
         return Number::Not;
     }
-    if 10 < s.len() {
+    if DIGITS < s.len() {
         return Number::Not;
     }
     if !all_digits(s) {
@@ -72,7 +76,7 @@ pub fn to_number(s: &[u8], most: u32) -> Number
 }
 
 // Whether a field is a run of at least one digit.
-pub fn is_marks(s: &[u8]) -> bool
+pub(crate) fn is_marks(s: &[u8]) -> bool
     ensures { λ r. ⌜ r ≡ isMarks (now (s .entry)) ⌝ }
 {
     if s.len() == 0 {

@@ -1,20 +1,30 @@
 // What a command does to the store.
+use crate::KEPT;
 use crate::command::Command;
 use crate::number::value_of;
+use cells::BLOCK;
 use store::record::Answer;
 use store::record::Record;
 use store::saved::Saved;
 ghost use mathlib.Core.Path.{_≡_};
-ghost use Prim.Native.Nat.{suc, _≤_};
+ghost use Prim.Native.Nat.{_≤_};
 ghost use lib.ListN.{length, take, getD, replicate};
 ghost use Rattle.cells.specs.Entry.{blockBytes};
 ghost use Rattle.store.specs.Held.{stateOf};
 ghost use Rattle.store.specs.Simple.{putCall};
 ghost use Rattle.store.specs.Saves.{cutCall};
-ghost use Rattle.script.specs.Commands.{lineBytes};
+ghost use Rattle.script.specs.Commands.{keptBytes};
 ghost use Rattle.script.specs.Performs as Performs;
-ghost use Rattle.script.specs.Performs.{got};
+ghost use Rattle.script.specs.Performs.{mostMarks, got};
 ghost use Rattle.script.specs.Held.{replyOf};
+
+// The answer to a line that is not understood.
+const NOT_UNDERSTOOD: u32 = 11;
+
+// Where the marks start in the line of a cut, and the most that there are.
+const MARKS_AT: usize = 4;
+
+const MARKS: usize = KEPT - MARKS_AT;
 
 // The answer, the third number and the record.
 pub(crate) struct Done {
@@ -56,7 +66,7 @@ pub(crate) fn perform(
     waiting: &mut [u8],
     work: &mut [u8],
 ) -> Done
-    requires { ⌜ length (now line) ≤ suc lineBytes ⌝ }
+    requires { ⌜ length (now line) ≤ keptBytes ⌝ }
     ensures { λ r. ⌜ replyOf (r .number) (r .third) (r .rec) (now (settled .exit)) (now (waiting .exit)) (now (work .exit)) ≡ Performs.perform command (now (line .entry)) (stateOf rec (now (settled .entry)) (now (waiting .entry)) (now (work .entry))) ⌝ }
 {
     match command {
@@ -71,7 +81,7 @@ pub(crate) fn perform(
         Command::Recover => saved(rec.recover(settled, waiting, work)),
         Command::Cut => cut(line, rec, settled, waiting, work),
         Command::Bad => Done {
-            number: 11,
+            number: NOT_UNDERSTOOD,
             third: 0,
             rec,
         },
@@ -82,7 +92,7 @@ pub(crate) fn perform(
 fn put(rec: Record, settled: &[u8], waiting: &[u8], work: &mut [u8], address: u32, byte: u8) -> Done
     ensures { λ r. ⌜ replyOf (r .number) (r .third) (r .rec) (now (settled .entry)) (now (waiting .entry)) (now (work .exit)) ≡ Performs.called (putCall address (replicate blockBytes byte) (stateOf rec (now (settled .entry)) (now (waiting .entry)) (now (work .entry)))) ⌝ }
 {
-    let block = [byte; 512];
+    let block = [byte; BLOCK];
     called(rec.put(settled, waiting, work, address, &block))
 }
 
@@ -107,23 +117,23 @@ fn first(s: &[u8]) -> u32
 
 // A cut with the marks of its line.
 fn cut(line: &[u8], rec: Record, settled: &mut [u8], waiting: &[u8], work: &[u8]) -> Done
-    requires { ⌜ length (now line) ≤ suc lineBytes ⌝ }
+    requires { ⌜ length (now line) ≤ keptBytes ⌝ }
     ensures { λ r. ⌜ replyOf (r .number) (r .third) (r .rec) (now (settled .exit)) (now (waiting .entry)) (now (work .entry)) ≡ Performs.called (cutCall (Performs.marks (now (line .entry))) (stateOf rec (now (settled .entry)) (now (waiting .entry)) (now (work .entry)))) ⌝ }
 {
-    let mut marks = [0u8; 77];
+    let mut marks = [0u8; MARKS];
     let count = read_marks(line, &mut marks);
     called(rec.cut(settled, waiting, work, &marks[..count]))
 }
 
 // The values of the digits behind the line's fourth byte; how many there are.
 fn read_marks(line: &[u8], marks: &mut [u8]) -> usize
-    requires { ⌜ length (now line) ≤ suc lineBytes ⌝ }
-    requires { ⌜ length (now marks) ≡ 77 ⌝ }
-    ensures { λ r. ⌜ (r ≤ 77) × (take r (now (marks .exit)) ≡ Performs.marks (now (line .entry))) ⌝ }
+    requires { ⌜ length (now line) ≤ keptBytes ⌝ }
+    requires { ⌜ length (now marks) ≡ mostMarks ⌝ }
+    ensures { λ r. ⌜ (r ≤ mostMarks) × (take r (now (marks .exit)) ≡ Performs.marks (now (line .entry))) ⌝ }
 {
     let mut i = 0;
-    while i + 4 < line.len() {
-        marks[i] = value_of(line[i + 4]);
+    while i + MARKS_AT < line.len() {
+        marks[i] = value_of(line[i + MARKS_AT]);
         i += 1;
     }
     i

@@ -1,4 +1,5 @@
 -- `script::text::append_number` meets its contract.
+use native.Mathlib.Omega.{arith}
 use borrow.Author.Needs.{needs}
 use Rattle.script.proofs.Texts.{number-done}
 use Rattle.script.proofs.text.append_number.Statement.{statement}
@@ -37,7 +38,7 @@ returns c =
     let d = c .before .before .before .before .before .before .before .before .before .before .before .before .digits in
     let p = c .before .before .before .before .before .before .before .before .append in
     let q = c .before .before .append2 in
-    number-done (a .at) (a .n) (d .result) (p .result) (q .result) (a .out .now) (p .last .0) (q .last .0) (d .last .0) (d .ensures .0) (d .kept .0) (d .ensures .1) (p .ensures .0) (p .ensures .1) (q .ensures .0) (q .ensures .1)
+    number-done (a .at) (a .n) (d .result) (p .result) (q .result) (a .out .now) (p .last .0) (q .last .0) (d .last .0) (omega (arith, d .ensures .0)) (d .kept .0) (d .ensures .1) (p .ensures .0) (p .ensures .1) (q .ensures .0) (q .ensures .1)
 
 pub append-number-spec : {M : Type 1} → statement M
 append-number-spec =

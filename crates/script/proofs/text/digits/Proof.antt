@@ -65,7 +65,7 @@ returns : tie.Need-returns Inv-loop μ-loop
 returns c =
     let l = c .before .loop in
     let over : l .rest ≡ 0 = omega arith in
-    (l .inv .0, sym (rw over (rw (digits-none))) ∙ l .inv .3)
+    (omega arith, sym (rw over (rw (digits-none))) ∙ l .inv .3)
 
 pub digits-spec : {M : Type 1} → statement M
 digits-spec =

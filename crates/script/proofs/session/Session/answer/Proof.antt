@@ -6,8 +6,8 @@ use borrow.Author.Needs.{needs}
 use lib.ListN.{length, take}
 use lib.Seq.{length-take-le}
 use Rattle.store.specs.Held.{stateOf}
-use Rattle.script.specs.Held.{executionOf}
-use Rattle.script.proofs.Sessions.{executed-print}
+use Rattle.script.specs.Held.{replyOf}
+use Rattle.script.proofs.Sessions.{answered-step}
 use Rattle.script.proofs.session.Session.answer.Statement.{statement}
 use Rattle.script.proofs.session.Session.answer.Tie as tie
 
@@ -19,11 +19,14 @@ slice-aggregate-whole c =
 parse-requires : tie.Need-parse-requires
 parse-requires c κs = search needs
 
-execute-requires : tie.Need-execute-requires
-execute-requires c κs =
-    let a = c .before .before .before .before .before .before .before .before .before .before .before .args in
+perform-requires : tie.Need-perform-requires
+perform-requires c κs =
+    let a = c .before .before .before .before .before .before .before .before .before .before .args in
     let fits : a .self .len ≤ length (a .line .now) = omega arith in
-    (rw (length-take-le (a .self .len) (a .line .now) fits) (c .before .before .before .before .before .before .before .before .before .before .before .pre .0 .0), c .before .before .before .before .before .before .before .before .before .before .before .pre .1)
+    rw (length-take-le (a .self .len) (a .line .now) fits) (c .before .before .before .before .before .before .before .before .before .before .pre .0 .0)
+
+write-line-requires : tie.Need-write-line-requires
+write-line-requires c κs = search needs
 
 same-length : tie.Need-same-length
 same-length c = search needs
@@ -39,12 +42,13 @@ same-length-4 c = search needs
 
 returns : tie.Need-returns
 returns c =
-    let a = c .before .before .before .before .before .before .before .before .before .before .before .before .before .before .before .before .before .before .before .before .before .args in
-    let e = c .before .before .before .before .before .before .before .before .before .execute in
+    let a = c .before .before .before .before .before .before .before .before .before .before .before .before .before .before .before .before .before .before .before .before .before .before .args in
+    let s = c .before .before .before .before .before .before .before .before .before .before .before .before .before .before .before .parse in
+    let p = c .before .before .before .before .before .before .before .before .before .before .before .perform in
+    let w = c .before .before .before .write-line in
     let st = stateOf (a .self .rec) (a .settled .now) (a .waiting .now) (a .work .now) in
-    let x = executionOf (e .result .length) (e .last .1 .1 .1 .1 .1 .1 .0) (e .result .rec) (e .last .1 .1 .1 .0) (e .last .1 .1 .1 .1 .0) (e .last .1 .1 .1 .1 .1 .0) in
-    let p = executed-print (c .before .before .before .before .before .before .before .before .before .before .before .before .before .before .parse .result) (take (a .self .len) (a .line .now)) (a .out .now) st x (c .before .before .before .before .before .before .before .before .before .before .before .before .before .before .parse .ensures) (c .before .before .before .before .before .before .before .before .before .before .before .before .before .before .before .before .before .before .before .before .before .pre .1) (e .ensures .0) (e .ensures .1) in
-    (refl, e .ensures .0, p .0, p .1)
+    let r = replyOf (p .result .number) (p .result .third) (p .result .rec) (p .last .1 .1 .1 .0) (p .last .1 .1 .1 .1 .0) (p .last .1 .1 .1 .1 .1 .0) in
+    (refl, w .ensures .0, answered-step (s .result) (take (a .self .len) (a .line .now)) (a .out .now) (w .last .0) (a .line .now) (w .result) st r (s .ensures) (p .ensures) (c .before .before .before .before .before .before .before .before .before .before .before .before .before .before .before .before .before .before .before .before .before .before .pre .1) (w .ensures .0) (w .ensures .1) (w .ensures .2))
 
 pub answer-spec : {M : Type 1} → statement M
 answer-spec =
@@ -52,7 +56,8 @@ answer-spec =
     (tie.spec
     slice-aggregate-whole
     parse-requires
-    execute-requires
+    perform-requires
+    write-line-requires
     same-length
     same-length-2
     same-length-3

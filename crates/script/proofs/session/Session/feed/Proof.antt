@@ -1,14 +1,31 @@
 -- `script::session::Session::feed` meets its contract.
+use Prim.Native.Nat.{min}
+use mathlib.Core.Path.{_≡_, ap, _∙_}
 use native.Mathlib.Omega.{arith}
 use borrow.Author.Needs.{needs}
-use lib.ListN.{take}
+use lib.ListN.{length, take}
 use Rattle.store.specs.Held.{stateOf}
-use Rattle.script.proofs.Sessions.{feed-lf, feed-byte}
+use Rattle.script.specs.declared.session.Session.{Session}
+use Rattle.script.specs.Commands.{keptBytes}
+use Rattle.script.specs.Steps.{fedBytes, fed}
+use Rattle.script.specs.Held.{sessionOf}
+use Rattle.script.proofs.Sessions.{fed-within}
 use Rattle.script.proofs.session.Session.feed.Statement.{statement}
 use Rattle.script.proofs.session.Session.feed.Tie as tie
 
-answer-requires : tie.Need-answer-requires
-answer-requires c κs = search needs
+least-requires : tie.Need-least-requires
+least-requires c κs = search needs
+
+within-requires : tie.Need-within-requires
+within-requires c κs = search needs
+
+run-requires : tie.Need-run-requires
+run-requires c κs =
+    let a = c .before .before .before .before .before .before .before .before .before .before .before .args in
+    let l = c .before .before .before .before .before .before .before .least in
+    let w = c .before .before .before .before .before .before .within in
+    let len : w .result .len ≡ min (a .self .len) keptBytes = ap (λ (s : Session). s .len) (w .ensures) in
+    ((omega arith, omega (arith, c .before .before .before .before .run-arg2 .given .0 .1)), (omega (arith, l .ensures .0, c .before .before .before .before .before .run-arg .given .0), omega (arith, l .ensures .0, c .run-arg6 .given .0 .1)))
 
 same-length : tie.Need-same-length
 same-length c = search needs
@@ -19,47 +36,28 @@ same-length-2 c = search needs
 same-length-3 : tie.Need-same-length-3
 same-length-3 c = search needs
 
-same-length-4 : tie.Need-same-length-4
-same-length-4 c = search needs
-
-same-length-5 : tie.Need-same-length-5
-same-length-5 c = search needs
-
 returns : tie.Need-returns
 returns c =
-    let a = c .before .before .before .before .before .before .before .before .before .before .before .before .before .before .before .before .before .before .before .before .args in
-    let n = c .before .before .before .before .before .before .before .before .answer in
-    let st = stateOf (a .self .rec) (a .settled .now) (a .waiting .now) (a .work .now) in
-    let left = stateOf (n .result .rec) (n .last .1 .1 .0) (n .last .1 .1 .1 .0) (n .last .1 .1 .1 .1 .0) in (
-      omega (arith, n .ensures .0),
-      n .ensures .1,
-      feed-lf (a .byte) (n .result .print) (n .result .len) (n .last .1 .1 .1 .1 .1 .0) (a .line .now) (take (a .self .len) (a .line .now)) st left (c .before .before .before .before .before .before .before .before .before .before .before .before .before .before .if1 .taken) (n .ensures .0) (n .ensures .2) (n .ensures .3),
+    let a = c .before .before .before .before .before .before .before .before .before .before .before .before .before .before .before .before .before .before .args in
+    let l = c .before .before .before .before .before .before .before .before .before .before .before .before .before .before .least in
+    let w = c .before .before .before .before .before .before .before .before .before .before .before .before .before .within in
+    let r = c .before .before .before .before .before .before .run in
+    let bytes : length (a .bytes .now) ≡ fedBytes = c .before .before .before .before .before .before .before .before .before .before .before .before .run-arg .given .0 in
+    let line : length (a .line .now) ≡ keptBytes = c .before .before .before .before .before .before .before .before .before .before .before .run-arg2 .given .0 .1 in (
+      omega (arith, r .ensures .0, l .ensures .0),
+      r .ensures .1
+          ∙ ap (λ (s : Session). fed (take (l .result) (a .bytes .now)) (sessionOf (s .len) (a .line .now) (s .rec) (a .settled .now) (a .waiting .now) (a .work .now))) (w .ensures)
+          ∙ fed-within (l .result) (a .count) (a .self .len) (a .bytes .now) (a .line .now) (stateOf (a .self .rec) (a .settled .now) (a .waiting .now) (a .work .now)) (l .ensures .1) bytes line,
     )
-
-keep-requires : tie.Need-keep-requires
-keep-requires c κs = search needs
-
-same-length-6 : tie.Need-same-length-6
-same-length-6 c = search needs
-
-returns-2 : tie.Need-returns-2
-returns-2 c =
-    let a = c .before .before .before .before .before .before .before .before .before .before .before .args in
-    let k = c .before .before .before .keep in
-    let st = stateOf (a .self .rec) (a .settled .now) (a .waiting .now) (a .work .now) in
-    (k .ensures .0, omega arith, feed-byte (a .byte) (k .result) (a .out .now) (k .last .0) (take (a .self .len) (a .line .now)) st (c .before .before .before .before .before .if1 .left) (k .ensures .1))
 
 pub feed-spec : {M : Type 1} → statement M
 feed-spec =
     tie.close
     (tie.spec
-    answer-requires
+    least-requires
+    within-requires
+    run-requires
     same-length
     same-length-2
     same-length-3
-    same-length-4
-    same-length-5
-    returns
-    keep-requires
-    same-length-6
-    returns-2)
+    returns)

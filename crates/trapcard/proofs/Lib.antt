@@ -1,0 +1,2 @@
+-- The laws of turns.
+pub mod Turns

@@ -1,0 +1,2 @@
+-- The program: what a read and a write come to.
+pub mod Turns
