@@ -18,7 +18,7 @@ use Rattle.cells.specs.Entry.{blockBytes, entryBytes, Entry, entryAt, setEntry}
 use Rattle.cells.specs.Entry.Laws.{length-setEntry, entry-same, entry-other}
 use Rattle.card.specs.Disk.{lay, overlay}
 use Rattle.card.specs.Card.{Card, Order, write, flush, queue, settle, order, run, blockAt, blocksIn}
-use Rattle.card.specs.Held.{Below}
+use Rattle.card.specs.CodeQueue.{Below}
 use Rattle.card.proofs.All.{All, all-append, all-take, all-upTo, upTo-all}
 use Rattle.card.proofs.Overlays.{lay-same, lay-other, overlay-agree}
 
@@ -61,8 +61,8 @@ abbrev pub Whole : Entry → Type 0
 Whole e = length (e .block) ≡ blockBytes
 
 -- an address of four bytes
-abbrev pub Short : Entry → Type 0
-Short e = e .address < 2 ^ 32
+abbrev pub NarrowAddress : Entry → Type 0
+NarrowAddress e = e .address < 2 ^ 32
 
 -- to settle a list is to lay it over the disk
 pub settle-overlay : (es : List Entry) (s : List ℕ) (a : ℕ) → a < blocksIn s → All Whole es → blockAt (settle es s) a ≡ overlay es (blockAt s) a
@@ -85,7 +85,7 @@ settle-overlay (e ∷ es) s a h w =
 -- ---- the queue
 
 -- a write that has room becomes the newest waiting write
-pub queue-write : (e : Entry) (c : Card) → entryBytes * c .count + entryBytes ≤ length (c .waiting) → Whole e → Short e
+pub queue-write : (e : Entry) (c : Card) → entryBytes * c .count + entryBytes ≤ length (c .waiting) → Whole e → NarrowAddress e
     → queue (order (write e) c) ≡ queue c ++ (e ∷ [])
 unfolding queue order
 queue-write e c h w l =
@@ -190,7 +190,7 @@ unfolding order
 write-room e n c h = rw (length-setEntry) h
 
 -- the first of them, as many as there is power for, wait behind what waited before
-pub writes-queue : (es : List Entry) (c : Card) → entryBytes * (c .count + length es) ≤ length (c .waiting) → All Whole es → All Short es
+pub writes-queue : (es : List Entry) (c : Card) → entryBytes * (c .count + length es) ≤ length (c .waiting) → All Whole es → All NarrowAddress es
     → queue (run (map write es) c) ≡ queue c ++ take (c .power) es
 writes-queue [] c h w s = rw (run-nil, take-nil, append-nil)
 writes-queue (e ∷ es) c h w s =
@@ -203,7 +203,7 @@ pub writes-take : (es : List Entry) (c : Card) → run (map write es) c ≡ run 
 writes-take es c = run-take (map write es) c ∙ ap (λ (os : List Order). run os c) (take-map write (c .power) es)
 
 -- with power for all of them, all wait
-pub writes-all : (es : List Entry) (c : Card) → entryBytes * (c .count + length es) ≤ length (c .waiting) → All Whole es → All Short es → length es ≤ c .power
+pub writes-all : (es : List Entry) (c : Card) → entryBytes * (c .count + length es) ≤ length (c .waiting) → All Whole es → All NarrowAddress es → length es ≤ c .power
     → (queue (run (map write es) c) ≡ queue c ++ es)
     × (run (map write es) c .settled ≡ c .settled)
     × (run (map write es) c .count ≡ c .count + length es)
@@ -218,7 +218,7 @@ pub writes-more : (f : ℕ → Entry) (i : ℕ) (c : Card) → run (map write (u
 writes-more f i c = rw (add-one, map-append write (upTo f i) (f i ∷ [])) (run-append (map write (upTo f i)) (write (f i) ∷ []) c)
 
 -- writes below n behind what waits below n: what a flush requires then
-pub writes-below : (n : ℕ) (es : List Entry) (c : Card) → entryBytes * (c .count + length es) ≤ length (c .waiting) → All Whole es → All Short es
+pub writes-below : (n : ℕ) (es : List Entry) (c : Card) → entryBytes * (c .count + length es) ≤ length (c .waiting) → All Whole es → All NarrowAddress es
     → All (λ e. e .address < n) es → Below n (c .waiting) (c .count)
     → Below n (run (map write es) c .waiting) (run (map write es) c .count)
 writes-below n es c h w l new old =
@@ -235,7 +235,7 @@ flush-missed es c h =
     ∙ run-dead (flush ∷ []) (run (map write es) c) (run-power (map write es) c ∙ rw (length-map) (omega arith))
 
 -- with power for all of it what waited settles, then the writes
-pub flush-reached : (es : List Entry) (c : Card) → entryBytes * (c .count + length es) ≤ length (c .waiting) → All Whole es → All Short es → length es < c .power
+pub flush-reached : (es : List Entry) (c : Card) → entryBytes * (c .count + length es) ≤ length (c .waiting) → All Whole es → All NarrowAddress es → length es < c .power
     → (run (map write es ++ (flush ∷ [])) c .settled ≡ settle (queue c ++ es) (c .settled))
     × (run (map write es ++ (flush ∷ [])) c .count ≡ 0)
     × (run (map write es ++ (flush ∷ [])) c .power ≡ c .power - length es - 1)

@@ -1,4 +1,4 @@
 -- The card: settled bytes, a queue of waiting writes, the power count.
 pub mod Disk
 pub mod Card
-pub mod Held
+pub mod CodeQueue

@@ -11,7 +11,7 @@ ghost use Rattle.cells.specs.Upto.{upTo};
 ghost use Rattle.cells.specs.Entry.{blockBytes, entryBytes, entryAt};
 ghost use Rattle.card.specs.Card as Card;
 ghost use Rattle.card.specs.Card.{places, blocksIn, run};
-ghost use Rattle.card.specs.Held.{cardOf, Below};
+ghost use Rattle.card.specs.CodeQueue.{cardOf, Below};
 
 // How many writes wait, and how many orders still happen.
 pub struct Queue {

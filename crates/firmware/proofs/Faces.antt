@@ -10,7 +10,7 @@ use lib.ListN.{length}
 use Rattle.store.specs.declared.place.Place.{Place}
 use Rattle.store.specs.declared.record.Record.{Record}
 use Rattle.store.specs.State.{State, Outcome}
-use Rattle.store.specs.Held.{stateOf, outcomeOf}
+use Rattle.store.specs.CodeState.{stateOf, outcomeOf}
 use Rattle.store.specs.Request.{get}
 use Rattle.store.specs.Causes.{cause}
 use Rattle.store.specs.Get.{getPlace}

@@ -10,7 +10,7 @@ use Rattle.store.specs.declared.place.Place.{Place}
 use Rattle.store.specs.declared.place.Place.the-variants.{Settled, Work, Nowhere}
 use Rattle.store.specs.declared.record.Record.{Record}
 use Rattle.store.specs.State.{State, Outcome}
-use Rattle.store.specs.Held.{stateOf}
+use Rattle.store.specs.CodeState.{stateOf}
 use Rattle.store.specs.Request.{get}
 use Rattle.store.specs.Causes.{cause}
 use Rattle.store.specs.Get.{getPlace}

@@ -13,7 +13,7 @@ use Rattle.fnv.specs.Fnv.{start}
 use Rattle.card.specs.Disk.{Disk, overlay}
 use Rattle.card.specs.Card.{Card, run, kept, cut, settle, blockAt, blocksIn}
 use Rattle.card.proofs.All.{All, all-append, all-take}
-use Rattle.card.proofs.Runs.{Whole, Short}
+use Rattle.card.proofs.Runs.{Whole, NarrowAddress}
 use Rattle.card.proofs.Cuts.{kept-all}
 use Rattle.journal.specs.Layout.{slots, firstData, headerAt, descriptorAt}
 use Rattle.journal.specs.Header.{encode, header}
@@ -25,7 +25,7 @@ use Rattle.history.specs.Plain.{ownVerdict}
 use Rattle.history.specs.Ledger.{sameLog}
 use Rattle.history.proofs.Disks.{slotE, logD, entries-disk, WholeCard, append-head}
 use Rattle.history.proofs.Batches.{Left, left-then, append-fit, append-short, append-done, length-append-writes, Fit}
-use Rattle.history.proofs.Leads.{Leads, foundIn, on-card, append-all, append-whole}
+use Rattle.history.proofs.AfterCut.{Leads, foundIn, on-card, append-all, append-whole}
 use Rattle.history.proofs.Crashes.{all-appended}
 use Rattle.history.proofs.CallCuts.{cut-laid, settled-laid, append-cuts, append-cuts-top}
 
@@ -43,8 +43,8 @@ pub record AppendBase (N : ℕ) (s : List ℕ) (n h : ℕ) (G v : List Entry) (S
   pub sum : h ≡ sumOf start (logD (blockAt s) n)
   pub card : WholeCard N (blockAt s) v S n
   pub whole : All Whole G
-  pub low : All Short G
-  pub homely : allData N G ≡ true
+  pub low : All NarrowAddress G
+  pub all-data : allData N G ≡ true
   pub left : Left c₀ c s [] p
   pub places : length (c₀ .waiting) ≡ 17544
 
@@ -68,12 +68,12 @@ module _ {N : ℕ} {s : List ℕ} {n h : ℕ} {G v : List Entry} {S : Disk} {c�
       left-then (x .left) f (x .left .settled) (ap (λ (k : ℕ). take k W) (x .left .power)) refl
 
   pub short-before : (r : Card) → Left c₀ r s (take p W) 0 → p ≤ length G + 1 → (ms : List ℕ) → Leads N (cut ms r .settled) v S n false
-  short-before r f l ms = append-cuts N s n h G v S (x .big) (x .small) (x .size) (x .room) (x .sum) (x .card) writes-whole (x .homely) c₀ r p f ms l
+  short-before r f l ms = append-cuts N s n h G v S (x .big) (x .small) (x .size) (x .room) (x .sum) (x .card) writes-whole (x .all-data) c₀ r p f ms l
 
   pub short-top : (r : Card) → Left c₀ r s (take p W) 0 → p ≡ length G + 2 → (ms : List ℕ) → length ms ≡ length G + 2
       → (t u : Bool) → eqb (getD ms (length G + 1) 0) 1 ≡ t → sameLog (foundIn (cut ms r .settled)) (cond t (logD (blockAt s) n ++ G) v) ≡ u
       → Leads N (cut ms r .settled) (cond t (logD (blockAt s) n ++ G) v) (cond (ownVerdict n (length G) t u .laid) (overlay G S) S) (ownVerdict n (length G) t u .n) (ownVerdict n (length G) t u .F)
-  short-top r f e ms l = append-cuts-top N s n h G v S (x .big) (x .small) (x .size) (x .room) (x .sum) (x .card) writes-whole (x .homely) c₀ r p f ms e (length-append-writes N s n h G) l
+  short-top r f e ms l = append-cuts-top N s n h G v S (x .big) (x .small) (x .size) (x .room) (x .sum) (x .card) writes-whole (x .all-data) c₀ r p f ms e (length-append-writes N s n h G) l
 
   pub short-few : p ≤ length G + 2 → length (take p W) ≡ p
   short-few l = let e : length W ≡ length G + 2 = length-append-writes N s n h G in length-take p W ∙ (omega arith)
@@ -89,7 +89,7 @@ module _ {N : ℕ} {s : List ℕ} {n h : ℕ} {G v : List Entry} {S : Disk} {c�
 
   pub done-card : WholeCard N (blockAt (settle W s)) (logD (blockAt s) n ++ G) (overlay G S) (n + length G)
   done-card =
-      append-all N s n h G v S (x .big) (x .small) (x .size) (x .room) (x .sum) (x .card) (settle W s) (x .low) (x .homely)
+      append-all N s n h G v S (x .big) (x .small) (x .size) (x .room) (x .sum) (x .card) (settle W s) (x .low) (x .all-data)
       (λ a l. settled-laid W s (settle W s) a refl (omega (arith, x .size)) writes-whole)
 
   pub done-sum : sumOf h G ≡ sumOf start (logD (blockAt (settle W s)) (n + length G))

@@ -23,16 +23,16 @@ use Rattle.store.proofs.Saves.{apply-carried}
 use Rattle.history.specs.Call.{Call, get, apply}
 use Rattle.history.specs.Plain.{Plain, ofApply, Done, refusal, plainStep, plainApply, applyVerdict, applyWaits, headerKept, unchanged}
 use Rattle.history.specs.Dispatch.{dispatch}
-use Rattle.history.specs.Ledger.{Ledger, nothing, applyHeads, noted, entered, applyHead, sameLog}
+use Rattle.history.specs.Ledger.{Ledger, nothing, applyHeaders, noted, entered, applyHeader, sameLog}
 use Rattle.history.specs.History.{World, ledgerNext, foundWritten}
 use Rattle.history.proofs.Batches.{Left}
-use Rattle.history.proofs.Leads.{foundIn}
+use Rattle.history.proofs.AfterCut.{foundIn}
 use Rattle.history.proofs.CauseLaws.{record-facts, cause-passes}
 use Rattle.history.proofs.Relation.{OpenSim, cutWritten, cutSettled, leads-still}
 use Rattle.history.proofs.PlainLaws.{apply-nothing, apply-finished, apply-short, choose-apply}
 use Rattle.history.proofs.Steps.{WorldSim, StepOK, sim-step, sim-at, same-cause, refused-step, plain-served, noted-none}
 use Rattle.history.proofs.SimpleSteps.{is-open}
-use Rattle.history.proofs.Ends.{carried-done, carried-short, downState, cut-short-step, finish-step}
+use Rattle.history.proofs.CallEnds.{carried-done, carried-short, downState, cut-short-step, finish-step}
 use Rattle.history.proofs.OpenFacts.{none-waits, log, entries-log, length-log, emptied, length-emptied, emptied-card, checkpointed, apply-crash}
 
 -- a call that changes nothing
@@ -61,7 +61,7 @@ apply-no-get : (a : ℕ) → apply ≡ get a → ⊥
 apply-no-get a e = let z : _≡_ {A = ℕ} 0 1 = cc in omega arith
 
 -- the header of a whole apply is settled
-pub note-done : (st : State) (l : Ledger) → noted (applyHead st ∷ []) (st .rec .logged + 3) l ≡ record { written = []; pending = nothing }
+pub note-done : (st : State) (l : Ledger) → noted (applyHeader st ∷ []) (st .rec .logged + 3) l ≡ record { written = []; pending = nothing }
 unfolding noted
 note-done st l = rw (lt-leb (st .rec .logged + 3) (st .rec .logged + 1) (omega arith), ne-eqb (st .rec .logged + 3) (suc (st .rec .logged + 1)) (λ e. omega arith))
 
@@ -95,7 +95,7 @@ module _ (w : World) (m : WorldSim w) (h : refusal apply (w .plain) ≡ 0) (o : 
       ∙ carried-done [] _ (w .store .rec) (w .store) (omega arith)
       ∙ rw (run-nil (cardIn (w .store)), eq-eqb _ 0 z) in
       nothing-step apply w m D (plain ∙ apply-nothing (w .plain) (o .n ∙ z))
-      (ap (λ (x : Outcome). noted (applyHeads (w .store)) (x .orders) (w .ledger)) D ∙ noted-none (applyHeads (w .store)) (w .ledger)) apply-no-get
+      (ap (λ (x : Outcome). noted (applyHeaders (w .store)) (x .orders) (w .ledger)) D ∙ noted-none (applyHeaders (w .store)) (w .ledger)) apply-no-get
 
   module _ (z : w .store .rec .logged ≢ 0) where
     orders-are : applyOrders (w .store .rec .blocks) (w .store .settled) (w .store .rec .logged) ≡ checkpointOrders (w .store .rec .blocks) (log (w .store) (w .ledger) (w .plain) (m .basics) o)
@@ -116,7 +116,7 @@ module _ (w : World) (m : WorldSim w) (h : refusal apply (w .plain) ≡ 0) (o : 
 
     -- with power for all of it
     whole : w .store .rec .logged + 3 ≤ w .store .rec .power → StepOK apply w
-    unfolding entered applyHeads
+    unfolding entered applyHeaders
     whole p =
         let b = m .basics in
         let f = record-facts (w .store) (b .counts) .lists (o .mode) in
@@ -132,7 +132,7 @@ module _ (w : World) (m : WorldSim w) (h : refusal apply (w .plain) ≡ 0) (o : 
         (record {
           call = D;
           plain = plain ∙ apply-finished (w .plain) plain-n q ∙ ap (λ (x : ℕ). record { answer = 0; orders = x; plain = applied (w .plain) }) e;
-          ledger = ap (λ (x : Outcome). noted (applyHead (w .store) ∷ []) (x .orders) (w .ledger)) D ∙ note-done (w .store) (w .ledger);
+          ledger = ap (λ (x : Outcome). noted (applyHeader (w .store) ∷ []) (x .orders) (w .ledger)) D ∙ note-done (w .store) (w .ledger);
           left = checkpointed (w .store) (w .ledger) (w .plain) b o p;
           size = length-emptied (w .store) (w .ledger) (w .plain) b o;
           mode = o .mode;
@@ -160,7 +160,7 @@ module _ (w : World) (m : WorldSim w) (h : refusal apply (w .plain) ≡ 0) (o : 
 
     -- with less
     gone : w .store .rec .power < w .store .rec .logged + 3 → StepOK apply w
-    unfolding entered applyHeads
+    unfolding entered applyHeaders
     gone p =
         let b = m .basics in
         let k = count in
@@ -172,7 +172,7 @@ module _ (w : World) (m : WorldSim w) (h : refusal apply (w .plain) ≡ 0) (o : 
         (record {
           call = D;
           plain = plain ∙ apply-short (w .plain) plain-n (omega (arith, o .n, b .power));
-          ledger = ap (λ (y : Outcome). noted (applyHead (w .store) ∷ []) (y .orders) (w .ledger)) D ∙ x .notes [];
+          ledger = ap (λ (y : Outcome). noted (applyHeader (w .store) ∷ []) (y .orders) (w .ledger)) D ∙ x .notes [];
           left = l;
           size = x .long;
           few = x .few;

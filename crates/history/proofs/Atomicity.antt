@@ -13,9 +13,9 @@ use Rattle.card.specs.Card.{blocksIn}
 use Rattle.card.proofs.Overlays.{overlay-nil}
 use Rattle.journal.specs.Layout.{isData}
 use Rattle.journal.proofs.Choices.{both}
-use Rattle.store.specs.State.{State, Outcome, opened}
+use Rattle.store.specs.State.{State, Outcome, openMode}
 use Rattle.store.specs.Causes.{cause}
-use Rattle.store.specs.Simple.{formatted, formatCall}
+use Rattle.store.specs.Format.{formatted, formatCall}
 use Rattle.history.specs.Call.{Call, requestOf, power, put, get, commit, abandon, sync, apply, recover, cut}
 use Rattle.history.specs.Plain.{Plain, Done, fresh, refusal, served, plainStep, plainSync, plainApply, plainRecover, plainCut, plainGet}
 use Rattle.history.specs.Dispatch.{dispatch, blockOf}
@@ -25,10 +25,10 @@ use Rattle.history.specs.Statements.{Fate, quiet, known, fate, outcome, 
 use Rattle.history.proofs.PlainLaws as PlainLaws
 use Rattle.history.proofs.Steps.{plainNext, WorldSim, same-cause, dispatch-refused, plain-refused, plain-served}
 use Rattle.history.proofs.CutStep as CutStep
-use Rattle.history.proofs.Induct.{step, next-sim, after-sim, after-append, clean-before, clean-first, begun-sim, formatted-now}
-use Rattle.history.proofs.Served.{sync-cases}
+use Rattle.history.proofs.ListInduction.{step, next-sim, after-sim, after-append, clean-before, clean-first, begun-sim, formatted-now}
+use Rattle.history.proofs.PlainAnswers.{sync-cases}
 use Rattle.history.proofs.ReadsBack.{found-closed, plain-same, recovered-sim, recovered-mode, power-served}
-use Rattle.history.proofs.Fates.{Watch, open-now, closed-watch, watch-list, short-plain}
+use Rattle.history.proofs.ShortSyncs.{Watch, open-now, closed-watch, watch-list, short-plain}
 
 -- ---- N never changes
 
@@ -90,7 +90,7 @@ served-of c w m h = go (ℕ-discrete (refusal c (w .plain)) 0)
         let k : cause (requestOf c) (w .store) ≢ 0 = λ q. e (sym (same-cause (w .store) (w .ledger) (w .plain) m c) ∙ q) in
         absurd (k (sym (ap (λ (o : Outcome). o .answer) (dispatch-refused c (w .store) k)) ∙ h))
 
-sync-opens : (w : World) → WorldSim w → dispatch sync (w .store) .answer ≡ 0 → storeNext sync w .rec .mode ≡ opened
+sync-opens : (w : World) → WorldSim w → dispatch sync (w .store) .answer ≡ 0 → storeNext sync w .rec .mode ≡ openMode
 sync-opens w m h =
     let r = served-of sync w m h in
     let o = open-now sync w m refl r in
@@ -103,7 +103,7 @@ sync-opens w m h =
     (λ z p. ap (λ (x : Done). x .plain .mode) (PlainLaws.sync-finished (w .plain) z p) ∙ d)
     (λ z p. absurd (let k : _≡_ {A = ℕ} 4 0 = sym (ap (λ (x : Done). x .answer) (P ∙ PlainLaws.sync-short (w .plain) z p)) ∙ sym (step sync w m .agrees .answer) ∙ h in omega arith))
 
-finished-opens : (c : Call) (w : World) → WorldSim w → S.finished c w ≡ true → storeNext c w .rec .mode ≡ opened
+finished-opens : (c : Call) (w : World) → WorldSim w → S.finished c w ≡ true → storeNext c w .rec .mode ≡ openMode
 unfolding S.finished
 finished-opens (power k) w m h = absurd (mathlib.Core.Bool.false≢true h)
 finished-opens (put a b) w m h = absurd (mathlib.Core.Bool.false≢true h)
@@ -115,11 +115,11 @@ finished-opens apply w m h = absurd (mathlib.Core.Bool.false≢true h)
 finished-opens recover w m h = recovered-mode w m (eqb-true _ _ h)
 finished-opens (cut ms) w m h = absurd (mathlib.Core.Bool.false≢true h)
 
-begun-open : (st : State) → formatCall st .answer ≡ 0 → begun st .store .rec .mode ≡ opened
+begun-open : (st : State) → formatCall st .answer ≡ 0 → begun st .store .rec .mode ≡ openMode
 unfolding begun formatted
 begun-open st h = ap (λ (s : State). s .rec .mode) (formatted-now st h)
 
-ends-open : (st : State) → formatCall st .answer ≡ 0 → (a : List Call) → EndsFinished a (begun st) → after a (begun st) .excepted ≡ false → after a (begun st) .store .rec .mode ≡ opened
+ends-open : (st : State) → formatCall st .answer ≡ 0 → (a : List Call) → EndsFinished a (begun st) → after a (begun st) .excepted ≡ false → after a (begun st) .store .rec .mode ≡ openMode
 unfolding after next
 ends-open st f a (_⊎_.inl e) x = ap (λ (l : List Call). after l (begun st) .store .rec .mode) e ∙ begun-open st f
 ends-open st f a (_⊎_.inr e) x =
@@ -132,7 +132,7 @@ ends-open st f a (_⊎_.inr e) x =
 -- ---- at most one sync is cut short
 
 -- a record that is not open is opened by a finished recovery alone
-shut-recover : (w : World) → WorldSim w → refusal recover (w .plain) ≡ 0 → S.finished recover w ≡ false → storeNext recover w .rec .mode ≢ opened
+shut-recover : (w : World) → WorldSim w → refusal recover (w .plain) ≡ 0 → S.finished recover w ≡ false → storeNext recover w .rec .mode ≢ openMode
 unfolding S.finished
 shut-recover w m h nf e = go (w .plain .F) refl (decLe 2 (w .plain .power))
   where
@@ -149,7 +149,7 @@ shut-recover w m h nf e = go (w .plain .F) refl (decLe 2 (w .plain .power))
         let k : _≡_ {A = ℕ} 2 1 = sym (step recover w m .agrees .mode ∙ ap (λ (d : Done). d .plain .mode) (P ∙ PlainLaws.recover-short (w .plain) f (omega arith))) ∙ e in
         omega arith
 
-served-shut : (c : Call) (w : World) → WorldSim w → w .store .rec .mode ≢ opened → S.finished c w ≡ false → refusal c (w .plain) ≡ 0 → storeNext c w .rec .mode ≢ opened
+served-shut : (c : Call) (w : World) → WorldSim w → w .store .rec .mode ≢ openMode → S.finished c w ≡ false → refusal c (w .plain) ≡ 0 → storeNext c w .rec .mode ≢ openMode
 served-shut (power k) w m z nf h e = z (sym (ap (λ (o : Outcome). o .state .rec .mode) (power-served k w m)) ∙ e)
 served-shut (put a b) w m z nf h e = z (open-now (put a b) w m refl h .mode)
 served-shut (get a) w m z nf h e = z (open-now (get a) w m refl h .mode)
@@ -160,16 +160,16 @@ served-shut apply w m z nf h e = z (open-now apply w m refl h .mode)
 served-shut recover w m z nf h e = shut-recover w m h nf e
 served-shut (cut ms) w m z nf h e = let k : _≡_ {A = ℕ} 0 1 = sym (ap (λ (s : State). s .rec .mode) (CutStep.store-cut ms w m h)) ∙ e in omega arith
 
-stays-shut : (c : Call) (w : World) → WorldSim w → w .store .rec .mode ≢ opened → S.finished c w ≡ false → storeNext c w .rec .mode ≢ opened
+stays-shut : (c : Call) (w : World) → WorldSim w → w .store .rec .mode ≢ openMode → S.finished c w ≡ false → storeNext c w .rec .mode ≢ openMode
 stays-shut c w m z nf = go (ℕ-discrete (refusal c (w .plain)) 0)
   where
-    go : Dec (refusal c (w .plain) ≡ 0) → storeNext c w .rec .mode ≢ opened
+    go : Dec (refusal c (w .plain) ≡ 0) → storeNext c w .rec .mode ≢ openMode
     go (yes h) = λ e. served-shut c w m z nf h e
     go (no h) = λ e.
         let k : cause (requestOf c) (w .store) ≢ 0 = λ q. h (sym (same-cause (w .store) (w .ledger) (w .plain) m c) ∙ q) in
         z (sym (ap (λ (o : Outcome). o .state .rec .mode) (dispatch-refused c (w .store) k)) ∙ e)
 
-shut-short : (c : Call) (w : World) → w .store .rec .mode ≢ opened → shortSync c w ≡ false
+shut-short : (c : Call) (w : World) → w .store .rec .mode ≢ openMode → shortSync c w ≡ false
 unfolding shortSync
 shut-short (power k) w z = refl
 shut-short (put a b) w z = refl
@@ -181,7 +181,7 @@ shut-short apply w z = refl
 shut-short recover w z = refl
 shut-short (cut ms) w z = refl
 
-count-shut : (cs : List Call) (w : World) → WorldSim w → w .store .rec .mode ≢ opened → noneFinished cs w ≡ true → after cs w .excepted ≡ false → countShort cs w ≡ 0
+count-shut : (cs : List Call) (w : World) → WorldSim w → w .store .rec .mode ≢ openMode → noneFinished cs w ≡ true → after cs w .excepted ≡ false → countShort cs w ≡ 0
 unfolding after next noneFinished countShort
 count-shut [] w m z n e = refl
 count-shut (c ∷ cs) w m z n e =
@@ -190,14 +190,14 @@ count-shut (c ∷ cs) w m z n e =
     ap₂ (λ (t : Bool) (k : ℕ). cond t 1 0 + k) (shut-short c w z) r
 
 -- on an open record a sync is never refused
-open-serves : (w : World) → WorldSim w → w .store .rec .mode ≡ opened → refusal sync (w .plain) ≡ 0
+open-serves : (w : World) → WorldSim w → w .store .rec .mode ≡ openMode → refusal sync (w .plain) ≡ 0
 unfolding refusal
 open-serves w m o =
     let d : w .plain .mode ≡ 1 = m .basics .mirrors .mode ∙ o in
     rw (ne-eqb (w .plain .mode) 0 (λ z. omega arith), ne-eqb (w .plain .mode) 2 (λ z. omega arith))
 
 -- a sync that is cut short leaves the record down
-short-down : (c : Call) (w : World) → WorldSim w → S.finished c w ≡ false → shortSync c w ≡ true → storeNext c w .rec .mode ≢ opened
+short-down : (c : Call) (w : World) → WorldSim w → S.finished c w ≡ false → shortSync c w ≡ true → storeNext c w .rec .mode ≢ openMode
 unfolding shortSync
 short-down (power k) w m nf h e = absurd (mathlib.Core.Bool.false≢true h)
 short-down (put a b) w m nf h e = absurd (mathlib.Core.Bool.false≢true h)
@@ -205,7 +205,7 @@ short-down (get a) w m nf h e = absurd (mathlib.Core.Bool.false≢true h)
 short-down commit w m nf h e = absurd (mathlib.Core.Bool.false≢true h)
 short-down abandon w m nf h e = absurd (mathlib.Core.Bool.false≢true h)
 short-down sync w m nf h e =
-    let o : w .store .rec .mode ≡ opened = eqb-true _ _ (both (eqb (w .store .rec .mode) opened) (eqb (dispatch sync (w .store) .answer) 4) h .0) in
+    let o : w .store .rec .mode ≡ openMode = eqb-true _ _ (both (eqb (w .store .rec .mode) openMode) (eqb (dispatch sync (w .store) .answer) 4) h .0) in
     let r : refusal sync (w .plain) ≡ 0 = open-serves w m o in
     let k : _≡_ {A = ℕ} 2 1 = sym (step sync w m .agrees .mode ∙ ap (λ (x : Done). x .plain .mode) (short-plain (w .plain .S) w m r nf)) ∙ e in
     omega arith

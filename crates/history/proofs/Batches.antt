@@ -8,7 +8,7 @@ use Rattle.cells.specs.Upto.{upTo}
 use Rattle.cells.specs.Entry.{entryBytes, Entry, entryAt}
 use Rattle.card.specs.Card.{Card, Order, write, flush, queue, settle, run}
 use Rattle.card.proofs.All.{All, all-append}
-use Rattle.card.proofs.Runs.{Whole, Short, run-dead, run-append, run-lengths, run-power, writes-settled, writes-count, writes-queue, flush-missed, flush-reached}
+use Rattle.card.proofs.Runs.{Whole, NarrowAddress, run-dead, run-append, run-lengths, run-power, writes-settled, writes-count, writes-queue, flush-missed, flush-reached}
 use Rattle.journal.specs.Layout.{slots}
 use Rattle.journal.specs.Header.{header, emptyHeader}
 use Rattle.journal.specs.Log.{sumOf}
@@ -37,7 +37,7 @@ pub record Fit (c : Card) (es : List Entry) : Type 0 where
   pub none : c .count ≡ 0
   pub room : entryBytes * length es ≤ length (c .waiting)
   pub whole : All Whole es
-  pub low : All Short es
+  pub low : All NarrowAddress es
 
 -- with power for no more than the writes: the first of them wait
 pub batch-short : (c : Card) (es : List Entry) → Fit c es → c .power ≤ length es → Left c (run (batch es) c) (c .settled) (take (c .power) es) 0
@@ -87,7 +87,7 @@ left-power e l = record { settled = l .settled; waits = l .waits; count = l .cou
 head-whole : (h : Rattle.journal.specs.declared.header.Header.Header) → All Whole (headerEntry h ∷ [])
 head-whole h = (length-encode h, tt)
 
-head-low : (h : Rattle.journal.specs.declared.header.Header.Header) → All Short (headerEntry h ∷ [])
+head-low : (h : Rattle.journal.specs.declared.header.Header.Header) → All NarrowAddress (headerEntry h ∷ [])
 head-low h = (lib.Dec.lit< tt, tt)
 
 -- ---- an append
@@ -101,7 +101,7 @@ append-fit c N s n h G d f = record {
   room = rw (length-append, length-slotBlocks) (omega (arith, f .1));
   whole = all-append Whole (slotBlocks n G) (descriptorEntry s n G ∷ headerEntry (header N n h (n + length G) (sumOf h G)) ∷ []) (slots-whole n G (f .3))
       (length-describe _ n G d (omega (arith, f .2)), head-whole (header N n h (n + length G) (sumOf h G)));
-  low = all-append Short (slotBlocks n G) (descriptorEntry s n G ∷ headerEntry (header N n h (n + length G) (sumOf h G)) ∷ [])
+  low = all-append NarrowAddress (slotBlocks n G) (descriptorEntry s n G ∷ headerEntry (header N n h (n + length G) (sumOf h G)) ∷ [])
       (slots-below (2 ^ 32) n G (omega (arith, f .2))) (lib.Dec.lit< tt, (lib.Dec.lit< tt, tt));
 }
 
@@ -121,7 +121,7 @@ module _ (c : Card) (N : ℕ) (s : List ℕ) (n h : ℕ) (G : List Entry) (f : F
 -- ---- a checkpoint of the log L
 
 abbrev pub CheckpointFits : Card → List Entry → Type 0
-CheckpointFits c L = (c .count ≡ 0) × (entryBytes * (length L + 1) ≤ length (c .waiting)) × All Whole L × All Short L
+CheckpointFits c L = (c .count ≡ 0) × (entryBytes * (length L + 1) ≤ length (c .waiting)) × All Whole L × All NarrowAddress L
 
 module _ (c : Card) (N : ℕ) (L : List Entry) (f : CheckpointFits c L) where
   homes-fit : Fit c L

@@ -24,7 +24,7 @@ use Rattle.history.specs.Ledger.{sameLog}
 use Rattle.history.proofs.Disks.{logD, WholeCard, FallCard}
 use Rattle.history.proofs.Batches.{Left}
 use Rattle.history.proofs.Crashes.{header-kept}
-use Rattle.history.proofs.Leads.{foundIn, Leads, closed-leads, agree-leads, long, append-front, append-header-lost, append-new, append-old, homes-leads, empty-card, fallen-card}
+use Rattle.history.proofs.AfterCut.{foundIn, Leads, closed-leads, agree-leads, long, append-front, append-header-lost, append-new, append-old, homes-leads, empty-card, fallen-card}
 use Rattle.history.proofs.PlainLaws.{own-lost, own-new, own-other}
 
 -- ---- what a cut lays over the settled bytes
@@ -49,7 +49,7 @@ cut-empty c r s p (m ∷ ms) a l h b = absurd (omega arith)
 
 module _ (N : ℕ) (s : List ℕ) (n h : ℕ) (G : List Entry) (w : List Entry) (S : Disk)
     (big : firstData < N) (small : N < 2 ^ 32) (size : N ≡ blocksIn s) (room : n + length G ≤ slots)
-    (sum : h ≡ sumOf start (logD (blockAt s) n)) (card : WholeCard N (blockAt s) w S n) (whole : All Whole (appendWrites N s n h G)) (homely : allData N G ≡ true)
+    (sum : h ≡ sumOf start (logD (blockAt s) n)) (card : WholeCard N (blockAt s) w S n) (whole : All Whole (appendWrites N s n h G)) (all-data : allData N G ≡ true)
     (c r : Card) (k : ℕ) (left : Left c r s (take k (appendWrites N s n h G)) 0) where
   laid : (ms : List ℕ) (a : ℕ) → a < N → blockAt (cut ms r .settled) a ≡ overlay (kept ms (take k (appendWrites N s n h G))) (blockAt s) a
   laid ms a l = cut-laid c r s (take k (appendWrites N s n h G)) 0 ms a left (omega arith) (all-take Whole k (appendWrites N s n h G) whole)
@@ -75,7 +75,7 @@ module _ (N : ℕ) (s : List ℕ) (n h : ℕ) (G : List Entry) (w : List Entry) 
       go true true p q =
           rw (own-new n (length G))
           (append-new N s n h G w S big small size room sum card (cut ms r .settled) (kept ms (appendWrites N s n h G)) all
-          (header-kept N s n h G room (long N s n h G w S big small size room sum card) ms l (eqb-true _ _ p) sum) homely q)
+          (header-kept N s n h G room (long N s n h G w S big small size room sum card) ms l (eqb-true _ _ p) sum) all-data q)
       go true false p q =
           rw (own-other n (length G))
           (append-old N s n h G w S big small size room sum card (cut ms r .settled) (kept ms (appendWrites N s n h G)) all

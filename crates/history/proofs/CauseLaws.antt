@@ -11,13 +11,13 @@ use lib.ListN.{length, drop}
 use Rattle.cells.specs.Upto.Laws.{length-upTo}
 use Rattle.cells.specs.Entry.{blockBytes, entryAt}
 use Rattle.card.specs.Card.{places, blocksIn}
-use Rattle.card.specs.Held.{Below}
+use Rattle.card.specs.CodeQueue.{Below}
 use Rattle.card.proofs.All.{All}
 use Rattle.journal.specs.Layout.{slots, wrongSize}
 use Rattle.journal.specs.Log.{entries}
 use Rattle.journal.specs.Choice.{choose, choiceNumber}
 use Rattle.journal.proofs.Logs.{neither, allData-all, all-allData}
-use Rattle.store.specs.State.{State, closed, opened, down}
+use Rattle.store.specs.State.{State, closed, openMode, down}
 use Rattle.store.specs.Lists.{openFrom, groupFrom, listed, listOf}
 use Rattle.store.specs.Request as Request
 use Rattle.store.specs.Request.{Request}
@@ -56,7 +56,7 @@ pub record RecordFacts (st : State) : Type 0 where
   pub waiting-down : st .rec .waiting ≢ 0 → st .rec .mode ≡ down
   pub blocks : st .rec .blocks ≡ blocksIn (st .settled)
   pub waiting-below : Below (st .rec .blocks) (st .waiting) (st .rec .waiting)
-  pub lists : st .rec .mode ≡ opened → ListFacts st
+  pub lists : st .rec .mode ≡ openMode → ListFacts st
 
 pub lists-facts : (st : State) → wrongLists st ≡ false → ListFacts st
 unfolding wrongLists
@@ -105,7 +105,7 @@ pub facts-record : (st : State) → RecordFacts st → wrongRecord st ≡ false
 unfolding wrongCounts wrongWaiting
 facts-record st f =
     rw (le-ltb _ _ (f .mode), le-ltb _ _ (f .open-count), le-ltb _ _ (f .group-count), le-ltb _ _ (f .log-count), le-ltb _ _ (f .waiting-count), waits, eq-eqb _ _ (f .blocks), addresses)
-    (go (eqb (st .rec .mode) opened) refl)
+    (go (eqb (st .rec .mode) openMode) refl)
   where
     waits : not (eqb (st .rec .waiting) 0) && not (eqb (st .rec .mode) down) ≡ false
     waits = at (eqb (st .rec .waiting) 0) refl
@@ -118,7 +118,7 @@ facts-record st f =
     addresses =
         none-some (λ i. not (ltb (entryAt (st .waiting) i .address) (st .rec .blocks))) (st .rec .waiting) (λ i p. ap not (lt-ltb _ _ (f .waiting-below i p)))
 
-    go : (t : Bool) → eqb (st .rec .mode) opened ≡ t → t && wrongLists st ≡ false
+    go : (t : Bool) → eqb (st .rec .mode) openMode ≡ t → t && wrongLists st ≡ false
     go true p = facts-lists st (f .lists (eqb-true _ _ p))
     go false p = refl
 
@@ -152,11 +152,11 @@ pub record Mirrors (st : State) (d : Plain) : Type 0 where
   pub mode : d .mode ≡ st .rec .mode
   pub N : d .N ≡ st .rec .blocks
   pub waiting : d .waiting ≡ st .rec .waiting
-  pub T : st .rec .mode ≡ opened → d .T ≡ listOf (st .work) openFrom (st .rec .opened)
-  pub G : st .rec .mode ≡ opened → d .G ≡ listOf (st .work) groupFrom (st .rec .grouped)
+  pub T : st .rec .mode ≡ openMode → d .T ≡ listOf (st .work) openFrom (st .rec .opened)
+  pub G : st .rec .mode ≡ openMode → d .G ≡ listOf (st .work) groupFrom (st .rec .grouped)
 
 -- tests behind the modes count when open
-when-open : (m x y : ℕ) → m ≤ down → (m ≡ opened → x ≡ y) → cond (eqb m closed) 3 (cond (eqb m down) 4 x) ≡ cond (eqb m closed) 3 (cond (eqb m down) 4 y)
+when-open : (m x y : ℕ) → m ≤ down → (m ≡ openMode → x ≡ y) → cond (eqb m closed) 3 (cond (eqb m down) 4 x) ≡ cond (eqb m closed) 3 (cond (eqb m down) 4 y)
 when-open m x y h e = go (eqb m closed) (eqb m down) refl refl
   where
     go : (s t : Bool) → eqb m closed ≡ s → eqb m down ≡ t → cond s 3 (cond t 4 x) ≡ cond s 3 (cond t 4 y)
@@ -185,18 +185,18 @@ module _ (st : State) (d : Plain) (sizes : wrongSizes st ≡ false) (counts : wr
   cause-refusal abandon h = rw (sizes, counts, m .mode)
   cause-refusal sync h = rw (sizes, counts, m .mode)
   cause-refusal apply h = rw (sizes, counts, m .mode)
-  cause-refusal recover h = rw (sizes, counts, m .mode) (go (eqb (st .rec .mode) down) (eqb (st .rec .mode) opened) refl refl)
+  cause-refusal recover h = rw (sizes, counts, m .mode) (go (eqb (st .rec .mode) down) (eqb (st .rec .mode) openMode) refl refl)
     where
       choice : ℕ
       choice = choiceNumber (choose (st .rec .blocks) (st .settled))
 
-      go : (s t : Bool) → eqb (st .rec .mode) down ≡ s → eqb (st .rec .mode) opened ≡ t
+      go : (s t : Bool) → eqb (st .rec .mode) down ≡ s → eqb (st .rec .mode) openMode ≡ t
           → _≡_ {A = ℕ} (cond s 4 (cond t 5 (cond (eqb choice 8) 8 (cond (eqb choice 9) 9 0)))) (cond s 4 (cond t 5 0))
       go true t p q = refl
       go false true p q = refl
       go false false p q =
           let a : st .rec .mode ≢ down = eqb-false _ _ p in
-          let b : st .rec .mode ≢ opened = eqb-false _ _ q in
+          let b : st .rec .mode ≢ openMode = eqb-false _ _ q in
           let k : st .rec .mode ≤ down = record-facts st counts .mode in
           rw (h refl (omega arith))
   cause-refusal (cut ms) h = rw (sizes, counts, m .waiting, overOne-same)
@@ -234,7 +234,7 @@ cause-passes q st e = Causes·cause-passes q st 0 (sym e) refl
 -- a call that needs an open store
 pub record IsOpen (st : State) : Type 0 where
   pub facts : SoundFacts st
-  pub mode : st .rec .mode ≡ opened
+  pub mode : st .rec .mode ≡ openMode
   pub lists : ListFacts st
 
 pub cause-opened : (q : Request) (st : State) → readsRecord q ≡ true → needsOpen q ≡ true → cause q st ≡ 0 → IsOpen st
@@ -244,5 +244,5 @@ cause-opened q st reads needs e =
     let a : st .rec .mode ≢ closed = eqb-false _ _ (other _ _ (p .not-closed) needs) in
     let b : st .rec .mode ≢ down = eqb-false _ _ (other _ _ (p .not-down) (ap (λ (t : Bool). t || isRecover q) needs)) in
     let few : st .rec .mode ≤ down = f .counts .mode in
-    let mode : st .rec .mode ≡ opened = omega arith in
+    let mode : st .rec .mode ≡ openMode = omega arith in
     record { facts = f; mode = mode; lists = f .counts .lists mode }

@@ -18,7 +18,7 @@ use Rattle.card.specs.Disk.{Disk, lay, overlay}
 use Rattle.card.specs.Card.{blockAt, kept}
 use Rattle.card.proofs.All.{All, all-append, all-map, all-take}
 use Rattle.card.proofs.Overlays.{lay-same, overlay-cons, overlay-append, overlay-last, overlay-other}
-use Rattle.card.proofs.Runs.{Short}
+use Rattle.card.proofs.Runs.{NarrowAddress}
 use Rattle.card.proofs.Cuts.{kept-nil, kept-yes, kept-append, kept-lost, all-kept}
 use Rattle.journal.specs.Layout.{headerAt, descriptorAt, slotAt, slots, firstData}
 use Rattle.journal.specs.Header.{header}
@@ -134,7 +134,7 @@ slots-laid n (e ∷ G) d zero x h =
 slots-laid n (e ∷ G) d (suc i) x h =
     rw (native.Mathlib.Nat.add-suc, ← native.Mathlib.Nat.suc-add n i) (slots-laid (suc n) G (lay (slotBlock n e) d) i x (omega arith))
 
-module _ (N : ℕ) (s : List ℕ) (n h : ℕ) (G : List Entry) (room : n + length G ≤ slots) (long : 4 * n ≤ length (blockAt s descriptorAt)) (low : All Short G) where
+module _ (N : ℕ) (s : List ℕ) (n h : ℕ) (G : List Entry) (room : n + length G ≤ slots) (long : 4 * n ≤ length (blockAt s descriptorAt)) (low : All NarrowAddress G) where
   laid : Disk
   laid = overlay (appendWrites N s n h G) (blockAt s)
 
@@ -155,7 +155,7 @@ module _ (N : ℕ) (s : List ℕ) (n h : ℕ) (G : List Entry) (room : n + lengt
   short-at : (x : Entry) (i : ℕ) → i < length G → getD G i x .address < 2 ^ 32
   short-at x i l = go G i l low
     where
-      go : (g : List Entry) (j : ℕ) → j < length g → All Short g → getD g j x .address < 2 ^ 32
+      go : (g : List Entry) (j : ℕ) → j < length g → All NarrowAddress g → getD g j x .address < 2 ^ 32
       go (e ∷ g) zero k p = p .0
       go (e ∷ g) (suc j) k p = go g j (omega arith) (p .1)
 

@@ -18,7 +18,7 @@ use Rattle.card.proofs.Cuts.{cut-length}
 use Rattle.store.specs.Request as Request
 use Rattle.store.specs.State.{State, Outcome, closed, down, withMode, withOpened, withGrouped, withLog, withRecord, withCard, cardIn}
 use Rattle.store.specs.Causes.{cause}
-use Rattle.store.specs.Simple.{finished}
+use Rattle.store.specs.Outcomes.{completed}
 use Rattle.store.specs.Saves.{cutCall}
 use Rattle.store.proofs.Causes.{sizes-facts}
 use Rattle.history.specs.Call.{get, cut}
@@ -27,7 +27,7 @@ use Rattle.history.specs.Dispatch.{dispatch}
 use Rattle.history.specs.Ledger.{Ledger, nothing, resolved, entered, logFound, sameLog, collides}
 use Rattle.history.specs.History.{World, storeNext, ledgerNext, foundWritten, acceptedCut, exception}
 use Rattle.history.proofs.Disks.{ClosedCard}
-use Rattle.history.proofs.Leads.{closed-leads, foundIn}
+use Rattle.history.proofs.AfterCut.{closed-leads, foundIn}
 use Rattle.history.proofs.CauseLaws.{facts-sizes, record-facts, facts-record, idle}
 use Rattle.history.proofs.Relation.{Basics, OpenSim, ClosedSim, DownSim, Sim, cutSettled, cutWritten, cutVerdict, CutLeads}
 use Rattle.history.proofs.PlainLaws.{choose-none}
@@ -67,7 +67,7 @@ all-cuts ms st l d m h = go (m .phase)
 abbrev pub afterCut : List ℕ → State → State
 afterCut ms st = withCard (Card.cut ms (cardIn st)) (withRecord (withMode closed (withOpened 0 (withGrouped 0 (withLog 0 start (st .rec))))) st)
 
-pub cut-served : (ms : List ℕ) (st : State) → cause (Request.cut ms) st ≡ 0 → cutCall ms st ≡ finished (afterCut ms st)
+pub cut-served : (ms : List ℕ) (st : State) → cause (Request.cut ms) st ≡ 0 → cutCall ms st ≡ completed (afterCut ms st)
 unfolding cutCall
 cut-served ms st h = rw (eq-eqb _ 0 h)
 
@@ -132,7 +132,7 @@ module _ (ms : List ℕ) (w : World) (m : WorldSim w) (h : refusal (cut ms) (w .
   accepted : cause (Request.cut ms) (w .store) ≡ 0
   accepted = same-cause (w .store) (w .ledger) (w .plain) m (cut ms) ∙ h
 
-  pub served-cut : dispatch (cut ms) (w .store) ≡ finished (afterCut ms (w .store))
+  pub served-cut : dispatch (cut ms) (w .store) ≡ completed (afterCut ms (w .store))
   served-cut = cut-served ms (w .store) accepted
 
   pub store-cut : storeNext (cut ms) w ≡ afterCut ms (w .store)

@@ -37,18 +37,18 @@ unfolding slotEntry slotAddress slotE
 entries-disk s n = ext-upTo (slotEntry s) (slotE (blockAt s)) n (λ i h. refl)
 
 -- the first n addresses and slots are as on another disk
-pub record SameLog (n : ℕ) (d e : Disk) : Type 0 where
+pub record LogStands (n : ℕ) (d e : Disk) : Type 0 where
   pub addresses : (i : ℕ) → i < n → cell 4 (d descriptorAt) i ≡ cell 4 (e descriptorAt) i
   pub blocks : (i : ℕ) → i < n → d (slotAt i) ≡ e (slotAt i)
 
-pub same-log : (n : ℕ) (d e : Disk) → SameLog n d e → logD d n ≡ logD e n
+pub same-log : (n : ℕ) (d e : Disk) → LogStands n d e → logD d n ≡ logD e n
 unfolding slotE
 same-log n d e h = ext-upTo (slotE d) (slotE e) n (λ i l. entry-eq (ap num (h .addresses i l)) (h .blocks i l))
 
-pub same-refl : (n : ℕ) (d : Disk) → SameLog n d d
+pub same-refl : (n : ℕ) (d : Disk) → LogStands n d d
 same-refl n d = record { addresses = λ i h. refl; blocks = λ i h. refl }
 
-pub same-agree : (n : ℕ) (d e : Disk) → n ≤ slots → ((a : ℕ) → a < firstData → d a ≡ e a) → SameLog n d e
+pub same-agree : (n : ℕ) (d e : Disk) → n ≤ slots → ((a : ℕ) → a < firstData → d a ≡ e a) → LogStands n d e
 same-agree n d e m h = record {
   addresses = λ i l. ap (λ (b : List ℕ). cell 4 b i) (h descriptorAt (lib.Dec.lit< tt));
   blocks = λ i l. h (slotAt i) (omega arith);
@@ -61,7 +61,7 @@ pub record Aside (n : ℕ) (d : Disk) (e : Entry) : Type 0 where
   pub names : e .address ≡ descriptorAt → (i : ℕ) → i < n → cell 4 (e .block) i ≡ cell 4 (d descriptorAt) i
   pub above : (i : ℕ) → i < n → slotAt i ≢ e .address
 
-aside-lay : (n : ℕ) (d c : Disk) (e : Entry) → Aside n d e → SameLog n c d → SameLog n (lay e c) d
+aside-lay : (n : ℕ) (d c : Disk) (e : Entry) → Aside n d e → LogStands n c d → LogStands n (lay e c) d
 aside-lay n d c e a s = record { addresses = names (eqb descriptorAt (e .address)) refl; blocks = λ i h. lay-other e c (slotAt i) (a .above i h) ∙ s .blocks i h }
   where
     names : (t : Bool) → eqb descriptorAt (e .address) ≡ t → (i : ℕ) → i < n → cell 4 (lay e c descriptorAt) i ≡ cell 4 (d descriptorAt) i
@@ -70,7 +70,7 @@ aside-lay n d c e a s = record { addresses = names (eqb descriptorAt (e .address
         rw (lay-same e c descriptorAt q) (a .names (sym q) i h)
     names false p i h = rw (lay-other e c descriptorAt (borrow.Author.Tests.eqb-false _ _ p)) (s .addresses i h)
 
-pub aside-overlay : (n : ℕ) (d c : Disk) (E : List Entry) → All (Aside n d) E → SameLog n c d → SameLog n (overlay E c) d
+pub aside-overlay : (n : ℕ) (d c : Disk) (E : List Entry) → All (Aside n d) E → LogStands n c d → LogStands n (overlay E c) d
 unfolding overlay
 aside-overlay n d c [] a s = s
 aside-overlay n d c (e ∷ E) a s = aside-overlay n d (lay e c) E (a .1) (aside-lay n d c e (a .0) s)
@@ -88,7 +88,7 @@ aside-home n d c E a h l = overlay-other E c a (all-map (Aside n d) (λ e. a ≢
 -- ---- what the card holds when nothing waits
 
 -- block 0 is a header of ours
-pub record Head (d : Disk) (N p ps c ns : ℕ) : Type 0 where
+pub record HasHeader (d : Disk) (N p ps c ns : ℕ) : Type 0 where
   pub block : d headerAt ≡ encode (header N p ps c ns)
   pub ordered : p ≤ c
   pub most : c ≤ slots
@@ -99,7 +99,7 @@ pub record Head (d : Disk) (N p ps c ns : ℕ) : Type 0 where
 pub record WholeCard (N : ℕ) (d : Disk) (w : List Entry) (S : Disk) (n : ℕ) : Type 0 where
   pub p : ℕ
   pub ps : ℕ
-  pub head : Head d N p ps n (sumOf start (logD d n))
+  pub head : HasHeader d N p ps n (sumOf start (logD d n))
   pub all : allData N (logD d n) ≡ true
   pub same : w ≡ logD d n
   pub disk : (a : ℕ) → isData N a ≡ true → S a ≡ overlay (logD d n) d a
@@ -108,7 +108,7 @@ pub record WholeCard (N : ℕ) (d : Disk) (w : List Entry) (S : Disk) (n : ℕ) 
 pub record FallCard (N : ℕ) (d : Disk) (w : List Entry) (S : Disk) (n : ℕ) : Type 0 where
   pub c : ℕ
   pub ns : ℕ
-  pub head : Head d N n (sumOf start (logD d n)) c ns
+  pub head : HasHeader d N n (sumOf start (logD d n)) c ns
   pub all : allData N (logD d n) ≡ true
   pub bad : good N (logD d c) ns ≡ false
   pub other : w ≢ logD d c
@@ -196,7 +196,7 @@ append-lost N d w S n E a z r =
 
 pub record Appended (N : ℕ) (d e : Disk) (n h : ℕ) (G : List Entry) : Type 0 where
   pub head : e headerAt ≡ encode (header N n h (n + length G) (sumOf h G))
-  pub log : SameLog n e d
+  pub log : LogStands n e d
   pub homes : (a : ℕ) → isData N a ≡ true → e a ≡ d a
   pub sum : h ≡ sumOf start (logD d n)
   pub room : n + length G ≤ slots
@@ -209,7 +209,7 @@ module _ (N : ℕ) (d e : Disk) (w : List Entry) (S : Disk) (n h : ℕ) (G : Lis
   pub append-sum : sumOf start (logD d n ++ G) ≡ sumOf h G
   append-sum = sumOf-append start (logD d n) G ∙ ap (λ (k : ℕ). sumOf k G) (sym (t .sum))
 
-  pub append-head : Head e N n h (n + length G) (sumOf h G)
+  pub append-head : HasHeader e N n h (n + length G) (sumOf h G)
   append-head = record {
     block = t .head;
     ordered = omega arith;

@@ -15,11 +15,12 @@ use Rattle.journal.specs.Log.{entries}
 use Rattle.journal.proofs.Logs.{sumOf-lt}
 use Rattle.store.specs.declared.record.Record.{Record}
 use Rattle.store.specs.Request as Request
-use Rattle.store.specs.State.{State, Outcome, opened, down, withMode, withLog}
-use Rattle.store.specs.Held.{stateOf}
+use Rattle.store.specs.State.{State, Outcome, openMode, down, withMode, withLog}
+use Rattle.store.specs.CodeState.{stateOf}
 use Rattle.store.specs.Causes.{needsOpen, cause}
-use Rattle.store.specs.Simple.{formatted, formatCall, powerCall}
-use Rattle.store.specs.Saves.{carried, applies, synced, innerOrders, syncing, syncCall, applyCall, recoverCall, cutCall}
+use Rattle.store.specs.Format.{formatted, formatCall}
+use Rattle.store.specs.Power.{powerCall}
+use Rattle.store.specs.Saves.{carried, applies, metByAppend, innerOrders, syncing, syncCall, applyCall, recoverCall, cutCall}
 use Rattle.store.proofs.Saves.{apply-carried}
 use Rattle.store.proofs.Causes.{sizes-facts}
 use Rattle.firmware.specs.Face.{recordBytes, decodeRecord, Face, faced, handed, Got, gotIn, got}
@@ -30,14 +31,14 @@ use Rattle.history.specs.Plain.{Plain, Done, refusal, served, plainStep,
 use Rattle.history.specs.Dispatch.{dispatch}
 use Rattle.history.specs.Ledger.{Ledger, entered}
 use Rattle.history.specs.History.{World, begun, next, after, foundWritten}
-use Rattle.history.specs.Linked.{faceNext, faceAfter, Passable, AllPassable, Holds, Links, Linked}
+use Rattle.history.specs.Linked.{faceNext, faceAfter, Passable, AllPassable, BytesOf, Links, Linked}
 use Rattle.history.proofs.CauseLaws.{record-facts, cause-passes}
 use Rattle.history.proofs.PlainLaws.{sync-nothing, sync-finished, sync-short, apply-nothing, apply-finished, apply-short, recover-whole, recover-fallback, recover-short}
 use Rattle.history.proofs.Relation.{OpenSim, ClosedSim, DownSim, Safe}
 use Rattle.history.proofs.Steps.{same-cause, dispatch-refused, plain-refused, plain-served}
 use Rattle.history.proofs.SimpleSteps.{is-open}
-use Rattle.history.proofs.Induct.{step, next-safe, begun-safe, formatted-now}
-use Rattle.history.proofs.Served.{sync-cases}
+use Rattle.history.proofs.ListInduction.{step, next-safe, begun-safe, formatted-now}
+use Rattle.history.proofs.PlainAnswers.{sync-cases}
 
 -- ---- the power only sinks, or is set
 
@@ -87,30 +88,30 @@ plain-power c t d p h = go (ℕ-discrete (refusal c d) 0)
 
 -- what a call leaves of it: open, kept, or the empty list's
 abbrev Sums : State → Outcome → Type 0
-Sums st o = (o .state .rec .mode ≡ opened) ⊎ ((o .state .rec .sum ≡ st .rec .sum) ⊎ (o .state .rec .sum ≡ start))
+Sums st o = (o .state .rec .mode ≡ openMode) ⊎ ((o .state .rec .sum ≡ st .rec .sum) ⊎ (o .state .rec .sum ≡ start))
 
 -- done with a record that is open, or has such a sum; or gone with one
 carried-sums : (os : List Order) (done gone : Record) (st : State)
-    → (done .mode ≡ opened) ⊎ ((done .sum ≡ st .rec .sum) ⊎ (done .sum ≡ start))
+    → (done .mode ≡ openMode) ⊎ ((done .sum ≡ st .rec .sum) ⊎ (done .sum ≡ start))
     → (gone .sum ≡ st .rec .sum) ⊎ (gone .sum ≡ start)
     → Sums st (carried os done gone st)
 unfolding carried
 carried-sums os done gone st a b = go (leb (length os) (st .rec .power))
   where
-    go : (t : Bool) → (cond t done (withMode down gone) .mode ≡ opened) ⊎ ((cond t done (withMode down gone) .sum ≡ st .rec .sum) ⊎ (cond t done (withMode down gone) .sum ≡ start))
+    go : (t : Bool) → (cond t done (withMode down gone) .mode ≡ openMode) ⊎ ((cond t done (withMode down gone) .sum ≡ st .rec .sum) ⊎ (cond t done (withMode down gone) .sum ≡ start))
     go true = a
     go false = _⊎_.inr b
 
-synced-mode : (st : State) → synced st .mode ≡ st .rec .mode
-synced-mode st = go (applies st)
+met-mode : (st : State) → metByAppend st .mode ≡ st .rec .mode
+met-mode st = go (applies st)
   where
     go : (t : Bool) → cond t (withLog 0 start (st .rec)) (st .rec) .mode ≡ st .rec .mode
     go true = refl
     go false = refl
 
-sync-sums : (st : State) → st .rec .mode ≡ opened → Sums st (syncing st)
+sync-sums : (st : State) → st .rec .mode ≡ openMode → Sums st (syncing st)
 sync-sums st o =
-    carried-sums _ _ _ st (_⊎_.inl (synced-mode st ∙ o)) (go (leb (length (innerOrders st)) (st .rec .power)) (applies st))
+    carried-sums _ _ _ st (_⊎_.inl (met-mode st ∙ o)) (go (leb (length (innerOrders st)) (st .rec .power)) (applies st))
   where
     go : (b t : Bool) → (cond b (cond t (withLog 0 start (st .rec)) (st .rec)) (st .rec) .sum ≡ st .rec .sum) ⊎ (cond b (cond t (withLog 0 start (st .rec)) (st .rec)) (st .rec) .sum ≡ start)
     go true true = _⊎_.inr refl
@@ -130,7 +131,7 @@ module _ (st : State) (l : Ledger) (s : Safe st l) where
 
   -- a call on an open record that leaves the plain disk's mode leaves it open
   still-open : (c : Call) (q : Request.Request) → requestOf c ≡ q → needsOpen q ≡ true → cause q st ≡ 0
-      → served c (foundWritten c world) (s .plain) .plain .mode ≡ s .plain .mode → dispatch c st .state .rec .mode ≡ opened
+      → served c (foundWritten c world) (s .plain) .plain .mode ≡ s .plain .mode → dispatch c st .state .rec .mode ≡ openMode
   unfolding world
   still-open c q e n h k =
       let z : cause (requestOf c) st ≡ 0 = ap (λ (x : Request.Request). cause x st) e ∙ h in
@@ -172,7 +173,7 @@ next-bounded c st l s p b = record { power = rw (agrees .power) (plain-power c (
     agrees : Rattle.history.specs.Statements.Agrees c (world st l s)
     agrees = step c (world st l s) (s .sim) .agrees
 
-    of-list : (t : Safe (dispatch c st .state) (entered c st l)) → dispatch c st .state .rec .mode ≡ opened → dispatch c st .state .rec .sum < 2 ^ 64
+    of-list : (t : Safe (dispatch c st .state) (entered c st l)) → dispatch c st .state .rec .mode ≡ openMode → dispatch c st .state .rec .sum < 2 ^ 64
     of-list t z = go (t .sim .phase)
       where
         go : OpenSim (dispatch c st .state) (t .ledger) (t .plain) ⊎ (ClosedSim (dispatch c st .state) (t .ledger) (t .plain) ⊎ DownSim (dispatch c st .state) (t .ledger) (t .plain)) → dispatch c st .state .rec .sum < 2 ^ 64
@@ -203,25 +204,25 @@ fits st l s b =
 -- ---- C passes on the state
 
 -- what C's bytes are decoded to
-held : (f : Face) (st : State) → Holds f st → Fitting (st .rec) → stateOf (decodeRecord (f .rec)) (f .settled) (f .waiting) (f .work) ≡ st
+held : (f : Face) (st : State) → BytesOf f st → Fitting (st .rec) → stateOf (decodeRecord (f .rec)) (f .settled) (f .waiting) (f .work) ≡ st
 held f st h t = λ j. record { rec = rec j; settled = h .settled j; waiting = h .waiting j; work = h .work j }
   where
     rec : decodeRecord (f .rec) ≡ st .rec
     rec = ap decodeRecord (h .rec) ∙ decode-encode (st .rec) t
 
-sized : (f : Face) (st : State) → Holds f st → length (f .rec) ≡ recordBytes
+sized : (f : Face) (st : State) → BytesOf f st → length (f .rec) ≡ recordBytes
 sized f st h = ap length (h .rec) ∙ length-encode (st .rec)
 
 -- a call that is lent the record's bytes
-faced-next : (call : State → Outcome) (f : Face) (st : State) → Holds f st → Fitting (st .rec) → faced call (f .rec) (f .settled) (f .waiting) (f .work) ≡ handed (call st)
+faced-next : (call : State → Outcome) (f : Face) (st : State) → BytesOf f st → Fitting (st .rec) → faced call (f .rec) (f .settled) (f .waiting) (f .work) ≡ handed (call st)
 faced-next call f st h t =
     sym (faced-outcome call (f .rec) (f .settled) (f .waiting) (f .work) (sized f st h)) ∙ ap (λ (x : State). handed (call x)) (held f st h t)
 
-got-next : (f : Face) (st : State) → Holds f st → Fitting (st .rec) → (a : ℕ) → got a (f .rec) (f .settled) (f .waiting) (f .work) ≡ gotIn a st
+got-next : (f : Face) (st : State) → BytesOf f st → Fitting (st .rec) → (a : ℕ) → got a (f .rec) (f .settled) (f .waiting) (f .work) ≡ gotIn a st
 got-next f st h t a = sym (got-place a (f .rec) (f .settled) (f .waiting) (f .work) (sized f st h)) ∙ ap (gotIn a) (held f st h t)
 
 -- what was handed out holds what was left
-handed-holds : (o : Outcome) (f : Face) → f ≡ handed o → Holds f (o .state)
+handed-holds : (o : Outcome) (f : Face) → f ≡ handed o → BytesOf f (o .state)
 handed-holds o f e = record { rec = ap (λ (x : Face). x .rec) e; settled = ap (λ (x : Face). x .settled) e; waiting = ap (λ (x : Face). x .waiting) e; work = ap (λ (x : Face). x .work) e }
 
 linked-call : (c : Call) (f : Face) (st : State) → faceNext c f ≡ handed (dispatch c st) → ((a : ℕ) → got a (f .rec) (f .settled) (f .waiting) (f .work) ≡ gotIn a st) → Links c f st
@@ -232,7 +233,7 @@ linked-call c f st e g = record {
   left = handed-holds (dispatch c st) (faceNext c f) e;
 }
 
-links : (c : Call) (f : Face) (st : State) → Holds f st → Fitting (st .rec) → Links c f st
+links : (c : Call) (f : Face) (st : State) → BytesOf f st → Fitting (st .rec) → Links c f st
 links (power k) f st h t = linked-call (power k) f st (faced-next (dispatch (power k)) f st h t) (got-next f st h t)
 links (put a b) f st h t = linked-call (put a b) f st (faced-next (dispatch (put a b)) f st h t) (got-next f st h t)
 links (get a) f st h t = record {
@@ -252,7 +253,7 @@ links (cut ms) f st h t = linked-call (cut ms) f st (faced-next (dispatch (cut m
 
 -- C's bytes and the store, and what both need to go on
 record Linking (f : Face) (w : World) : Type 0 where
-  holds : Holds f (w .store)
+  holds : BytesOf f (w .store)
   safe : Safe (w .store) (w .ledger)
   bounded : Bounded (w .store)
 

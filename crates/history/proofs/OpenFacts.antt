@@ -13,7 +13,7 @@ use Rattle.cells.specs.Entry.{blockBytes, entryBytes, Entry}
 use Rattle.fnv.specs.Fnv.{start}
 use Rattle.card.specs.Card.{Card, Order, run, cut, settle, blockAt, blocksIn, places}
 use Rattle.card.proofs.All.{All, all-map, all-take}
-use Rattle.card.proofs.Runs.{Whole, Short, run-append, length-settle}
+use Rattle.card.proofs.Runs.{Whole, NarrowAddress, run-append, length-settle}
 use Rattle.journal.specs.Layout.{slots, firstData, isData}
 use Rattle.journal.specs.Header.{emptyHeader}
 use Rattle.journal.specs.Log.{entries, sumOf, allData}
@@ -25,11 +25,11 @@ use Rattle.store.specs.Lists.{groupFrom, listed}
 use Rattle.store.specs.Saves.{groupOf}
 use Rattle.store.proofs.Causes.{SizeFacts, sizes-facts}
 use Rattle.history.specs.Plain.{Plain, applyVerdict, applyWaits, headerKept}
-use Rattle.history.specs.Ledger.{Ledger, Head, waits, noted, applyHead, resolved}
+use Rattle.history.specs.Ledger.{Ledger, PlannedHeader, waits, noted, applyHeader, resolved}
 use Rattle.history.proofs.Disks.{logD, slotE, entries-disk, WholeCard, data-below}
 use Rattle.journal.proofs.Logs.{from-whole, entries-whole, all-allData}
 use Rattle.history.proofs.Batches.{Left, left-dead, left-power, checkpoint-homes, checkpoint-header, checkpoint-done}
-use Rattle.history.proofs.Leads.{Leads, homes-done, empty-card}
+use Rattle.history.proofs.AfterCut.{Leads, homes-done, empty-card}
 use Rattle.history.proofs.CallCuts.{settled-laid, homes-cuts, still-cuts, header-cuts}
 use Rattle.history.proofs.Lists.{Data}
 use Rattle.history.proofs.WorkLists.{data-short}
@@ -81,7 +81,7 @@ module _ (st : State) (l : Ledger) (d : Plain) (b : Basics st d) (o : OpenSim st
   most : st .rec .blocks ≤ 65536
   most = omega (arith, sz .most, rc .blocks)
 
-  pub group-short : All Short (groupOf st)
+  pub group-short : All NarrowAddress (groupOf st)
   group-short = data-short (st .rec .blocks) most (groupOf st) (ls .group-data)
 
   -- the log on the card
@@ -100,7 +100,7 @@ module _ (st : State) (l : Ledger) (d : Plain) (b : Basics st d) (o : OpenSim st
   pub log-whole : All Whole log
   log-whole = rw (← entries-log) (entries-whole (st .settled) (st .rec .logged) (omega (arith, sz .least)) (rc .log-count))
 
-  pub log-short : All Short log
+  pub log-short : All NarrowAddress log
   log-short = data-short (st .rec .blocks) most log log-data
 
   pub sum : st .rec .sum ≡ sumOf start log
@@ -144,7 +144,7 @@ module _ (st : State) (l : Ledger) (d : Plain) (b : Basics st d) (o : OpenSim st
       empty-card (st .rec .blocks) homed (d .S) emptied big (homes .1)
       (λ a h. settled-laid (headerEntry (emptyHeader (st .rec .blocks)) ∷ []) homed emptied a refl (omega arith) (empty-whole (st .rec .blocks), tt))
 
-  checkpoint-fits : (cardIn st .count ≡ 0) × (entryBytes * (length log + 1) ≤ length (cardIn st .waiting)) × All Whole log × All Short log
+  checkpoint-fits : (cardIn st .count ≡ 0) × (entryBytes * (length log + 1) ≤ length (cardIn st .waiting)) × All Whole log × All NarrowAddress log
   checkpoint-fits = (none-waits, omega (arith, length-log, n-most, room), log-whole, log-short)
 
   pub checkpointed : st .rec .logged + 3 ≤ st .rec .power
@@ -164,7 +164,7 @@ module _ (st : State) (l : Ledger) (d : Plain) (b : Basics st d) (o : OpenSim st
     pub few : length q ≤ places
     pub low : All (λ e. e .address < st .rec .blocks) q
     pub waiting : applyWaits (st .rec .logged) (st .rec .power) ≡ length q
-    pub notes : (hs : List Head) → noted (applyHead st ∷ hs) (st .rec .power) l ≡ ledger
+    pub notes : (hs : List PlannedHeader) → noted (applyHeader st ∷ hs) (st .rec .power) l ≡ ledger
     pub cuts : (r : Card) → Left (cardIn st) r s q 0 → (ms : List ℕ) → length ms ≡ length q
         → Leads (st .rec .blocks) (cut ms r .settled) (cutWritten ms ledger) (d .S)
         (applyVerdict (st .rec .power) (st .rec .logged) false (headerKept ms (applyWaits (st .rec .logged) (st .rec .power))) .n)
@@ -175,11 +175,11 @@ module _ (st : State) (l : Ledger) (d : Plain) (b : Basics st d) (o : OpenSim st
       → (os : List Order) → Left (cardIn st) (run (checkpointOrders (st .rec .blocks) log ++ os) (cardIn st)) s q 0
   dead s q f os = rw (run-append (checkpointOrders (st .rec .blocks) log) os (cardIn st)) (left-dead (cardIn st) _ s q os f)
 
-  note-before : (hs : List Head) → st .rec .power ≤ st .rec .logged + 1 → noted (applyHead st ∷ hs) (st .rec .power) l ≡ l
+  note-before : (hs : List PlannedHeader) → st .rec .power ≤ st .rec .logged + 1 → noted (applyHeader st ∷ hs) (st .rec .power) l ≡ l
   unfolding noted
   note-before hs h = rw (le-leb _ _ h)
 
-  note-header : (hs : List Head) → st .rec .power ≡ st .rec .logged + 2 → noted (applyHead st ∷ hs) (st .rec .power) l ≡ record { written = l .written; pending = waits 0 [] }
+  note-header : (hs : List PlannedHeader) → st .rec .power ≡ st .rec .logged + 2 → noted (applyHeader st ∷ hs) (st .rec .power) l ≡ record { written = l .written; pending = waits 0 [] }
   unfolding noted
   note-header hs h = rw (lt-leb (st .rec .power) (st .rec .logged + 1) (omega arith), eq-eqb (st .rec .power) (suc (st .rec .logged + 1)) (omega arith))
 

@@ -20,25 +20,26 @@ use Rattle.journal.specs.Choice.{takenCount}
 use Rattle.journal.proofs.Choices.{both}
 use Rattle.journal.proofs.Logs.{neither}
 use Rattle.store.specs.Request as Request
-use Rattle.store.specs.State.{State, Outcome, closed, opened, withQueue, withRecord}
+use Rattle.store.specs.State.{State, Outcome, closed, openMode, withQueue, withRecord}
 use Rattle.store.specs.Causes.{cause}
-use Rattle.store.specs.Simple.{powerCall, finished}
+use Rattle.store.specs.Outcomes.{completed}
+use Rattle.store.specs.Power.{powerCall}
 use Rattle.history.specs.Call.{Call, requestOf, power, put, get, commit, abandon, sync, apply, recover, cut}
 use Rattle.history.specs.Plain.{Plain, Done, refusal, served, plainStep, plainSync, plainApply, plainRecover}
 use Rattle.history.specs.Dispatch.{dispatch}
-use Rattle.history.specs.Ledger.{Ledger, recoverHeads, noted, entered, taken, logFound, sameLog}
+use Rattle.history.specs.Ledger.{Ledger, recoverHeaders, noted, entered, taken, logFound, sameLog}
 use Rattle.history.specs.History.{World, begun, next, after, storeNext, ledgerNext, foundWritten, acceptedCut, exception}
 use Rattle.history.specs.Statements.{noCut, Taken, ReadBack, WrittenSummed}
 use Rattle.history.proofs.Disks.{slotE, logD, entries-disk, WholeCard, FallCard}
-use Rattle.history.proofs.Leads.{read-head, same-logs, logs-same}
+use Rattle.history.proofs.AfterCut.{read-head, same-logs, logs-same}
 use Rattle.history.proofs.CauseLaws.{cause-passes}
 use Rattle.history.proofs.Relation.{OpenSim, ClosedSim, DownSim, Sim, Safe}
 use Rattle.history.proofs.PlainLaws.{sync-nothing, sync-finished, sync-short, apply-nothing, apply-finished, apply-short, recover-whole, recover-fallback, recover-short}
 use Rattle.history.proofs.Steps.{plainNext, WorldSim, same-cause, dispatch-refused, entered-refused, plain-served, noted-none, small-N, choose-fallback}
 use Rattle.history.proofs.CutStep.{served-cut, store-cut}
 use Rattle.history.proofs.RecoverStep.{is-closed}
-use Rattle.history.proofs.Induct.{step, next-sim, next-safe, after-sim, after-safe, begun-sim, begun-safe, clean-first, clean-before}
-use Rattle.history.proofs.Served.{when-open, sync-cases}
+use Rattle.history.proofs.ListInduction.{step, next-sim, next-safe, after-sim, after-safe, begun-sim, begun-safe, clean-first, clean-before}
+use Rattle.history.proofs.PlainAnswers.{when-open, sync-cases}
 
 -- ---- a call after which the record is closed, that was no accepted cut, found it so
 
@@ -110,7 +111,7 @@ unmoved-refused c w m h z =
       ledger = entered-refused c (w .store) (w .ledger) k;
     }
 
-pub power-served : (k : ℕ) (w : World) → WorldSim w → dispatch (power k) (w .store) ≡ finished (withRecord (withQueue (w .store .rec .waiting) k (w .store .rec)) (w .store))
+pub power-served : (k : ℕ) (w : World) → WorldSim w → dispatch (power k) (w .store) ≡ completed (withRecord (withQueue (w .store .rec .waiting) k (w .store .rec)) (w .store))
 unfolding powerCall refusal
 power-served k w m =
     let e : cause (Request.power k) (w .store) ≡ 0 = same-cause (w .store) (w .ledger) (w .plain) m (power k) in
@@ -170,7 +171,7 @@ as-cut (c ∷ ds) w m x n z =
         let u = stays c w m (not-true _ a) (r .mode) in
         record { mode = u .mode; settled = r .settled ∙ u .settled; written = r .written ∙ ap (λ (l : Ledger). l .written) (u .ledger) }
 
--- ---- the list that a finished recover takes
+-- ---- the list that a completed recover takes
 
 module _ (w : World) (m : WorldSim w) (h : dispatch recover (w .store) .answer ≡ 0) where
   served-now : refusal recover (w .plain) ≡ 0
@@ -208,8 +209,8 @@ module _ (w : World) (m : WorldSim w) (h : dispatch recover (w .store) .answer �
       go true f (yes q) = b f q
       go true f (no q) = absurd (let k : _≡_ {A = ℕ} 4 0 = sym (ap (λ (o : Done). o .answer) (recover-short (w .plain) f (omega arith))) ∙ plain-done in omega arith)
 
-  plain-open : plainRecover (w .plain) .plain .mode ≡ opened
-  plain-open = done-by (λ o. o .plain .mode ≡ opened) (λ f. ap (λ (o : Done). o .plain .mode) (recover-whole (w .plain) f)) (λ f p. ap (λ (o : Done). o .plain .mode) (recover-fallback (w .plain) f p))
+  plain-open : plainRecover (w .plain) .plain .mode ≡ openMode
+  plain-open = done-by (λ o. o .plain .mode ≡ openMode) (λ f. ap (λ (o : Done). o .plain .mode) (recover-whole (w .plain) f)) (λ f p. ap (λ (o : Done). o .plain .mode) (recover-fallback (w .plain) f p))
 
   pub plain-same : plainRecover (w .plain) .plain .S ≡ w .plain .S
   plain-same = done-by (λ o. o .plain .S ≡ w .plain .S) (λ f. ap (λ (o : Done). o .plain .S) (recover-whole (w .plain) f)) (λ f p. ap (λ (o : Done). o .plain .S) (recover-fallback (w .plain) f p))
@@ -217,7 +218,7 @@ module _ (w : World) (m : WorldSim w) (h : dispatch recover (w .store) .answer �
   pub recovered-sim : Sim (storeNext recover w) (ledgerNext recover w) (plainNext recover w)
   recovered-sim = step recover w m .sim no-exception
 
-  pub recovered-mode : storeNext recover w .rec .mode ≡ opened
+  pub recovered-mode : storeNext recover w .rec .mode ≡ openMode
   recovered-mode = step recover w m .agrees .mode ∙ ap (λ (o : Done). o .plain .mode) plain-is ∙ plain-open
 
   pub recovered-open : OpenSim (storeNext recover w) (ledgerNext recover w) (plainNext recover w)
@@ -242,9 +243,9 @@ module _ (w : World) (m : WorldSim w) (h : dispatch recover (w .store) .answer �
       ledgerNext recover w .written
       ≡ cond (sameLog (logFound (w .store)) (w .ledger .written)) (w .ledger .written) (take (headerOf (w .store .settled) .previous) (w .ledger .written))
 
-  noted-orders : (k : ℕ) → plainRecover (w .plain) .orders ≡ k → ledgerNext recover w ≡ noted (recoverHeads (w .store)) k (w .ledger)
+  noted-orders : (k : ℕ) → plainRecover (w .plain) .orders ≡ k → ledgerNext recover w ≡ noted (recoverHeaders (w .store)) k (w .ledger)
   unfolding entered
-  noted-orders k e = ap (λ (x : ℕ). noted (recoverHeads (w .store)) x (w .ledger)) (orders-are ∙ e)
+  noted-orders k e = ap (λ (x : ℕ). noted (recoverHeaders (w .store)) x (w .ledger)) (orders-are ∙ e)
 
   taken-whole : w .plain .F ≡ false → WholeCard (w .store .rec .blocks) (blockAt (w .store .settled)) (w .ledger .written) (w .plain .S) (w .plain .n) → Chosen
   unfolding logFound
@@ -253,11 +254,11 @@ module _ (w : World) (m : WorldSim w) (h : dispatch recover (w .store) .answer �
       let found : logFound (w .store) ≡ w .ledger .written =
       ap (λ (x : Header). entries (w .store .settled) (x .count)) hd ∙ entries-disk (w .store .settled) (w .plain .n) ∙ sym (r .same) in
       let same : sameLog (logFound (w .store)) (w .ledger .written) ≡ true = ap (λ (x : List Entry). sameLog x (w .ledger .written)) found ∙ logs-same (w .ledger .written) in
-      ap (λ (l : Ledger). l .written) (noted-orders 0 (ap (λ (o : Done). o .orders) (recover-whole (w .plain) f)) ∙ noted-none (recoverHeads (w .store)) (w .ledger))
+      ap (λ (l : Ledger). l .written) (noted-orders 0 (ap (λ (o : Done). o .orders) (recover-whole (w .plain) f)) ∙ noted-none (recoverHeaders (w .store)) (w .ledger))
       ∙ sym (ap (λ (t : Bool). cond t (w .ledger .written) (take (headerOf (w .store .settled) .previous) (w .ledger .written))) same)
 
-  noted-two : noted (recoverHeads (w .store)) 2 (w .ledger) .written ≡ taken (w .store)
-  unfolding recoverHeads noted
+  noted-two : noted (recoverHeaders (w .store)) 2 (w .ledger) .written ≡ taken (w .store)
+  unfolding recoverHeaders noted
   noted-two = refl
 
   taken-fall : w .plain .F ≡ true → 2 ≤ w .plain .power → FallCard (w .store .rec .blocks) (blockAt (w .store .settled)) (w .ledger .written) (w .plain .S) (w .plain .n) → Chosen

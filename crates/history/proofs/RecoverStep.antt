@@ -24,23 +24,23 @@ use Rattle.journal.proofs.Headers.{length-encode}
 use Rattle.journal.proofs.OrderLists.{length-fallback}
 use Rattle.store.specs.Request as Request
 use Rattle.store.specs.declared.record.Record.{Record}
-use Rattle.store.specs.State.{State, Outcome, opened, withMode, withOpened, withGrouped, withLog, withCard, withRecord, cardIn}
+use Rattle.store.specs.State.{State, Outcome, openMode, withMode, withOpened, withGrouped, withLog, withCard, withRecord, cardIn}
 use Rattle.store.specs.Causes.{cause}
 use Rattle.store.specs.Saves.{carried, recoverCall}
 use Rattle.store.proofs.Causes.{SizeFacts, sizes-facts, Passes}
 use Rattle.history.specs.Call.{get, recover}
 use Rattle.history.specs.Plain.{Plain, ofRecover, refusal, plainStep, plainRecover, headerKept, unchanged}
-use Rattle.history.specs.Ledger.{Ledger, nothing, waits, recoverHeads, noted, entered, taken, resolved}
+use Rattle.history.specs.Ledger.{Ledger, nothing, waits, recoverHeaders, noted, entered, taken, resolved}
 use Rattle.history.specs.History.{World, foundWritten}
 use Rattle.history.proofs.Disks.{logD, entries-disk, WholeCard, FallCard}
 use Rattle.history.proofs.Batches.{Left, no-queue, fallback-short, fallback-done}
-use Rattle.history.proofs.Leads.{fallen-card}
+use Rattle.history.proofs.AfterCut.{fallen-card}
 use Rattle.history.proofs.CallCuts.{settled-laid, fallHeader, fall-still, fall-cuts}
 use Rattle.history.proofs.CauseLaws.{RecordFacts, record-facts, idle, cause-passes}
 use Rattle.history.proofs.Relation.{Basics, OpenSim, ClosedSim, DownSim, Sim, CutLeads, leads-still}
 use Rattle.history.proofs.PlainLaws.{recover-whole, recover-fallback, recover-short, choose-recover-none, choose-recover, kept-mark}
 use Rattle.history.proofs.Steps.{WorldSim, StepOK, same-cause, refused-step, plain-served, noted-none, small-N, big-N, choose-whole, choose-fallback}
-use Rattle.history.proofs.Ends.{carried-done, carried-short, downState, cut-short-step, finish-step}
+use Rattle.history.proofs.CallEnds.{carried-done, carried-short, downState, cut-short-step, finish-step}
 
 recover-no-get : (a : ℕ) → recover ≡ get a → ⊥
 recover-no-get a e = let z : _≡_ {A = ℕ} 0 1 = cc in omega arith
@@ -56,7 +56,7 @@ is-closed st l d m p = go (m .phase)
 
 -- the record that a finished recover leaves
 abbrev found : ℕ → ℕ → Record → Record
-found n sum r = withMode opened (withOpened 0 (withGrouped 0 (withLog n sum r)))
+found n sum r = withMode openMode (withOpened 0 (withGrouped 0 (withLog n sum r)))
 
 -- the plain disk after a finished recover of k orders
 abbrev reopened : ℕ → Plain → Plain
@@ -111,7 +111,7 @@ module _ (w : World) (m : WorldSim w) (h : refusal recover (w .plain) ≡ 0) (o 
       (record {
         call = D;
         plain = plain ∙ recover-whole (w .plain) f;
-        ledger = ap (λ (x : Outcome). noted (recoverHeads (w .store)) (x .orders) (w .ledger)) D ∙ noted-none (recoverHeads (w .store)) (w .ledger);
+        ledger = ap (λ (x : Outcome). noted (recoverHeaders (w .store)) (x .orders) (w .ledger)) D ∙ noted-none (recoverHeaders (w .store)) (w .ledger);
         left = record { settled = refl; waits = no-queue (cardIn (w .store)) none-waits; count = none-waits; power = refl; room = refl };
         size = refl;
         mode = refl;
@@ -161,12 +161,12 @@ module _ (w : World) (m : WorldSim w) (h : refusal recover (w .plain) ≡ 0) (o 
     room : entryBytes ≤ length (cardIn (w .store) .waiting)
     room = omega (arith, sz .waiting)
 
-    note-done : noted (recoverHeads (w .store)) 2 (w .ledger) ≡ record { written = logD (blockAt s) n; pending = nothing }
-    unfolding recoverHeads noted
+    note-done : noted (recoverHeaders (w .store)) 2 (w .ledger) ≡ record { written = logD (blockAt s) n; pending = nothing }
+    unfolding recoverHeaders noted
     note-done = ap (λ (x : List Entry). record { written = x; pending = nothing }) list
 
-    note-written : noted (recoverHeads (w .store)) 1 (w .ledger) ≡ record { written = w .ledger .written; pending = waits 0 (logD (blockAt s) n) }
-    unfolding recoverHeads noted
+    note-written : noted (recoverHeaders (w .store)) 1 (w .ledger) ≡ record { written = w .ledger .written; pending = waits 0 (logD (blockAt s) n) }
+    unfolding recoverHeaders noted
     note-written = ap (λ (x : List Entry). record { written = w .ledger .written; pending = waits 0 x }) list
 
     -- with power for the header and the flush
@@ -190,7 +190,7 @@ module _ (w : World) (m : WorldSim w) (h : refusal recover (w .plain) ≡ 0) (o 
         (record {
           call = D;
           plain = plain ∙ recover-fallback (w .plain) f (omega (arith, b .power));
-          ledger = ap (λ (x : Outcome). noted (recoverHeads (w .store)) (x .orders) (w .ledger)) D ∙ note-done;
+          ledger = ap (λ (x : Outcome). noted (recoverHeaders (w .store)) (x .orders) (w .ledger)) D ∙ note-done;
           left = l;
           size = length-settle (fallHeader N s n ∷ []) s;
           mode = refl;
@@ -220,7 +220,7 @@ module _ (w : World) (m : WorldSim w) (h : refusal recover (w .plain) ≡ 0) (o 
     short : (k : ℕ) (q : List Entry) (l : Ledger) → w .store .rec .power ≡ k → k < 2
         → Left (cardIn (w .store)) (run (fallbackOrders (w .store .rec .blocks) n sum) (cardIn (w .store))) s q 0 → length q ≡ k
         → Rattle.card.proofs.All.All (λ e. e .address < w .store .rec .blocks) q
-        → noted (recoverHeads (w .store)) k (w .ledger) ≡ l
+        → noted (recoverHeaders (w .store)) k (w .ledger) ≡ l
         → ((ms : List ℕ) → length ms ≡ k → CutLeads ms (downState (run (fallbackOrders (w .store .rec .blocks) n sum) (cardIn (w .store))) (w .store .rec) (w .store)) l
         (record { N = w .plain .N; S = w .plain .S; G = w .plain .G; T = w .plain .T; n = w .plain .n; mode = 2; power = 0; waiting = k; short = ofRecover k; F = w .plain .F }))
         → StepOK recover w
@@ -236,7 +236,7 @@ module _ (w : World) (m : WorldSim w) (h : refusal recover (w .plain) ≡ 0) (o 
           call = D;
           plain = plain ∙ recover-short (w .plain) f (omega arith)
               ∙ (λ i. record { answer = 4; orders = w .plain .power; plain = record { N = w .plain .N; S = w .plain .S; G = w .plain .G; T = w .plain .T; n = w .plain .n; mode = 2; power = 0; waiting = P i; short = ofRecover (P i); F = w .plain .F } });
-          ledger = ap (λ (x : Outcome). noted (recoverHeads (w .store)) (x .orders) (w .ledger)) D ∙ ap (λ (x : ℕ). noted (recoverHeads (w .store)) x (w .ledger)) p ∙ note;
+          ledger = ap (λ (x : Outcome). noted (recoverHeaders (w .store)) (x .orders) (w .ledger)) D ∙ ap (λ (x : ℕ). noted (recoverHeaders (w .store)) x (w .ledger)) p ∙ note;
           left = left;
           size = refl;
           few = omega arith;
@@ -262,7 +262,7 @@ module _ (w : World) (m : WorldSim w) (h : refusal recover (w .plain) ≡ 0) (o 
             let l = fallback-short (cardIn (w .store)) (w .store .rec .blocks) n sum none-waits room (omega arith) in
             let left : Left (cardIn (w .store)) (run (fallbackOrders (w .store .rec .blocks) n sum) (cardIn (w .store))) s [] 0 =
             record { settled = l .settled; waits = l .waits ∙ ap (λ (k : ℕ). take k (fallHeader (w .store .rec .blocks) s n ∷ [])) z; count = l .count ∙ ap (λ (k : ℕ). length (take k (fallHeader (w .store .rec .blocks) s n ∷ []))) z; power = l .power; room = l .room } in
-            short 0 [] (w .ledger) z (omega arith) left refl tt (noted-none (recoverHeads (w .store)) (w .ledger))
+            short 0 [] (w .ledger) z (omega arith) left refl tt (noted-none (recoverHeaders (w .store)) (w .ledger))
             (λ ms y.
             rw (o .pending)
             (leads-still _ _ (unchanged n (w .plain .F)) (choose-recover-none n (length (w .plain .G)) (w .plain .F) (headerKept ms 0) _) refl

@@ -34,9 +34,12 @@ use Rattle.store.specs.State.{State, Outcome, down, withMode, withLog, withGrou
 use Rattle.store.specs.Lists.{groupFrom, listed}
 use Rattle.store.specs.Request.{Request, format, power, put, get, commit, abandon, sync, apply, recover, cut}
 use Rattle.store.specs.Causes.{waitingBytes, cause}
-use Rattle.store.specs.Simple.{refused, finished, unless, formatCall, powerCall, putCall, abandonCall}
+use Rattle.store.specs.Outcomes.{refused, completed, unless}
+use Rattle.store.specs.Format.{formatCall}
+use Rattle.store.specs.Power.{powerCall}
+use Rattle.store.specs.Put.{putCall, abandonCall}
 use Rattle.store.specs.Commit.{commitCall}
-use Rattle.store.specs.Saves.{carried, groupOf, applies, synced, innerOrders, syncCall, applyCall, recoverCall, cutCall}
+use Rattle.store.specs.Saves.{carried, groupOf, applies, metByAppend, innerOrders, syncCall, applyCall, recoverCall, cutCall}
 use Rattle.store.proofs.Calls.{call-refused, call-done}
 use Rattle.store.proofs.Saves.{apply-carried}
 use Rattle.store.proofs.Causes.{sizes-facts}
@@ -45,7 +48,7 @@ use Rattle.history.specs.Refusals.{ordersOf, untouched, innerDone, Gone,
 use Rattle.history.proofs.Batches.{batch, Fit, batch-short, batch-done, append-fit}
 use Rattle.history.proofs.WorkLists.{data-short}
 use Rattle.history.proofs.CauseLaws.{idle, record-facts, cause-passes, IsOpen, cause-opened}
-use Rattle.history.proofs.Ends.{carried-done, carried-short}
+use Rattle.history.proofs.CallEnds.{carried-done, carried-short}
 
 -- ---- batches in a row leave a block alone that none of them writes to
 
@@ -199,7 +202,7 @@ left q st = cond (appliedFirst q st) (withLog 0 start (st .rec)) (st .rec)
 
 -- where nothing refuses: no orders, and done; or orders
 data Form (q : Request) (st : State) : Type 0 where
-  quiet : (now : State) → called q st ≡ unless (cause q st) st (finished now) → ordersOf q st ≡ [] → Form q st
+  quiet : (now : State) → called q st ≡ unless (cause q st) st (completed now) → ordersOf q st ≡ [] → Form q st
   gives : (done : Record) → called q st ≡ unless (cause q st) st (carried (ordersOf q st) done (left q st) st) → (cause q st ≡ 0 → Batched (cardIn st) (ordersOf q st)) → Form q st
 
 -- what holds of the refusal, and of the outcome where nothing refuses
@@ -211,11 +214,11 @@ unless-either P k st o done turned = go (eqb k 0) refl
     go false p = turned
 
 -- a get leaves everything, refused or not
-form-get : (k : ℕ) (st : State) → refused k st ≡ unless k st (finished st)
-form-get k st = unless-either (λ o. refused k st ≡ o) k st (finished st) (λ e. ap (λ (n : ℕ). refused n st) e) refl
+form-get : (k : ℕ) (st : State) → refused k st ≡ unless k st (completed st)
+form-get k st = unless-either (λ o. refused k st ≡ o) k st (completed st) (λ e. ap (λ (n : ℕ). refused n st) e) refl
 
 -- the record that a sync leaves when cut short: that before the call, or the same with an empty log
-sync-left : (st : State) → cond (leb (length (innerOrders st)) (st .rec .power)) (synced st) (st .rec) ≡ left sync st
+sync-left : (st : State) → cond (leb (length (innerOrders st)) (st .rec .power)) (metByAppend st) (st .rec) ≡ left sync st
 sync-left st = go (applies st)
   where
     N : ℕ
@@ -243,7 +246,7 @@ form (get a) st = quiet st (form-get (cause (get a) st) st) refl
 form commit st = quiet _ refl refl
 form abandon st = quiet _ refl refl
 form sync st =
-    let done = withGrouped 0 (withLog (synced st .logged + st .rec .grouped) (sumOf (synced st .sum) (groupOf st)) (synced st)) in
+    let done = withGrouped 0 (withLog (metByAppend st .logged + st .rec .grouped) (sumOf (metByAppend st .sum) (groupOf st)) (metByAppend st)) in
     gives done (ap (λ (r : Record). unless (cause sync st) st (carried (ordersOf sync st) done r st)) (sync-left st)) (λ e. sync-batched st (cause-opened sync st refl refl e))
 form apply st = gives _ (ap (λ (o : Outcome). unless (cause apply st) st o) (apply-carried st)) (λ e. apply-batched st (cause-opened apply st refl refl e))
 form recover st =
@@ -331,10 +334,10 @@ cut-short q st short less batched = record {
 
 answers : (q : Request) (st : State) → Form q st → Answers q st
 answers q st (quiet now call none) = record {
-  refuses = λ h. call ∙ sym (call-refused (cause q st) _ st (finished now) refl h);
+  refuses = λ h. call ∙ sym (call-refused (cause q st) _ st (completed now) refl h);
   gone = λ e h. absurd (omega (arith, leb-false (length (ordersOf q st)) (st .rec .power) h, ap length none));
   serves = λ e h.
-      let p : called q st ≡ finished now = call ∙ sym (call-done (cause q st) _ st (finished now) refl e) in
+      let p : called q st ≡ completed now = call ∙ sym (call-done (cause q st) _ st (completed now) refl e) in
       (ap (λ (o : Outcome). o .answer) p, ap (λ (o : Outcome). o .orders) p ∙ sym (ap length none));
   two-suffice = recover-two st;
 }

@@ -11,14 +11,14 @@ use Rattle.card.specs.Disk.{Disk, overlay}
 use Rattle.card.specs.Card as Card
 use Rattle.card.specs.Card.{blockAt}
 use Rattle.journal.specs.Log.{entries, sumOf}
-use Rattle.store.specs.State.{State, closed, opened, down, cardIn}
+use Rattle.store.specs.State.{State, closed, openMode, down, cardIn}
 use Rattle.store.specs.Causes.{wrongSizes, wrongRecord}
 use Rattle.history.specs.Plain.{Plain, none, Verdict, verdict, headerKept}
 use Rattle.history.specs.Ledger.{Ledger, nothing, resolved, sameLog}
 use Rattle.history.proofs.Disks.{WholeCard, ClosedCard}
-use Rattle.history.proofs.Leads.{Leads, foundIn}
+use Rattle.history.proofs.AfterCut.{Leads, foundIn}
 use Rattle.history.proofs.CauseLaws.{Mirrors}
-use Rattle.history.proofs.Evens.{Even}
+use Rattle.history.proofs.LedgerLengths.{Even}
 
 -- what holds in every mode
 pub record Basics (st : State) (d : Plain) : Type 0 where
@@ -29,7 +29,7 @@ pub record Basics (st : State) (d : Plain) : Type 0 where
 
 -- open: nothing waits, and the record's n and sum are those of the list on the card
 pub record OpenSim (st : State) (l : Ledger) (d : Plain) : Type 0 where
-  pub mode : st .rec .mode ≡ opened
+  pub mode : st .rec .mode ≡ openMode
   pub n : d .n ≡ st .rec .logged
   pub F : d .F ≡ false
   pub short : d .short ≡ none

@@ -20,7 +20,10 @@ use Rattle.store.specs.Request as Request
 use Rattle.store.specs.State.{State, Outcome, cardIn}
 use Rattle.store.specs.Lists.{openFrom, groupFrom, listed, find}
 use Rattle.store.specs.Causes.{waitingBytes, workBytes, wrongSizes, cause}
-use Rattle.store.specs.Simple.{refused, finished, unless, formatted, formatCall, powerCall, putAt, putCall, abandonCall}
+use Rattle.store.specs.Outcomes.{refused, completed, unless}
+use Rattle.store.specs.Format.{formatted, formatCall}
+use Rattle.store.specs.Power.{powerCall}
+use Rattle.store.specs.Put.{putAt, putCall, abandonCall}
 use Rattle.store.specs.Commit.{Group, joinAt, join, joined, commitCall}
 use Rattle.store.specs.Saves.{carried, syncCall, applyCall, recoverCall, cutCall}
 use Rattle.store.proofs.Saves.{apply-carried}
@@ -28,7 +31,7 @@ use Rattle.script.specs.declared.command.Command.{Command}
 use Rattle.script.specs.declared.command.Command.the-variants.{Format, Power, Put, Get, Commit, Abandon, Sync, Apply, Recover, Cut, Bad}
 use Rattle.script.specs.Commands.{parse}
 use Rattle.script.specs.Answers.{answerLine, decimal, digits}
-use Rattle.script.specs.Performs.{perform, answered}
+use Rattle.script.specs.Replies.{perform, answered}
 use Rattle.script.specs.Transcript.{linesOf, reply, printed, said, beginning, transcript}
 use Rattle.history.specs.Call.{requestOf}
 use Rattle.history.specs.Dispatch.{called}
@@ -107,8 +110,8 @@ joined-sized zero g = refl
 joined-sized (suc n) g = one-sized (listed (g .work) openFrom n) (joined n g) ∙ joined-sized n g
 
 -- a call that is done without orders, and one that gives orders
-done-sized : (q : Request.Request) (st now : State) → called q st ≡ unless (cause q st) st (finished now) → Sized st now → Sized st (called q st .state)
-done-sized q st now e h = rw e (unless-sized (cause q st) st (finished now) h)
+done-sized : (q : Request.Request) (st now : State) → called q st ≡ unless (cause q st) st (completed now) → Sized st now → Sized st (called q st .state)
+done-sized q st now e h = rw e (unless-sized (cause q st) st (completed now) h)
 
 orders-sized : (q : Request.Request) (st : State) (os : List Order) (done gone : Record) → called q st ≡ unless (cause q st) st (carried os done gone st) → Sized st (called q st .state)
 orders-sized q st os done gone e = rw e (unless-sized (cause q st) st (carried os done gone st) (carried-sized os done gone st))

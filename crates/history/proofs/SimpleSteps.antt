@@ -13,12 +13,14 @@ use Rattle.card.specs.Card.{cut, queue}
 use Rattle.card.proofs.All.{All}
 use Rattle.card.proofs.Overlays.{overlay-agree}
 use Rattle.journal.specs.Layout.{slots, isData, mostBlocks}
-use Rattle.store.specs.State.{State, Outcome, opened, withOpened, withGrouped, withQueue, withRecord, withWork}
+use Rattle.store.specs.State.{State, Outcome, openMode, withOpened, withGrouped, withQueue, withRecord, withWork}
 use Rattle.store.specs.Lists.{openFrom, groupFrom, listOf, find}
 use Rattle.store.specs.Request as Request
 use Rattle.store.specs.Request.{Request}
 use Rattle.store.specs.Causes.{workBytes, wrongSizes, wrongCounts, wrongWaiting, wrongLists, needsOpen, cause}
-use Rattle.store.specs.Simple.{finished, powerCall, putAt, putCall, abandonCall}
+use Rattle.store.specs.Outcomes.{completed}
+use Rattle.store.specs.Power.{powerCall}
+use Rattle.store.specs.Put.{putAt, putCall, abandonCall}
 use Rattle.store.specs.declared.place.Place.{Place}
 use Rattle.store.specs.Get.{newest, getPlace, bytesAt}
 use Rattle.store.specs.Commit.{Group, joined, commitCall}
@@ -41,7 +43,7 @@ use Rattle.history.proofs.Steps.{WorldSim, StepOK, sim-step, sim-at, sm
 -- it leaves the state `now`, and the plain disk becomes d
 record Serves (c : Call) (w : World) (d : Plain) : Type 0 where
   now : State
-  call : dispatch c (w .store) ≡ finished now
+  call : dispatch c (w .store) ≡ completed now
   block : (a : ℕ) → c ≡ get a → blockOf a (w .store) ≡ plainGet a (w .plain)
   sim : Sim now (w .ledger) d
 
@@ -132,7 +134,7 @@ module _ (st : State) (l : Ledger) (d : Plain) (m : Sim st l d) where
       go (_⊎_.inr (_⊎_.inl o)) = absurd (true≢false (rw (n, eq-eqb _ _ (o .mode)) at (p .not-closed)))
       go (_⊎_.inr (_⊎_.inr o)) = absurd (true≢false (rw (n, eq-eqb _ _ (o .mode)) at (p .not-down)))
 
-  lists-in : st .rec .mode ≡ opened → ListsIn st d
+  lists-in : st .rec .mode ≡ openMode → ListsIn st d
   lists-in o =
       let r = record-facts st (m .basics .counts) in
       let f = r .lists o in
@@ -182,7 +184,7 @@ record Sets (c : Call) (st : State) (T G : List Entry) : Type 0 where
   work : List ℕ
   t : ℕ
   g : ℕ
-  call : dispatch c st ≡ finished (listsSet work t g st)
+  call : dispatch c st ≡ completed (listsSet work t g st)
   lists : Lists (st .rec .blocks) work t g T G
 
 lists-step : (c : Call) (w : World) (T G : List Entry) → WorldSim w → needsOpen (requestOf c) ≡ true → ((a : ℕ) → c ≡ get a → ⊥)
@@ -228,7 +230,7 @@ put-step a b w m =
       work = now .work;
       t = now .rec .opened;
       g = st .rec .grouped;
-      call = rw (eq-eqb _ 0 e) (ap finished (r .rest));
+      call = rw (eq-eqb _ 0 e) (ap completed (r .rest));
       lists = record {
         size = r .size ∙ f .size;
         in-open = record {

@@ -15,9 +15,11 @@ use Rattle.journal.specs.Header.{header}
 use Rattle.journal.specs.Log.{headerOf, entries, sumOf}
 use Rattle.journal.specs.Choice.{foreign, choose, choiceNumber}
 use Rattle.store.specs.Request as Request
-use Rattle.store.specs.State.{State, Outcome, closed, opened}
+use Rattle.store.specs.State.{State, Outcome, closed, openMode}
 use Rattle.store.specs.Causes.{cause}
-use Rattle.store.specs.Simple.{refused, powerCall, putCall, abandonCall}
+use Rattle.store.specs.Outcomes.{refused}
+use Rattle.store.specs.Power.{powerCall}
+use Rattle.store.specs.Put.{putCall, abandonCall}
 use Rattle.store.specs.Commit.{commitCall}
 use Rattle.store.specs.Saves.{syncCall, applyCall, recoverCall, cutCall}
 use Rattle.store.proofs.Causes.{sizes-facts}
@@ -25,13 +27,13 @@ use Rattle.store.proofs.Calls.{call-refused}
 use Rattle.history.specs.Call.{Call, requestOf, power, put, get, commit, abandon, sync, apply, recover, cut}
 use Rattle.history.specs.Plain.{Plain, Done, refusal, served, plainStep, plainGet}
 use Rattle.history.specs.Dispatch.{dispatch, blockOf}
-use Rattle.history.specs.Ledger.{Ledger, Head, syncHeads, applyHeads, recoverHeads, noted, entered}
+use Rattle.history.specs.Ledger.{Ledger, PlannedHeader, syncHeaders, applyHeaders, recoverHeaders, noted, entered}
 use Rattle.history.specs.History.{World, storeNext, ledgerNext, foundWritten, exception}
 use Rattle.history.specs.Statements.{Agrees}
 use Rattle.history.proofs.Disks.{logD, entries-disk, WholeCard, FallCard, ClosedCard}
-use Rattle.history.proofs.Leads.{read-head}
+use Rattle.history.proofs.AfterCut.{read-head}
 use Rattle.history.proofs.CauseLaws.{record-facts, cause-refusal}
-use Rattle.history.proofs.Evens.{even-refl}
+use Rattle.history.proofs.LedgerLengths.{even-refl}
 use Rattle.history.proofs.Relation.{Basics, OpenSim, ClosedSim, DownSim, Sim, Safe}
 
 -- ---- what a step has to show
@@ -48,7 +50,7 @@ pub record StepOK (c : Call) (w : World) : Type 0 where
   pub safe : Safe (storeNext c w) (ledgerNext c w)
 
 -- n, when open
-pub sim-n : (st : State) (l : Ledger) (d : Plain) → Sim st l d → st .rec .mode ≡ opened → st .rec .logged ≡ d .n
+pub sim-n : (st : State) (l : Ledger) (d : Plain) → Sim st l d → st .rec .mode ≡ openMode → st .rec .logged ≡ d .n
 sim-n st l d m h = go (m .phase)
   where
     go : OpenSim st l d ⊎ (ClosedSim st l d ⊎ DownSim st l d) → st .rec .logged ≡ d .n
@@ -142,7 +144,7 @@ dispatch-refused recover st h = rw (ne-eqb _ 0 h)
 dispatch-refused (cut ms) st h = rw (ne-eqb _ 0 h)
 
 -- no orders, no header
-pub noted-none : (hs : List Head) (l : Ledger) → noted hs 0 l ≡ l
+pub noted-none : (hs : List PlannedHeader) (l : Ledger) → noted hs 0 l ≡ l
 unfolding noted
 noted-none [] l = refl
 noted-none (h ∷ hs) l = rw (le-leb 0 (h .at) (omega arith))
@@ -154,9 +156,9 @@ entered-refused (put a b) st l h = refl
 entered-refused (get a) st l h = refl
 entered-refused commit st l h = refl
 entered-refused abandon st l h = refl
-entered-refused sync st l h = ap (λ (o : Outcome). noted (syncHeads st) (o .orders) l) (dispatch-refused sync st h) ∙ noted-none (syncHeads st) l
-entered-refused apply st l h = ap (λ (o : Outcome). noted (applyHeads st) (o .orders) l) (dispatch-refused apply st h) ∙ noted-none (applyHeads st) l
-entered-refused recover st l h = ap (λ (o : Outcome). noted (recoverHeads st) (o .orders) l) (dispatch-refused recover st h) ∙ noted-none (recoverHeads st) l
+entered-refused sync st l h = ap (λ (o : Outcome). noted (syncHeaders st) (o .orders) l) (dispatch-refused sync st h) ∙ noted-none (syncHeaders st) l
+entered-refused apply st l h = ap (λ (o : Outcome). noted (applyHeaders st) (o .orders) l) (dispatch-refused apply st h) ∙ noted-none (applyHeaders st) l
+entered-refused recover st l h = ap (λ (o : Outcome). noted (recoverHeaders st) (o .orders) l) (dispatch-refused recover st h) ∙ noted-none (recoverHeaders st) l
 entered-refused (cut ms) st l h = rw (dispatch-refused (cut ms) st h, ne-eqb (cause (Request.cut ms) st) 0 h)
 
 pub plain-refused : (c : Call) (found : Bool) (d : Plain) → refusal c d ≢ 0 → plainStep c found d ≡ record { answer = refusal c d; orders = 0; plain = d }

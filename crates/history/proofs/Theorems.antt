@@ -24,12 +24,12 @@ use Rattle.history.proofs.Relation.{Safe}
 use Rattle.history.proofs.Steps.{same-cause, dispatch-refused, plain-served}
 use Rattle.history.proofs.SimpleSteps.{is-open}
 use Rattle.history.proofs.SyncStep.{logged}
-use Rattle.history.proofs.Induct.{step, after-sim, after-safe, begun-sim, begun-safe}
-use Rattle.history.proofs.Served.{Either, served-answer}
+use Rattle.history.proofs.ListInduction.{step, after-sim, after-safe, begun-sim, begun-safe}
+use Rattle.history.proofs.PlainAnswers.{Either, served-answer}
 use Rattle.history.proofs.ReadsBack as ReadsBack
 use Rattle.history.proofs.Atomicity as Atomicity
 use Rattle.history.proofs.RefusalsProof as RefusalsProof
-use Rattle.history.proofs.Surfaces as Surfaces
+use Rattle.history.proofs.FaceRefusals as Surfaces
 use Rattle.history.proofs.Links as Links
 use Rattle.history.proofs.ScriptsProof as ScriptsProof
 

@@ -18,7 +18,7 @@ use Rattle.cells.specs.Entry.Laws.{length-setEntry, entry-same, entry-other, le
 use Rattle.card.specs.Disk.{Disk, overlay}
 use Rattle.card.specs.Card.{blockAt}
 use Rattle.card.proofs.All.{All, all-left, all-right, all-map}
-use Rattle.card.proofs.Runs.{Whole, Short}
+use Rattle.card.proofs.Runs.{Whole, NarrowAddress}
 use Rattle.journal.specs.declared.lookup.Found.{Found}
 use Rattle.journal.specs.declared.lookup.Found.the-variants.{At, Absent}
 use Rattle.journal.specs.Layout.{slots, slotAt, mostBlocks}
@@ -28,7 +28,7 @@ use Rattle.journal.proofs.Lookups.{foundIn, overlay-found}
 use Rattle.store.specs.State.{State, withOpened, withRecord, withWork}
 use Rattle.store.specs.Lists.{openFrom, groupFrom, listed, listOf, find}
 use Rattle.store.specs.Causes.{workBytes, isFound, newcomers}
-use Rattle.store.specs.Simple.{putAt}
+use Rattle.store.specs.Put.{putAt}
 use Rattle.store.specs.Get.{newest, bytesAt, openPlace, groupPlace, logPlace}
 use Rattle.store.specs.Commit.{Group, joinAt, join, joined}
 use Rattle.store.proofs.Lookups.{last-at}
@@ -39,11 +39,11 @@ use Rattle.history.proofs.Lists.{Data, Distinct, distinct-front, distin
 -- ---- an entry set in work memory
 
 -- addresses of data blocks fit four bytes
-pub data-short : (N : ℕ) → N ≤ mostBlocks → (l : List Entry) → All (Data N) l → All Short l
-data-short N h l p = all-map (Data N) Short (λ e d. let q : e .address < N = data-lt N (e .address) d in omega arith) l p
+pub data-short : (N : ℕ) → N ≤ mostBlocks → (l : List Entry) → All (Data N) l → All NarrowAddress l
+data-short N h l p = all-map (Data N) NarrowAddress (λ e d. let q : e .address < N = data-lt N (e .address) d in omega arith) l p
 
 -- the j-th entry, once the i-th is e
-pub listed-set : (work : List ℕ) (from i : ℕ) (e : Entry) → entryBytes * (from + i) + entryBytes ≤ length work → Whole e → Short e
+pub listed-set : (work : List ℕ) (from i : ℕ) (e : Entry) → entryBytes * (from + i) + entryBytes ≤ length work → Whole e → NarrowAddress e
     → (j : ℕ) → listed (setEntry work (from + i) e) from j ≡ cond (eqb j i) e (listed work from j)
 listed-set work from i e room whole short j = go (eqb j i) refl
   where
@@ -57,7 +57,7 @@ pub listOf-apart : (work : List ℕ) (place : ℕ) (e : Entry) (from n : ℕ) �
 listOf-apart work place e from n h =
     ext-upTo (listed (setEntry work place e) from) (listed work from) n (λ j p. entry-other work place (from + j) e (h j p))
 
-module _ (work : List ℕ) (from n : ℕ) (e : Entry) (whole : Whole e) (short : Short e) where
+module _ (work : List ℕ) (from n : ℕ) (e : Entry) (whole : Whole e) (short : NarrowAddress e) where
   -- set where its address was found
   pub listOf-replaced : (i : ℕ) → find work from n (e .address) ≡ At i → Distinct (listOf work from n) → entryBytes * (from + n) ≤ length work
       → listOf (setEntry work (from + i) e) from n ≡ insert e (listOf work from n)
@@ -83,7 +83,7 @@ pub record PutOpen (e : Entry) (st now : State) : Type 0 where
   pub few : now .rec .opened ≤ slots
   pub rest : now ≡ withRecord (withOpened (now .rec .opened) (st .rec)) (withWork (now .work) st)
 
-pub put-open : (e : Entry) (st : State) → length (st .work) ≡ workBytes → st .rec .opened ≤ slots → Whole e → Short e
+pub put-open : (e : Entry) (st : State) → length (st .work) ≡ workBytes → st .rec .opened ≤ slots → Whole e → NarrowAddress e
     → Distinct (listOf (st .work) openFrom (st .rec .opened))
     → (find (st .work) openFrom (st .rec .opened) (e .address) ≡ Absent → st .rec .opened < slots)
     → PutOpen e st (putAt (find (st .work) openFrom (st .rec .opened) (e .address)) e st)
@@ -143,7 +143,7 @@ pub record JoinGroup (e : Entry) (g now : Group) : Type 0 where
   pub open-list : (k : ℕ) → k ≤ slots → listOf (now .work) openFrom k ≡ listOf (g .work) openFrom k
   pub size : length (now .work) ≡ length (g .work)
 
-pub join-group : (e : Entry) (g : Group) → length (g .work) ≡ workBytes → g .count ≤ slots → Whole e → Short e
+pub join-group : (e : Entry) (g : Group) → length (g .work) ≡ workBytes → g .count ≤ slots → Whole e → NarrowAddress e
     → Distinct (listOf (g .work) groupFrom (g .count))
     → (find (g .work) groupFrom (g .count) (e .address) ≡ Absent → g .count < slots)
     → JoinGroup e g (join e g)
@@ -172,14 +172,14 @@ pub record Merged (work : List ℕ) (g n : ℕ) (now : Group) : Type 0 where
   pub size : length (now .work) ≡ length work
 
 pub joined-merge : (work : List ℕ) (g n : ℕ) → length work ≡ workBytes → n ≤ slots → Distinct (listOf work groupFrom g)
-    → All Short (listOf work openFrom n) → length (merge (listOf work openFrom n) (listOf work groupFrom g)) ≤ slots
+    → All NarrowAddress (listOf work openFrom n) → length (merge (listOf work openFrom n) (listOf work groupFrom g)) ≤ slots
     → Merged work g n (joined n (record { work = work; count = g }))
 unfolding joined merge
 joined-merge work g zero size few d short room =
     record { group-list = refl; count = sym (length-upTo (listed work groupFrom) g); open-list = λ k p. refl; size = refl }
 joined-merge work g (suc n) size few d short room =
     let before : length (merge T G) ≤ slots = omega (arith, grown) in
-    step (joined n (record { work = work; count = g })) (joined-merge work g n size (omega arith) d (all-left Short T (e ∷ []) short) before)
+    step (joined n (record { work = work; count = g })) (joined-merge work g n size (omega arith) d (all-left NarrowAddress T (e ∷ []) short) before)
   where
     e : Entry
     e = listed work openFrom n
@@ -204,7 +204,7 @@ joined-merge work g (suc n) size few d short room =
     step r m =
         let whole : Whole e = length-block work (openFrom + n) (omega arith) in
         let d′ : Distinct (listOf (r .work) groupFrom (r .count)) = rw (m .group-list) (distinct-merge T G d) in
-        let j = join-group e r (m .size ∙ size) (omega (arith, grown)) whole (all-right Short T (e ∷ []) short .0) d′ (free r m) in
+        let j = join-group e r (m .size ∙ size) (omega (arith, grown)) whole (all-right NarrowAddress T (e ∷ []) short .0) d′ (free r m) in
         let list = j .group-list ∙ ap (insert e) (m .group-list) ∙ sym (merge-snoc T e G) in
         record {
           group-list = list;
@@ -215,7 +215,7 @@ joined-merge work g (suc n) size few d short room =
 
 -- the room that a commit asks for
 pub joined-group : (work : List ℕ) (g n : ℕ) → length work ≡ workBytes → n ≤ slots → Distinct (listOf work openFrom n) → Distinct (listOf work groupFrom g)
-    → All Short (listOf work openFrom n) → g + newcomers work g n ≤ slots → Merged work g n (joined n (record { work = work; count = g }))
+    → All NarrowAddress (listOf work openFrom n) → g + newcomers work g n ≤ slots → Merged work g n (joined n (record { work = work; count = g }))
 joined-group work g n size few t d short room = joined-merge work g n size few d short (rw (newcomers-merge work g n t) at room)
 
 -- ---- get: the newest of open, group, log, home

@@ -21,7 +21,7 @@ use Rattle.journal.proofs.Descriptors.{length-addressBytes}
 use Rattle.journal.proofs.OrderLists.{slotBlocks, appendWrites}
 use Rattle.history.proofs.Disks.{slotE}
 use Rattle.history.proofs.Batches.{Left}
-use Rattle.history.proofs.Leads.{foundIn, found-log}
+use Rattle.history.proofs.AfterCut.{foundIn, found-log}
 use Rattle.history.proofs.Crashes.{header-kept}
 use Rattle.history.proofs.CallCuts.{cut-laid, settled-laid}
 use Rattle.history.proofs.AppendEnds.{AppendBase, wide, writes-whole}

@@ -12,7 +12,7 @@ use Rattle.history.specs.Dispatch.{dispatch}
 use Rattle.history.specs.History.{World, next, foundWritten, exception}
 use Rattle.history.specs.Worked.{at40}
 use Rattle.history.proofs.Steps.{WorldSim}
-use Rattle.history.proofs.Induct.{step, next-sim}
+use Rattle.history.proofs.ListInduction.{step, next-sim}
 
 -- ---- the plain disk
 

@@ -19,10 +19,12 @@ use Rattle.journal.specs.declared.lookup.Found.the-variants.{At, Absent}
 use Rattle.journal.specs.Layout.{descriptorAt, isData, wrongSize}
 use Rattle.store.specs.Request as Request
 use Rattle.store.specs.declared.record.Record.{Record}
-use Rattle.store.specs.State.{State, Outcome, opened}
+use Rattle.store.specs.State.{State, Outcome, openMode}
 use Rattle.store.specs.Lists.{openFrom, find}
 use Rattle.store.specs.Causes.{wrongSizes, cause}
-use Rattle.store.specs.Simple.{refused, finished, unless, putAt, formatCall, putCall}
+use Rattle.store.specs.Outcomes.{refused, completed, unless}
+use Rattle.store.specs.Format.{formatCall}
+use Rattle.store.specs.Put.{putAt, putCall}
 use Rattle.store.specs.Commit.{commitCall}
 use Rattle.history.specs.Call.{power, put, get, commit, sync, recover, cut}
 use Rattle.history.specs.Plain.{Plain, fresh, none, overOne, refusal, headerKept, plainStep, still}
@@ -34,11 +36,11 @@ use Rattle.history.specs.Statements.{noCut, EndsFinished, noneFinished, 
 use Rattle.history.specs.Linked.{AllPassable}
 use Rattle.history.specs.Worked.{halted, sevens, nines, at40, filed, crashed, metByRecover, answers, Script, Worked}
 use Rattle.history.proofs.Disks.{slotE, logD}
-use Rattle.history.proofs.Leads.{foundIn}
+use Rattle.history.proofs.AfterCut.{foundIn}
 use Rattle.history.proofs.Relation.{cutSettled, cutWritten}
 use Rattle.history.proofs.Steps.{WorldSim}
 use Rattle.history.proofs.CutStep.{found-cut, exception-cut}
-use Rattle.history.proofs.Induct.{begun-sim}
+use Rattle.history.proofs.ListInduction.{begun-sim}
 use Rattle.history.proofs.ReadsBack.{power-served, cut-accepted}
 use Rattle.history.proofs.Atomicity.{Reading, reading}
 use Rattle.history.proofs.WorkedSums.{other-sum}
@@ -51,10 +53,10 @@ known-same p = cc
 
 -- ---- put and commit leave the settled bytes
 
-unless-settled : (k : ℕ) (st s : State) → s .settled ≡ st .settled → unless k st (finished s) .state .settled ≡ st .settled
+unless-settled : (k : ℕ) (st s : State) → s .settled ≡ st .settled → unless k st (completed s) .state .settled ≡ st .settled
 unless-settled k st s e = go (eqb k 0)
   where
-    go : (t : Bool) → cond t (finished s) (refused k st) .state .settled ≡ st .settled
+    go : (t : Bool) → cond t (completed s) (refused k st) .state .settled ≡ st .settled
     go true = e
     go false = refl
 
@@ -102,7 +104,7 @@ same-fits : (a b : List Entry) → sameLog a b ≡ true → collides a b ≡ fal
 unfolding collides
 same-fits a b h = rw h
 
--- ---- from the finished sync on
+-- ---- from the completed sync on
 
 abbrev zeros : Disk
 zeros = λ a. replicate blockBytes 0
@@ -170,7 +172,7 @@ module _ (w : World) (m : Filed w) where
 
   -- ---- the sync that is cut short
 
-  open-then : v₃ w .store .rec .mode ≡ opened
+  open-then : v₃ w .store .rec .mode ≡ openMode
   open-then = sym (t₃ .sim .basics .mirrors .mode) ∙ ap (λ (x : Plain). x .mode) (t₃ .plain)
 
   observed : observe sync (v₃ w) (known quiet) ≡ undecided (at40 nines ∷ []) 2 true
@@ -180,7 +182,7 @@ module _ (w : World) (m : Filed w) where
       let k = grouped-is (v₃ w) (t₃ .sim) old nines 1 3 (omega arith) (t₃ .plain) in
       let i = no-inner (v₃ w) (t₃ .sim) old nines 1 3 (omega arith) (t₃ .plain) in
       λ j.
-      cond (eqb (open-then j) opened && eqb (t₄ .answer j) 4) (undecided (g j) (k j + 1) (eqb (t₄ .orders j) (i j + (k j + 2)))) (known quiet)
+      cond (eqb (open-then j) openMode && eqb (t₄ .answer j) 4) (undecided (g j) (k j + 1) (eqb (t₄ .orders j) (i j + (k j + 2)))) (known quiet)
 
   -- ---- a cut that is accepted
 

@@ -19,19 +19,19 @@ use Rattle.store.specs.State.{Outcome, cardIn}
 use Rattle.store.specs.Saves.{groupOf}
 use Rattle.history.specs.Call.{sync}
 use Rattle.history.specs.Plain.{Plain, refusal, headerKept}
-use Rattle.history.specs.Ledger.{waits, syncHeads, noted, entered, applyHead, ownHead, standing, inner, resolved, sameLog}
+use Rattle.history.specs.Ledger.{waits, syncHeaders, noted, entered, applyHeader, ownHeader, standing, inner, resolved, sameLog}
 use Rattle.history.specs.History.{World, storeNext, ledgerNext}
 use Rattle.history.specs.Statements.{allOnes}
 use Rattle.history.specs.Worked.{at40}
 use Rattle.history.proofs.Disks.{slotE, logD}
 use Rattle.history.proofs.Batches.{Left}
-use Rattle.history.proofs.Leads.{foundIn}
+use Rattle.history.proofs.AfterCut.{foundIn}
 use Rattle.history.proofs.AppendEnds.{AppendBase, short-left, done-left, done-card}
 use Rattle.history.proofs.Relation.{OpenSim, cutSettled, cutWritten}
 use Rattle.history.proofs.Steps.{WorldSim}
 use Rattle.history.proofs.OpenFacts as Facts
-use Rattle.history.proofs.SyncStep.{note-at, base, calm, calm-whole, calm-gone, short-whole}
-use Rattle.history.proofs.Fates.{open-now}
+use Rattle.history.proofs.SyncStep.{note-at, base, single, single-whole, single-gone, short-whole}
+use Rattle.history.proofs.ShortSyncs.{open-now}
 use Rattle.history.proofs.WorkedCard.{second-zero, torn-found}
 use Rattle.history.proofs.WorkedPlain.{openAt}
 
@@ -69,7 +69,7 @@ module _ (w : World) (m : WorldSim w) (S : Disk) (b : List ℕ) (n p : ℕ) (few
   fits = omega (arith, logged-is, size)
 
   pub no-inner : inner (w .store) ≡ 0
-  no-inner = ap (λ (t : Bool). cond t (w .store .rec .logged + 3) 0) (calm w m served o some fits)
+  no-inner = ap (λ (t : Bool). cond t (w .store .rec .logged + 3) 0) (single w m served o some fits)
 
   abbrev N : ℕ
   N = w .store .rec .blocks
@@ -87,7 +87,7 @@ module _ (w : World) (m : WorldSim w) (S : Disk) (b : List ℕ) (n p : ℕ) (few
   filed-settled : 4 ≤ p → storeNext sync w .settled ≡ settle (appendWrites N s n h (at40 b ∷ [])) s
   filed-settled l =
       let q : length (groupOf (w .store)) + 3 ≤ w .store .rec .power = omega (arith, size, power-is) in
-      ap (λ (x : Outcome). x .state .settled) (calm-whole w m served o some fits q)
+      ap (λ (x : Outcome). x .state .settled) (single-whole w m served o some fits q)
       ∙ done-left (base w m served o some fits) q .settled
       ∙ ap₂ (λ (k : ℕ) (G : List Entry). settle (appendWrites N s k h G) s) logged-is group-is
 
@@ -107,26 +107,26 @@ module _ (w : World) (m : WorldSim w) (S : Disk) (b : List ℕ) (n p : ℕ) (few
       left-at a l = rw a at l
 
   halted-settled : p ≡ 3 → (ms : List ℕ) → cutSettled ms (storeNext sync w) ≡ cut ms r .settled
-  halted-settled e ms = ap (λ (x : Outcome). cutSettled ms (x .state)) (calm-gone w m served o some fits (gone e))
+  halted-settled e ms = ap (λ (x : Outcome). cutSettled ms (x .state)) (single-gone w m served o some fits (gone e))
 
   standing-is : standing (w .store) ≡ logD (blockAt s) n
   standing-is =
-      ap (λ (t : Bool). cond t [] (entries s (w .store .rec .logged))) (calm w m served o some fits)
+      ap (λ (t : Bool). cond t [] (entries s (w .store .rec .logged))) (single w m served o some fits)
       ∙ Facts.entries-log (w .store) (w .ledger) (w .plain) (m .basics) o
       ∙ ap (logD (blockAt s)) logged-is
 
   halted-ledger : p ≡ 3 → ledgerNext sync w ≡ record { written = w .ledger .written; pending = waits 2 (logD (blockAt s) n ++ (at40 b ∷ [])) }
-  unfolding entered syncHeads
+  unfolding entered syncHeaders
   halted-ledger e =
-      ap (λ (x : Outcome). noted (syncHeads (w .store)) (x .orders) (w .ledger)) (calm-gone w m served o some fits (gone e))
-      ∙ ap (λ (t : Bool). noted (cond t (applyHead (w .store) ∷ ownHead (w .store) ∷ []) (ownHead (w .store) ∷ [])) (w .store .rec .power) (w .ledger))
-      (calm w m served o some fits)
-      ∙ note-at (ownHead (w .store)) [] (w .store .rec .power) (w .ledger) (omega (arith, power-is, no-inner, grouped-is))
+      ap (λ (x : Outcome). noted (syncHeaders (w .store)) (x .orders) (w .ledger)) (single-gone w m served o some fits (gone e))
+      ∙ ap (λ (t : Bool). noted (cond t (applyHeader (w .store) ∷ ownHeader (w .store) ∷ []) (ownHeader (w .store) ∷ [])) (w .store .rec .power) (w .ledger))
+      (single w m served o some fits)
+      ∙ note-at (ownHeader (w .store)) [] (w .store .rec .power) (w .ledger) (omega (arith, power-is, no-inner, grouped-is))
       ∙ (λ i. record { written = w .ledger .written; pending = waits (grouped-is i + 1) (standing-is i ++ group-is i) })
 
   halted-same : p ≡ 3 → (ms : List ℕ) → length ms ≡ 3 → allOnes ms ≡ true → sameLog (foundIn (cutSettled ms (storeNext sync w))) (cutWritten ms (ledgerNext sync w)) ≡ true
   halted-same e ms l a =
-      let D = calm-gone w m served o some fits (gone e) in
+      let D = single-gone w m served o some fits (gone e) in
       short-whole w m served o some (ap (λ (x : Outcome). x .answer) D) (ap (λ (x : Outcome). x .orders) D ∙ (omega (arith, power-is, no-inner, grouped-is))) ms (omega (arith, grouped-is)) a
 
 -- ---- the first sync

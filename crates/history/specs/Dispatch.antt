@@ -5,7 +5,9 @@ use mathlib.Core.List.{List}
 use Rattle.store.specs.Request.{Request, format, power, put, get, commit, abandon, sync, apply, recover, cut}
 use Rattle.store.specs.State.{State, Outcome}
 use Rattle.store.specs.Causes.{cause}
-use Rattle.store.specs.Simple.{formatCall, powerCall, putCall, abandonCall}
+use Rattle.store.specs.Format.{formatCall}
+use Rattle.store.specs.Power.{powerCall}
+use Rattle.store.specs.Put.{putCall, abandonCall}
 use Rattle.store.specs.Get.{getPlace, bytesAt}
 use Rattle.store.specs.Commit.{commitCall}
 use Rattle.store.specs.Saves.{syncCall, applyCall, recoverCall, cutCall}

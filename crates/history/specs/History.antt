@@ -4,7 +4,7 @@ use mathlib.Core.List.{List, [], _∷_}
 use lib.Dec.{eqb}
 use Rattle.card.specs.Card.{blocksIn}
 use Rattle.store.specs.State.{State}
-use Rattle.store.specs.Simple.{formatCall}
+use Rattle.store.specs.Format.{formatCall}
 use Rattle.history.specs.Call.{Call, power, put, get, commit, abandon, sync, apply, recover, cut}
 use Rattle.history.specs.Plain.{Plain, fresh, plainStep}
 use Rattle.history.specs.Dispatch.{dispatch}

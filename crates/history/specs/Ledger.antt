@@ -18,7 +18,7 @@ use Rattle.history.specs.Dispatch.{dispatch}
 
 -- a header that a call writes: which of the call's orders writes it (the next one flushes), its place in the queue then, and the
 -- list from which it takes its sum of n
-pub record Head : Type 0 where
+pub record PlannedHeader : Type 0 where
   pub at : ℕ
   pub place : ℕ
   pub list : List Entry
@@ -31,25 +31,25 @@ standing st = cond (applies st) [] (entries (st .settled) (st .rec .logged))
 abbrev pub inner : State → ℕ
 inner st = cond (applies st) (st .rec .logged + 3) 0
 
-abbrev pub applyHead : State → Head
-applyHead st = record { at = st .rec .logged + 1; place = 0; list = [] }
+abbrev pub applyHeader : State → PlannedHeader
+applyHeader st = record { at = st .rec .logged + 1; place = 0; list = [] }
 
-abbrev pub ownHead : State → Head
-ownHead st = record { at = inner st + (st .rec .grouped + 1); place = st .rec .grouped + 1; list = standing st ++ groupOf st }
+abbrev pub ownHeader : State → PlannedHeader
+ownHeader st = record { at = inner st + (st .rec .grouped + 1); place = st .rec .grouped + 1; list = standing st ++ groupOf st }
 
 -- the list that a recovery takes
 abbrev pub taken : State → List Entry
 taken st = entries (st .settled) (takenCount (choose (st .rec .blocks) (st .settled)))
 
 -- the headers that a sync, an apply and a recover write if all their orders happen, in turn
-unfoldable pub syncHeads : State → List Head
-syncHeads st = cond (applies st) (applyHead st ∷ ownHead st ∷ []) (ownHead st ∷ [])
+unfoldable pub syncHeaders : State → List PlannedHeader
+syncHeaders st = cond (applies st) (applyHeader st ∷ ownHeader st ∷ []) (ownHeader st ∷ [])
 
-unfoldable pub applyHeads : State → List Head
-applyHeads st = applyHead st ∷ []
+unfoldable pub applyHeaders : State → List PlannedHeader
+applyHeaders st = applyHeader st ∷ []
 
-unfoldable pub recoverHeads : State → List Head
-recoverHeads st = record { at = 0; place = 0; list = taken st } ∷ []
+unfoldable pub recoverHeaders : State → List PlannedHeader
+recoverHeaders st = record { at = 0; place = 0; list = taken st } ∷ []
 
 -- a header that waits: its place and its list
 pub data Pending : Type 0 where
@@ -66,7 +66,7 @@ abbrev pub freshLedger : Ledger
 freshLedger = record { written = []; pending = nothing }
 
 -- k orders of a call carried out: a header is written at its order, and settled by the next
-unfoldable pub noted : List Head → ℕ → Ledger → Ledger
+unfoldable pub noted : List PlannedHeader → ℕ → Ledger → Ledger
 noted [] k l = l
 noted (h ∷ hs) k l =
     cond (leb k (h .at)) l
@@ -85,9 +85,9 @@ entered (put a b) st l = l
 entered (get a) st l = l
 entered commit st l = l
 entered abandon st l = l
-entered sync st l = noted (syncHeads st) (dispatch sync st .orders) l
-entered apply st l = noted (applyHeads st) (dispatch apply st .orders) l
-entered recover st l = noted (recoverHeads st) (dispatch recover st .orders) l
+entered sync st l = noted (syncHeaders st) (dispatch sync st .orders) l
+entered apply st l = noted (applyHeaders st) (dispatch apply st .orders) l
+entered recover st l = noted (recoverHeaders st) (dispatch recover st .orders) l
 entered (cut ms) st l =
     cond (eqb (dispatch (cut ms) st .answer) 0) (record { written = resolved ms (l .pending) (l .written); pending = nothing }) l
 

@@ -4,8 +4,8 @@ use mathlib.Core.Path.{_≡_}
 use mathlib.Core.List.{List, [], _∷_}
 use lib.ListN.{length}
 use Rattle.store.specs.State.{State}
-use Rattle.store.specs.Held.{stateOf}
-use Rattle.store.specs.Simple.{formatCall}
+use Rattle.store.specs.CodeState.{stateOf}
+use Rattle.store.specs.Format.{formatCall}
 use Rattle.firmware.specs.Face.{recordBytes, encodeRecord, decodeRecord, Face, faceOf, faced, gotIn, got}
 use Rattle.history.specs.Call.{Call, power, put, get, commit, abandon, sync, apply, recover, cut}
 use Rattle.history.specs.Dispatch.{dispatch}
@@ -37,7 +37,7 @@ AllPassable [] = Unit {0}
 AllPassable (c ∷ cs) = Passable c × AllPassable cs
 
 -- the bytes are those of the state
-pub record Holds (f : Face) (st : State) : Type 0 where
+pub record BytesOf (f : Face) (st : State) : Type 0 where
   pub rec : f .rec ≡ encodeRecord (st .rec)
   pub settled : f .settled ≡ st .settled
   pub waiting : f .waiting ≡ st .waiting
@@ -48,7 +48,7 @@ pub record Links (c : Call) (f : Face) (st : State) : Type 0 where
   pub number : faceNext c f .number ≡ dispatch c st .answer
   pub orders : faceNext c f .orders ≡ dispatch c st .orders
   pub place : (a : ℕ) → got a (f .rec) (f .settled) (f .waiting) (f .work) ≡ gotIn a st
-  pub left : Holds (faceNext c f) (dispatch c st .state)
+  pub left : BytesOf (faceNext c f) (dispatch c st .state)
 
 -- at every call of every list, from what a format through C that answers 0 left
 abbrev pub Linked : Type 0

@@ -15,9 +15,9 @@ use Rattle.journal.specs.Orders.{applyOrders, syncOrders}
 use Rattle.journal.specs.Choice.{choose, choiceNumber, recoverOrders}
 use Rattle.store.specs.Request as Request
 use Rattle.store.specs.State.{State, down, withMode, withRecord, cardIn}
-use Rattle.store.specs.Held.{stateOf}
+use Rattle.store.specs.CodeState.{stateOf}
 use Rattle.store.specs.Causes.{cause}
-use Rattle.store.specs.Simple.{refused}
+use Rattle.store.specs.Outcomes.{refused}
 use Rattle.store.specs.Get.{getPlace, partAt}
 use Rattle.store.specs.Saves.{groupOf, applies}
 use Rattle.inspect.specs.Reading.{chosen, inspection}

@@ -10,12 +10,12 @@ use lib.ListN.{getD, replicate}
 use Rattle.cells.specs.Entry.{blockBytes}
 use Rattle.store.specs.Request as Request
 use Rattle.store.specs.State.{State}
-use Rattle.store.specs.Simple.{formatCall}
+use Rattle.store.specs.Format.{formatCall}
 use Rattle.script.specs.declared.command.Command.{Command}
 use Rattle.script.specs.declared.command.Command.the-variants.{Format, Power, Put, Get, Commit, Abandon, Sync, Apply, Recover, Cut, Bad}
 use Rattle.script.specs.Commands.{parse}
 use Rattle.script.specs.Answers.{answerLine}
-use Rattle.script.specs.Performs.{marks}
+use Rattle.script.specs.Replies.{marks}
 use Rattle.script.specs.Transcript.{linesOf, reply, printed, said, beginning, transcript}
 use Rattle.history.specs.Call.{Call, power, put, get, commit, abandon, sync, apply, recover, cut}
 use Rattle.history.specs.Dispatch.{called, dispatch, blockOf}

@@ -14,9 +14,9 @@ use Rattle.card.specs.Card.{blocksIn, blockAt}
 use Rattle.journal.specs.Layout.{headerAt, isData}
 use Rattle.journal.specs.Header.{encode, header}
 use Rattle.journal.specs.Log.{headerOf, entries, sumOf}
-use Rattle.store.specs.State.{State, opened}
+use Rattle.store.specs.State.{State, openMode}
 use Rattle.store.specs.Causes.{wrongSizes, wrongBlock, wrongRecord}
-use Rattle.store.specs.Simple.{formatCall}
+use Rattle.store.specs.Format.{formatCall}
 use Rattle.store.specs.Saves.{groupOf}
 use Rattle.history.specs.Call.{Call, requestOf, power, put, get, commit, abandon, sync, apply, recover, cut}
 use Rattle.history.specs.Plain.{plainStep, plainGet}
@@ -48,7 +48,7 @@ pub record Agrees (c : Call) (w : World) : Type 0 where
   pub mode : storeNext c w .rec .mode ≡ plainStep c (foundWritten c w) (w .plain) .plain .mode
   pub power : storeNext c w .rec .power ≡ plainStep c (foundWritten c w) (w .plain) .plain .power
   pub waiting : storeNext c w .rec .waiting ≡ plainStep c (foundWritten c w) (w .plain) .plain .waiting
-  pub n : storeNext c w .rec .mode ≡ opened → storeNext c w .rec .logged ≡ plainStep c (foundWritten c w) (w .plain) .plain .n
+  pub n : storeNext c w .rec .mode ≡ openMode → storeNext c w .rec .logged ≡ plainStep c (foundWritten c w) (w .plain) .plain .n
 
 -- "the exception of demand 3 apart": at every call with no exception at a cut before it
 abbrev pub Refinement : Type 0
@@ -134,7 +134,7 @@ shortSync (put a b) w = false
 shortSync (get a) w = false
 shortSync commit w = false
 shortSync abandon w = false
-shortSync sync w = eqb (w .store .rec .mode) opened && eqb (dispatch sync (w .store) .answer) 4
+shortSync sync w = eqb (w .store .rec .mode) openMode && eqb (dispatch sync (w .store) .answer) 4
 shortSync apply w = false
 shortSync recover w = false
 shortSync (cut ms) w = false

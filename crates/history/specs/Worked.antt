@@ -8,7 +8,7 @@ use lib.ListN.{replicate}
 use Rattle.cells.specs.Entry.{blockBytes, Entry}
 use Rattle.card.specs.Card.{blocksIn}
 use Rattle.store.specs.State.{State}
-use Rattle.store.specs.Simple.{formatCall}
+use Rattle.store.specs.Format.{formatCall}
 use Rattle.history.specs.Call.{Call, power, put, get, commit, sync, recover, cut}
 use Rattle.history.specs.Dispatch.{dispatch, blockOf}
 use Rattle.history.specs.History.{World, begun, next, after, storeNext, foundWritten, acceptedCut, exception}

@@ -17,7 +17,7 @@ use Rattle.journal.proofs.Logs.{both, data-bounds, bounds-data}
 use Rattle.inspect.specs.declared.reading.Reading.{Reading}
 use Rattle.inspect.specs.Reading.{inspection, laid, laidOver, dataBlocks}
 use Rattle.inspect.specs.Alike.{sameData, refusal, alikeOf, Same}
-use Rattle.inspect.proofs.Readings.{Taken}
+use Rattle.inspect.proofs.Readings.{TakenList}
 
 -- ---- data blocks, those below a left
 
@@ -66,11 +66,11 @@ module _ (a b : List ℕ) where
   unfolding alikeOf
   alike-second k p e h = rw (p, ← e, ne-eqb k 0 h)
 
-  pub alike-blocks : (r q : Reading) → Taken a r → Taken b q → r .blocks ≢ q .blocks → record { number = 0; yes = false } ≡ alikeOf a b
+  pub alike-blocks : (r q : Reading) → TakenList a r → TakenList b q → r .blocks ≢ q .blocks → record { number = 0; yes = false } ≡ alikeOf a b
   unfolding alikeOf
   alike-blocks r q x y h = rw (x .none, y .none, ne-eqb (blocksIn a) (blocksIn b) (λ e. h (x .blocks ∙ e ∙ sym (y .blocks))))
 
-  pub alike-data : (r q : Reading) (t : Bool) → Taken a r → Taken b q → r .blocks ≡ q .blocks
+  pub alike-data : (r q : Reading) (t : Bool) → TakenList a r → TakenList b q → r .blocks ≡ q .blocks
       → t ≡ sameData (laid a (r .count)) (laid b (q .count)) (dataBlocks (r .blocks)) → record { number = 0; yes = t } ≡ alikeOf a b
   unfolding alikeOf
   alike-data r q t x y h e =

@@ -19,7 +19,7 @@ use Rattle.journal.proofs.Choices.{taken-count}
 use Rattle.journal.proofs.Logs.{neither}
 use Rattle.inspect.specs.declared.reading.Reading.{Reading}
 use Rattle.inspect.specs.Reading.{chosen, inspection, laid}
-use Rattle.inspect.specs.Held.{Read}
+use Rattle.inspect.specs.CodeReading.{Read}
 
 -- ---- the size
 
@@ -65,14 +65,14 @@ read-accepted s t n e p z k =
     record { number = sym (right-chosen s t e p ∙ z); blocks = λ _. refl; count = λ _. sym (ap takenCount p ∙ k) }
 
 -- a reading with no refusal
-pub record Taken (s : List ℕ) (r : Reading) : Type 0 where
+pub record TakenList (s : List ℕ) (r : Reading) : Type 0 where
   pub none : inspection s ≡ 0
   pub size : Sized s
   pub blocks : r .blocks ≡ blocksIn s
   pub count : r .count ≡ takenCount (chosen s)
   pub fits : r .count ≤ slots
 
-pub read-taken : (s : List ℕ) (r : Reading) → Read s r → r .number ≡ 0 → Taken s r
+pub read-taken : (s : List ℕ) (r : Reading) → Read s r → r .number ≡ 0 → TakenList s r
 read-taken s r h z =
     let none : inspection s ≡ 0 = sym (h .number) ∙ z in
     record {

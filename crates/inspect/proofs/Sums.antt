@@ -14,7 +14,7 @@ use Rattle.journal.specs.Layout.{firstData}
 use Rattle.inspect.specs.declared.reading.Reading.{Reading}
 use Rattle.inspect.specs.Reading.{inspection, laid, dataBlocks}
 use Rattle.inspect.specs.Tally.{sumBytes, sumData, tallyOf}
-use Rattle.inspect.proofs.Readings.{Taken}
+use Rattle.inspect.proofs.Readings.{TakenList}
 
 pub bytes-none : sumBytes [] ≡ 0
 unfolding sumBytes
@@ -48,6 +48,6 @@ pub tally-refused : (s : List ℕ) (k : ℕ) → k ≡ inspection s → k ≢ 0 
 unfolding tallyOf
 tally-refused s k e h = rw (← e, ne-eqb k 0 h)
 
-pub tally-done : (s : List ℕ) (r : Reading) (v : ℕ) → Taken s r → v ≡ sumData (laid s (r .count)) (dataBlocks (r .blocks)) → record { number = 0; sum = v } ≡ tallyOf s
+pub tally-done : (s : List ℕ) (r : Reading) (v : ℕ) → TakenList s r → v ≡ sumData (laid s (r .count)) (dataBlocks (r .blocks)) → record { number = 0; sum = v } ≡ tallyOf s
 unfolding tallyOf
 tally-done s r v t e = rw (t .none, e, t .blocks, t .count)

@@ -2,4 +2,4 @@
 pub mod Reading
 pub mod Tally
 pub mod Alike
-pub mod Held
+pub mod CodeReading

@@ -14,7 +14,7 @@ ghost use Rattle.cells.specs.Entry.{blockBytes};
 ghost use Rattle.card.specs.Card.{blocksIn};
 ghost use Rattle.journal.specs.Layout.{slots, firstData};
 ghost use Rattle.inspect.specs.Reading.{laid};
-ghost use Rattle.inspect.specs.Held.{Read};
+ghost use Rattle.inspect.specs.CodeReading.{Read};
 
 // A card that was read: the refusal, or 0; and where it is 0, N and the count of the list taken.
 pub struct Reading {

@@ -8,7 +8,7 @@ use lib.Dec.{T, eqb, eqb→eq}
 use Rattle.fnv.specs.Fnv.{start, prime, step}
 use Rattle.fnv.proofs.Laws.{sum-nil}
 use Rattle.journal.specs.Layout.{slotAt, isData, placeOf}
-use Rattle.journal.specs.Cases.{Case, emptySum, sumStep, syncTakes, applyTakes, slotStarts, blockStarts, addressIs, Claim, Holds, cases}
+use Rattle.journal.specs.Cases.{Case, emptySum, sumStep, syncTakes, applyTakes, slotStarts, blockStarts, addressIs, Claim, RowsHold, cases}
 use Rattle.journal.proofs.OrderLists.{applyCount, syncCount, length-apply, length-sync}
 
 abbrev right : Case → Bool
@@ -44,9 +44,9 @@ first : (a b : Bool) → T (a && b) → T a × T b
 first true b t = (tt, t)
 first false b t = absurd t
 
-holds : (cs : List Case) → T (all cs) → Holds cs
+holds : (cs : List Case) → T (all cs) → RowsHold cs
 holds [] t = tt
 holds (c ∷ cs) t = let p = first (right c) (all cs) t in (claim c (p .0), holds cs (p .1))
 
-pub cases-hold : Holds cases
+pub cases-hold : RowsHold cases
 cases-hold = holds cases tt

@@ -22,7 +22,7 @@ use Rattle.fnv.specs.Fnv.{sumFrom}
 use Rattle.fnv.proofs.Laws.{sumFrom-nil, sumFrom-append, sumFrom-lt}
 use Rattle.card.specs.Card.{blockAt, blocksIn}
 use Rattle.card.proofs.All.{All, all-upTo, upTo-all}
-use Rattle.card.proofs.Runs.{Whole, Short}
+use Rattle.card.proofs.Runs.{Whole, NarrowAddress}
 use Rattle.journal.specs.Layout.{slotAt, descriptorAt, firstData, slots, isData}
 use Rattle.journal.specs.Log.{slotAddress, slotEntry, entries, entriesFrom, sumOf, allData}
 
@@ -156,5 +156,5 @@ pub entries-below : (X : ℕ) (s : List ℕ) (n : ℕ) → ((i : ℕ) → i < n 
 unfolding slotEntry
 entries-below X s n h = all-upTo (λ e. e .address < X) (slotEntry s) n h
 
-pub entries-short : (s : List ℕ) (n : ℕ) → Bytes s → firstData < blocksIn s → n ≤ slots → All Short (entries s n)
+pub entries-short : (s : List ℕ) (n : ℕ) → Bytes s → firstData < blocksIn s → n ≤ slots → All NarrowAddress (entries s n)
 entries-short s n b h k = entries-below (2 ^ 32) s n (λ i p. slotAddress-lt s i b h (omega arith))

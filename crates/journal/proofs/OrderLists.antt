@@ -13,9 +13,9 @@ use Rattle.cells.specs.Entry.{entryBytes, Entry}
 use Rattle.fnv.specs.Fnv.{start}
 use Rattle.card.specs.Card.{Order, write, flush, run, blockAt}
 use Rattle.card.specs.declared.queue.Queue.{Queue}
-use Rattle.card.specs.Held.{cardOf, Below}
+use Rattle.card.specs.CodeQueue.{cardOf, Below}
 use Rattle.card.proofs.All.{All, all-append}
-use Rattle.card.proofs.Runs.{Whole, Short, writes-below}
+use Rattle.card.proofs.Runs.{Whole, NarrowAddress, writes-below}
 use Rattle.journal.specs.declared.header.Header.{Header}
 use Rattle.journal.specs.Layout.{headerAt, descriptorAt, slotAt, slots, firstData}
 use Rattle.journal.specs.Header.{encode, header, emptyHeader}
@@ -112,7 +112,7 @@ list-below X s w q w′ q′ n es d told room whole d-whole d-low fits large old
     (told ∙ ap (λ (os : List Order). run (os ++ (write d ∷ [])) (cardOf s w q)) (slotWrites-blocks n es) ∙ ap (λ (os : List Order). run os (cardOf s w q)) (sym (map-append write (slotBlocks n es) (d ∷ []))))
     (writes-below X (slotBlocks n es ++ (d ∷ [])) (cardOf s w q) (rw (length-append, length-slotBlocks) (omega arith))
     (all-append Whole (slotBlocks n es) (d ∷ []) (slots-whole n es whole) (d-whole, tt))
-    (all-append Short (slotBlocks n es) (d ∷ []) (slots-below (2 ^ 32) n es (omega arith)) (omega arith, tt))
+    (all-append NarrowAddress (slotBlocks n es) (d ∷ []) (slots-below (2 ^ 32) n es (omega arith)) (omega arith, tt))
     (all-append (λ e. e .address < X) (slotBlocks n es) (d ∷ []) (slots-below X n es (omega arith)) (omega arith, tt))
     old)
 

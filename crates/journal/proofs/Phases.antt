@@ -13,8 +13,8 @@ use Rattle.cells.specs.Entry.{entryBytes, Entry}
 use Rattle.card.specs.declared.queue.Queue.{Queue}
 use Rattle.card.specs.declared.queue.Ordered.{Ordered}
 use Rattle.card.specs.Card.{Card, Order, write, flush, order, run}
-use Rattle.card.specs.Held.{cardOf, Below}
-use Rattle.card.proofs.Runs.{Whole, Short, run-dead, run-one, run-append, run-power, writes-more, writes-take, writes-below}
+use Rattle.card.specs.CodeQueue.{cardOf, Below}
+use Rattle.card.proofs.Runs.{Whole, NarrowAddress, run-dead, run-one, run-append, run-power, writes-more, writes-take, writes-below}
 
 -- ---- two phases: the orders os are j orders a, then k orders b
 
@@ -65,7 +65,7 @@ below-card n s w q c e h = subst (λ (d : Card). Below n (d .waiting) (d .count)
 
 -- one write below n more
 pub write-below : (n : ℕ) (e : Entry) (s w : List ℕ) (q : Queue) (w′ : List ℕ) (r : Ordered) → cardOf s w′ (r .queue) ≡ run (write e ∷ []) (cardOf s w q)
-    → entryBytes * q .waiting + entryBytes ≤ length w → Whole e → Short e → e .address < n → Below n w (q .waiting) → Below n w′ (r .queue .waiting)
+    → entryBytes * q .waiting + entryBytes ≤ length w → Whole e → NarrowAddress e → e .address < n → Below n w (q .waiting) → Below n w′ (r .queue .waiting)
 write-below n e s w q w′ r told room whole short new old =
     below-card n s w′ (r .queue) (run (write e ∷ []) (cardOf s w q)) told
     (writes-below n (e ∷ []) (cardOf s w q) (omega arith) (whole, tt) (short, tt) (new, tt) old)
@@ -81,7 +81,7 @@ flushed-empty s w q s′ r told h e =
 -- ---- writes in a row
 
 -- the first i writes of a row have been given, and have happened
-pub record Written (f : ℕ → Entry) (i : ℕ) (w₀ : List ℕ) (q₀ : Queue) (w : List ℕ) (q : Queue) : Type 0 where
+pub record WrittenSoFar (f : ℕ → Entry) (i : ℕ) (w₀ : List ℕ) (q₀ : Queue) (w : List ℕ) (q : Queue) : Type 0 where
   pub power : i ≤ q₀ .power
   pub count : q .waiting ≤ q₀ .waiting + i
   pub room : length w ≡ length w₀
@@ -106,11 +106,11 @@ pub rowed-orders : (f : ℕ → Entry) (k : ℕ) (w : List ℕ) (q : Queue) (w�
     → (r .happened ≡ leb k (q .power)) × (((s : List ℕ) → cardOf s w′ (r .queue) ≡ run os (cardOf s w q)) × (r .queue .waiting ≤ q .waiting + k))
 rowed-orders f k w q w′ r os e h = (h .0, (λ s. h .1 .0 s ∙ ap (λ (l : List Order). run l (cardOf s w q)) (sym e), h .1 .1))
 
-pub written-none : (f : ℕ → Entry) (w : List ℕ) (q : Queue) → Written f 0 w q w q
+pub written-none : (f : ℕ → Entry) (w : List ℕ) (q : Queue) → WrittenSoFar f 0 w q w q
 unfolding run
 written-none f w q = record { power = omega arith; count = omega arith; room = refl; card = λ s. refl }
 
-module _ (f : ℕ → Entry) (i : ℕ) (w₀ : List ℕ) (q₀ : Queue) (w : List ℕ) (q : Queue) (before : Written f i w₀ q₀ w q) where
+module _ (f : ℕ → Entry) (i : ℕ) (w₀ : List ℕ) (q₀ : Queue) (w : List ℕ) (q : Queue) (before : WrittenSoFar f i w₀ q₀ w q) where
   left : q .power ≡ q₀ .power - i
   left = ap (λ (c : Card). c .power) (before .card []) ∙ run-power (map write (upTo f i)) (cardOf [] w₀ q₀) ∙ rw (length-map, length-upTo)
 
@@ -122,7 +122,7 @@ module _ (f : ℕ → Entry) (i : ℕ) (w₀ : List ℕ) (q₀ : Queue) (w : Lis
         ∙ ap (run (write (f i) ∷ [])) (before .card s)
         ∙ sym (writes-more f i (cardOf s w₀ q₀))
 
-    pub written-more : length w′ ≡ length w → r .happened ≡ true → Written f (i + 1) w₀ q₀ w′ (r .queue)
+    pub written-more : length w′ ≡ length w → r .happened ≡ true → WrittenSoFar f (i + 1) w₀ q₀ w′ (r .queue)
     written-more l h =
         let live : 0 < q .power = ltb-true 0 (q .power) (sym (wrote .0) ∙ h) in
         let p : q .power ≡ q₀ .power - i = left in

@@ -28,9 +28,9 @@ Claim (slotStarts i v) = placeOf (slotAt i) ≡ v
 Claim (blockStarts a v) = placeOf a ≡ v
 Claim (addressIs N a v) = isData N a ≡ v
 
-abbrev pub Holds : List Case → Type 0
-Holds [] = Unit {0}
-Holds (c ∷ cs) = Claim c × Holds cs
+abbrev pub RowsHold : List Case → Type 0
+RowsHold [] = Unit {0}
+RowsHold (c ∷ cs) = Claim c × RowsHold cs
 
 -- the table of document 01
 abbrev pub cases : List Case

@@ -20,7 +20,7 @@ ghost use lib.ListN.{length};
 ghost use lib.Seq.{sets};
 ghost use Rattle.cells.specs.Entry.{blockBytes, entryBytes};
 ghost use Rattle.card.specs.Card.{places, blocksIn, blockAt, run, write};
-ghost use Rattle.card.specs.Held.{cardOf, Below};
+ghost use Rattle.card.specs.CodeQueue.{cardOf, Below};
 ghost use Rattle.journal.specs.Layout.{descriptorAt, slots, firstData};
 ghost use Rattle.journal.specs.Log.{entriesFrom, sumOf};
 ghost use Rattle.journal.specs.Orders as Orders;

@@ -11,7 +11,7 @@ ghost use lib.Dec.{leb};
 ghost use lib.ListN.{length};
 ghost use Rattle.cells.specs.Entry.{entryBytes};
 ghost use Rattle.card.specs.Card.{places, blocksIn, run, write};
-ghost use Rattle.card.specs.Held.{cardOf, Below};
+ghost use Rattle.card.specs.CodeQueue.{cardOf, Below};
 ghost use Rattle.journal.specs.Layout.{slots, firstData};
 ghost use Rattle.journal.specs.Log.{slotAddress, entries};
 ghost use Rattle.journal.specs.Orders.{checkpointOrders, fallbackOrders};

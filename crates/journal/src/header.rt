@@ -15,7 +15,7 @@ ghost use lib.Dec.{leb};
 ghost use lib.ListN.{length};
 ghost use Rattle.cells.specs.Entry.{blockBytes, entryBytes};
 ghost use Rattle.card.specs.Card.{places, blocksIn, run, flush};
-ghost use Rattle.card.specs.Held.{cardOf, Below};
+ghost use Rattle.card.specs.CodeQueue.{cardOf, Below};
 ghost use Rattle.journal.specs.Header.{encode, decode, header, emptyHeader};
 ghost use Rattle.journal.specs.Orders.{headerWrite};
 

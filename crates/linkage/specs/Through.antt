@@ -3,8 +3,8 @@ use Prim.Native.Nat.{ℕ}
 use mathlib.Core.Path.{_≡_}
 use mathlib.Core.List.{List}
 use Rattle.store.specs.State.{State}
-use Rattle.store.specs.Held.{stateOf}
-use Rattle.store.specs.Simple.{formatCall}
+use Rattle.store.specs.CodeState.{stateOf}
+use Rattle.store.specs.Format.{formatCall}
 use Rattle.firmware.specs.Face.{decodeRecord, faced, handed, gotIn}
 use Rattle.history.specs.Call.{Call}
 use Rattle.history.specs.Dispatch.{dispatch}

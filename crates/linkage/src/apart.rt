@@ -3,7 +3,7 @@ use firmware::calls::trapcard_format;
 use firmware::reads::trapcard_alike;
 use firmware::reads::trapcard_tally;
 ghost use mathlib.Core.Path.{_≡_};
-ghost use Rattle.store.specs.Simple.{formatCall};
+ghost use Rattle.store.specs.Format.{formatCall};
 ghost use Rattle.inspect.specs.Tally.{tallyOf};
 ghost use Rattle.firmware.specs.Face.{faceOf, faced, tallied, comparedOf, compared};
 

@@ -17,7 +17,7 @@ use Rattle.store.specs.Request.{get}
 use Rattle.store.specs.Causes.{cause}
 use Rattle.store.specs.Get.{getPlace, bytesAt, partAt}
 use Rattle.script.specs.Numbers.{zeroDigit}
-use Rattle.script.specs.Performs.{Reply, got, values}
+use Rattle.script.specs.Replies.{Reply, got, values}
 
 -- ---- get
 

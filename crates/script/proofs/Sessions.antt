@@ -13,7 +13,7 @@ use Rattle.store.specs.State.{State}
 use Rattle.script.specs.declared.command.Command.{Command}
 use Rattle.script.specs.Commands.{keptBytes, parse}
 use Rattle.script.specs.Answers.{lf, answerBytes}
-use Rattle.script.specs.Performs.{Reply, perform, answered}
+use Rattle.script.specs.Replies.{Reply, perform, answered}
 use Rattle.script.specs.Transcript.{reply, printed}
 use Rattle.script.specs.Steps.{Session, Step, keep, answer, feed, fedBytes, fed, finish}
 

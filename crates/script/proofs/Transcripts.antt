@@ -12,7 +12,7 @@ use Rattle.script.specs.declared.command.Command.the-variants.{Bad}
 use Rattle.script.specs.Fields.{push}
 use Rattle.script.specs.Commands.{lineBytes, keptBytes, parse}
 use Rattle.script.specs.Answers.{lf}
-use Rattle.script.specs.Performs.{perform}
+use Rattle.script.specs.Replies.{perform}
 use Rattle.script.specs.Transcript.{linesOf, said, printed, reply, transcript}
 use Rattle.script.specs.Steps.{Session, Step, keep, answer, feed, fed, finish, steps, joined, parts, fresh}
 use Rattle.script.proofs.Sessions.{fed-append}

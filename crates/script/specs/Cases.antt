@@ -15,9 +15,9 @@ pub record Case : Type 0 where
   pub line : List ℕ
   pub says : Command
 
-abbrev pub Holds : List Case → Type 0
-Holds [] = Unit {0}
-Holds (c ∷ cs) = (parse (c .line) ≡ c .says) × Holds cs
+abbrev pub LinesSay : List Case → Type 0
+LinesSay [] = Unit {0}
+LinesSay (c ∷ cs) = (parse (c .line) ≡ c .says) × LinesSay cs
 
 -- a field in decimal
 abbrev field : ℕ → List ℕ

@@ -4,8 +4,8 @@ pub mod Words
 pub mod Numbers
 pub mod Commands
 pub mod Answers
-pub mod Performs
+pub mod Replies
 pub mod Transcript
 pub mod Steps
-pub mod Held
+pub mod CodeSession
 pub mod Cases

@@ -39,9 +39,9 @@ numberOf most s =
     cond (leb 1 (length s) && leb (length s) numberDigits && allDigits s && leb (valueFrom 0 s) most) (Of (valueFrom 0 s)) Not
 
 -- it is no more than that
-abbrev pub Within : ℕ → Number → Type 0
-Within most (Of n) = n ≤ most
-Within most Not = Unit {0}
+abbrev pub AtMost : ℕ → Number → Type 0
+AtMost most (Of n) = n ≤ most
+AtMost most Not = Unit {0}
 
 -- a field as marks
 abbrev pub isMarks : List ℕ → Bool

@@ -11,7 +11,7 @@ use Rattle.store.specs.Causes.{waitingBytes, workBytes}
 use Rattle.script.specs.Fields.{push}
 use Rattle.script.specs.Commands.{parse}
 use Rattle.script.specs.Answers.{lf}
-use Rattle.script.specs.Performs.{Reply, perform, answered}
+use Rattle.script.specs.Replies.{Reply, perform, answered}
 
 -- "each ended by LF, which the last may lack": nothing behind the last LF is no line
 unfoldable pub linesOf : List ℕ → List (List ℕ)

@@ -15,8 +15,8 @@ const MOST: u32 = 4294967295;
 
 const MOST_BYTE: u32 = 255;
 
-// A cut's marks stay in the line, behind its word and a tab.
-pub(crate) enum Command {
+// A cut's marks stay in the line, behind its word and a tab. The type is public for proofs above: no public function has it.
+pub enum Command {
     Format,
     Power(u32),
     Put(u32, u8),

@@ -1,5 +1,5 @@
 // The script: lines of bytes, the commands that they say, and the lines that answer them.
-mod command;
+pub mod command;
 mod field;
 mod number;
 mod perform;

@@ -4,7 +4,7 @@ ghost use mathlib.Core.Path.{_≡_};
 ghost use mathlib.Core.Bool.{true};
 ghost use Prim.Native.Nat.{_-_, _≤_, _<_};
 ghost use lib.ListN.{length, getD};
-ghost use Rattle.script.specs.Numbers.{numberDigits, zeroDigit, isDigit, allDigits, valueFrom, numberOf, isMarks, Within};
+ghost use Rattle.script.specs.Numbers.{numberDigits, zeroDigit, isDigit, allDigits, valueFrom, numberOf, isMarks, AtMost};
 
 // What a digit counts more than the one behind it.
 const BASE: u64 = 10;
@@ -57,7 +57,7 @@ fn value(s: &[u8]) -> u64
 
 // A field of 1 to 10 digits as a number of at most `most`.
 pub(crate) fn to_number(s: &[u8], most: u32) -> Number
-    ensures { λ r. ⌜ (r ≡ numberOf most (now (s .entry))) × Within most r ⌝ }
+    ensures { λ r. ⌜ (r ≡ numberOf most (now (s .entry))) × AtMost most r ⌝ }
 {
     if s.len() == 0 {
         return Number::Not;

@@ -10,13 +10,13 @@ ghost use mathlib.Core.Path.{_≡_};
 ghost use Prim.Native.Nat.{_≤_};
 ghost use lib.ListN.{length, take, getD, replicate};
 ghost use Rattle.cells.specs.Entry.{blockBytes};
-ghost use Rattle.store.specs.Held.{stateOf};
-ghost use Rattle.store.specs.Simple.{putCall};
+ghost use Rattle.store.specs.CodeState.{stateOf};
+ghost use Rattle.store.specs.Put.{putCall};
 ghost use Rattle.store.specs.Saves.{cutCall};
 ghost use Rattle.script.specs.Commands.{keptBytes};
-ghost use Rattle.script.specs.Performs as Performs;
-ghost use Rattle.script.specs.Performs.{mostMarks, got};
-ghost use Rattle.script.specs.Held.{replyOf};
+ghost use Rattle.script.specs.Replies as Replies;
+ghost use Rattle.script.specs.Replies.{mostMarks, got};
+ghost use Rattle.script.specs.CodeSession.{replyOf};
 
 // The answer to a line that is not understood.
 const NOT_UNDERSTOOD: u32 = 11;
@@ -67,7 +67,7 @@ pub(crate) fn perform(
     work: &mut [u8],
 ) -> Done
     requires { ⌜ length (now line) ≤ keptBytes ⌝ }
-    ensures { λ r. ⌜ replyOf (r .number) (r .third) (r .rec) (now (settled .exit)) (now (waiting .exit)) (now (work .exit)) ≡ Performs.perform command (now (line .entry)) (stateOf rec (now (settled .entry)) (now (waiting .entry)) (now (work .entry))) ⌝ }
+    ensures { λ r. ⌜ replyOf (r .number) (r .third) (r .rec) (now (settled .exit)) (now (waiting .exit)) (now (work .exit)) ≡ Replies.perform command (now (line .entry)) (stateOf rec (now (settled .entry)) (now (waiting .entry)) (now (work .entry))) ⌝ }
 {
     match command {
         Command::Format => called(rec.format(settled, waiting, work)),
@@ -90,7 +90,7 @@ pub(crate) fn perform(
 
 // A put of a block filled with a byte.
 fn put(rec: Record, settled: &[u8], waiting: &[u8], work: &mut [u8], address: u32, byte: u8) -> Done
-    ensures { λ r. ⌜ replyOf (r .number) (r .third) (r .rec) (now (settled .entry)) (now (waiting .entry)) (now (work .exit)) ≡ Performs.called (putCall address (replicate blockBytes byte) (stateOf rec (now (settled .entry)) (now (waiting .entry)) (now (work .entry)))) ⌝ }
+    ensures { λ r. ⌜ replyOf (r .number) (r .third) (r .rec) (now (settled .entry)) (now (waiting .entry)) (now (work .exit)) ≡ Replies.called (putCall address (replicate blockBytes byte) (stateOf rec (now (settled .entry)) (now (waiting .entry)) (now (work .entry)))) ⌝ }
 {
     let block = [byte; BLOCK];
     called(rec.put(settled, waiting, work, address, &block))
@@ -118,7 +118,7 @@ fn first(s: &[u8]) -> u32
 // A cut with the marks of its line.
 fn cut(line: &[u8], rec: Record, settled: &mut [u8], waiting: &[u8], work: &[u8]) -> Done
     requires { ⌜ length (now line) ≤ keptBytes ⌝ }
-    ensures { λ r. ⌜ replyOf (r .number) (r .third) (r .rec) (now (settled .exit)) (now (waiting .entry)) (now (work .entry)) ≡ Performs.called (cutCall (Performs.marks (now (line .entry))) (stateOf rec (now (settled .entry)) (now (waiting .entry)) (now (work .entry)))) ⌝ }
+    ensures { λ r. ⌜ replyOf (r .number) (r .third) (r .rec) (now (settled .exit)) (now (waiting .entry)) (now (work .entry)) ≡ Replies.called (cutCall (Replies.marks (now (line .entry))) (stateOf rec (now (settled .entry)) (now (waiting .entry)) (now (work .entry)))) ⌝ }
 {
     let mut marks = [0u8; MARKS];
     let count = read_marks(line, &mut marks);
@@ -129,7 +129,7 @@ fn cut(line: &[u8], rec: Record, settled: &mut [u8], waiting: &[u8], work: &[u8]
 fn read_marks(line: &[u8], marks: &mut [u8]) -> usize
     requires { ⌜ length (now line) ≤ keptBytes ⌝ }
     requires { ⌜ length (now marks) ≡ mostMarks ⌝ }
-    ensures { λ r. ⌜ (r ≤ mostMarks) × (take r (now (marks .exit)) ≡ Performs.marks (now (line .entry))) ⌝ }
+    ensures { λ r. ⌜ (r ≤ mostMarks) × (take r (now (marks .exit)) ≡ Replies.marks (now (line .entry))) ⌝ }
 {
     let mut i = 0;
     while i + MARKS_AT < line.len() {

@@ -19,7 +19,7 @@ ghost use Rattle.script.specs.Answers.{answerBytes};
 ghost use Rattle.script.specs.Transcript.{beginning};
 ghost use Rattle.script.specs.Steps as Steps;
 ghost use Rattle.script.specs.Steps.{printedBytes};
-ghost use Rattle.script.specs.Held.{sessionOf, stepOf};
+ghost use Rattle.script.specs.CodeSession.{sessionOf, stepOf};
 
 // The record, how many bytes of a line are kept, and how many of the output's buffer are to be printed.
 pub struct Session {

@@ -4,7 +4,7 @@ use mathlib.Core.Path.{_≡_}
 use mathlib.Core.Logic.{_≢_}
 use borrow.Author.Tests.{eq-eqb, ne-eqb}
 use Rattle.store.specs.State.{State, Outcome}
-use Rattle.store.specs.Simple.{refused, unless}
+use Rattle.store.specs.Outcomes.{refused, unless}
 
 -- n being the number that was computed, k the cause
 pub call-refused : (n k : ℕ) (st : State) (o : Outcome) → n ≡ k → n ≢ 0 → refused n st ≡ unless k st o

@@ -10,11 +10,11 @@ use lib.Dec.{eqb, ltb}
 use lib.ListN.{length, drop}
 use Rattle.cells.specs.Entry.{blockBytes, entryAt}
 use Rattle.card.specs.Card.{places, blocksIn}
-use Rattle.card.specs.Held.{Below}
+use Rattle.card.specs.CodeQueue.{Below}
 use Rattle.journal.specs.Layout.{slots, isData, leastBlocks, mostBlocks, wrongSize}
 use Rattle.journal.specs.Log.{slotAddress}
 use Rattle.journal.proofs.Logs.{neither, slot-data}
-use Rattle.store.specs.State.{State, closed, opened, down}
+use Rattle.store.specs.State.{State, closed, openMode, down}
 use Rattle.store.specs.Lists.{openFrom, groupFrom, listed, find}
 use Rattle.store.specs.Request.{Request, power, abandon}
 use Rattle.store.specs.Causes.{waitingBytes, workBytes, wrongSizes, wrongBlock, some, wrongCounts, wrongWaiting, isFound, wrongLists, wrongRecord, readsRecord, needsOpen, isRecover, strayAddress, full, unsound, wrongMarks, table, first, cause}
@@ -141,13 +141,13 @@ unfolding wrongWaiting
 waiting-facts st e i h = ltb-true _ _ (not-false _ (some-none (λ j. not (ltb (entryAt (st .waiting) j .address) (st .rec .blocks))) (st .rec .waiting) e i h))
 
 -- rows 1 and 2: what a call that reads the record may count on
-pub record Sound (st : State) : Type 0 where
+pub record Checked (st : State) : Type 0 where
   pub sizes : SizeFacts st
   pub counts : CountFacts st
   pub waiting-below : Below (st .rec .blocks) (st .waiting) (st .rec .waiting)
-  pub lists : st .rec .mode ≡ opened → ListFacts st
+  pub lists : st .rec .mode ≡ openMode → ListFacts st
 
-pub sound : (st : State) → wrongSizes st ≡ false → wrongRecord st ≡ false → Sound st
+pub sound : (st : State) → wrongSizes st ≡ false → wrongRecord st ≡ false → Checked st
 sound st s r =
     let l = neither _ _ r in
     let c = neither _ _ (l .0) in
@@ -166,7 +166,7 @@ pub record Passes (q : Request) (st : State) : Type 0 where
   pub counts : readsRecord q && wrongRecord st ≡ false
   pub not-closed : needsOpen q && eqb (st .rec .mode) closed ≡ false
   pub not-down : (needsOpen q || isRecover q) && eqb (st .rec .mode) down ≡ false
-  pub not-open : isRecover q && eqb (st .rec .mode) opened ≡ false
+  pub not-open : isRecover q && eqb (st .rec .mode) openMode ≡ false
   pub address : strayAddress q st ≡ false
   pub room : full q st ≡ false
   pub ours : unsound 8 q st ≡ false
@@ -207,7 +207,7 @@ cause-passes q st n e z =
     }
 
 -- a call that reads the record and passes finds it sound
-pub passes-sound : (q : Request) (st : State) (n : ℕ) → readsRecord q ≡ true → n ≡ cause q st → n ≡ 0 → Sound st
+pub passes-sound : (q : Request) (st : State) (n : ℕ) → readsRecord q ≡ true → n ≡ cause q st → n ≡ 0 → Checked st
 passes-sound q st n r e z = let p = cause-passes q st n e z in sound st (p .sizes) (other _ _ (p .counts) r)
 
 -- ---- the first rows, shared by the calls

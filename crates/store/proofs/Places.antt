@@ -17,41 +17,41 @@ use Rattle.store.specs.declared.place.Place.{Place}
 use Rattle.store.specs.declared.place.Place.the-variants.{Settled, Work, Nowhere}
 use Rattle.store.specs.declared.record.Record.{Record}
 use Rattle.store.specs.State.{State}
-use Rattle.store.specs.Held.{stateOf, Within}
+use Rattle.store.specs.CodeState.{stateOf, HoldsBlock}
 use Rattle.store.specs.Lists.{openFrom, groupFrom, find}
 use Rattle.store.specs.Request.{get}
 use Rattle.store.specs.Causes.{cause}
 use Rattle.store.specs.Get.{logPlace, groupPlace, openPlace, newest, getPlace, bytesAt, partAt}
-use Rattle.store.proofs.Causes.{Sound, cause-passes, passes-sound}
+use Rattle.store.proofs.Causes.{Checked, cause-passes, passes-sound}
 use Rattle.store.proofs.Lookups.{last-at, find-at}
 
 -- the address of a data block is below N
 pub data-lt : (N a : ℕ) → isData N a ≡ true → a < N
 data-lt N a d = ltb-true a N (both (leb firstData a) (ltb a N) d .1)
 
-pub newest-within : (a : ℕ) (st : State) → Sound st → isData (st .rec .blocks) a ≡ true → Within (newest a st) (st .settled) (st .work)
+pub newest-within : (a : ℕ) (st : State) → Checked st → isData (st .rec .blocks) a ≡ true → HoldsBlock (newest a st) (st .settled) (st .work)
 unfolding newest
 newest-within a st s d = in-open (find (st .work) openFrom (st .rec .opened) a) refl
   where
-    in-log : (f : Found) → lastSlot (st .settled) a (st .rec .logged) ≡ f → Within (logPlace a f) (st .settled) (st .work)
+    in-log : (f : Found) → lastSlot (st .settled) a (st .rec .logged) ≡ f → HoldsBlock (logPlace a f) (st .settled) (st .work)
     in-log (At k) e = let inside = last-at (slotAddress (st .settled)) a (st .rec .logged) k e in omega arith
     in-log Absent e = let inside = data-lt (st .rec .blocks) a d in omega arith
 
     in-group : (f : Found) → find (st .work) groupFrom (st .rec .grouped) a ≡ f
-        → Within (groupPlace f (logPlace a (lastSlot (st .settled) a (st .rec .logged)))) (st .settled) (st .work)
+        → HoldsBlock (groupPlace f (logPlace a (lastSlot (st .settled) a (st .rec .logged)))) (st .settled) (st .work)
     in-group (At j) e = let inside = find-at (st .work) groupFrom (st .rec .grouped) a j e in omega arith
     in-group Absent e = in-log (lastSlot (st .settled) a (st .rec .logged)) refl
 
     in-open : (f : Found) → find (st .work) openFrom (st .rec .opened) a ≡ f
-        → Within (openPlace f (groupPlace (find (st .work) groupFrom (st .rec .grouped) a) (logPlace a (lastSlot (st .settled) a (st .rec .logged))))) (st .settled) (st .work)
+        → HoldsBlock (openPlace f (groupPlace (find (st .work) groupFrom (st .rec .grouped) a) (logPlace a (lastSlot (st .settled) a (st .rec .logged))))) (st .settled) (st .work)
     in-open (At i) e = let inside = find-at (st .work) openFrom (st .rec .opened) a i e in omega arith
     in-open Absent e = in-group (find (st .work) groupFrom (st .rec .grouped) a) refl
 
-pub get-within : (a : ℕ) (st : State) → Within (getPlace a st) (st .settled) (st .work)
+pub get-within : (a : ℕ) (st : State) → HoldsBlock (getPlace a st) (st .settled) (st .work)
 unfolding getPlace
 get-within a st = go (eqb (cause (get a) st) 0) refl
   where
-    go : (t : Bool) → eqb (cause (get a) st) 0 ≡ t → Within (cond t (newest a st) Nowhere) (st .settled) (st .work)
+    go : (t : Bool) → eqb (cause (get a) st) 0 ≡ t → HoldsBlock (cond t (newest a st) Nowhere) (st .settled) (st .work)
     go true e =
         let z : cause (get a) st ≡ 0 = eqb-true _ _ e in
         newest-within a st (passes-sound (get a) st 0 refl (sym z) refl) (not-false _ (cause-passes (get a) st 0 (sym z) refl .address))

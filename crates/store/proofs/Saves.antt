@@ -17,7 +17,7 @@ use Rattle.card.specs.declared.queue.Queue.{Queue}
 use Rattle.card.specs.declared.queue.Ordered.{Ordered}
 use Rattle.card.specs.Card as Card
 use Rattle.card.specs.Card.{Card, Order, write, flush, order, run, blocksIn}
-use Rattle.card.specs.Held.{cardOf}
+use Rattle.card.specs.CodeQueue.{cardOf}
 use Rattle.card.proofs.Runs.{run-nil, run-one, run-append, run-power}
 use Rattle.journal.specs.declared.choice.Choice.{Choice}
 use Rattle.journal.specs.declared.choice.Choice.the-variants.{Whole, Fallback, Foreign, Neither}
@@ -30,14 +30,14 @@ use Rattle.journal.proofs.Logs.{sumOf-nil}
 use Rattle.journal.proofs.OrderLists.{headerEntry, checkpoint-writes, append-afresh}
 use Rattle.journal.proofs.Phases.{stopped, resumed}
 use Rattle.store.specs.declared.record.Record.{Record}
-use Rattle.store.specs.State.{State, Outcome, closed, opened, down, withMode, withGrouped, withLog, withQueue, withRecord, cardIn, withCard}
-use Rattle.store.specs.Held.{stateOf, outcomeOf}
+use Rattle.store.specs.State.{State, Outcome, closed, openMode, down, withMode, withGrouped, withLog, withQueue, withRecord, cardIn, withCard}
+use Rattle.store.specs.CodeState.{stateOf, outcomeOf}
 use Rattle.store.specs.Lists.{groupFrom, listed}
 use Rattle.store.specs.Request.{power, abandon, recover}
 use Rattle.store.specs.Causes.{cause}
-use Rattle.store.specs.Simple.{finished, unless}
+use Rattle.store.specs.Outcomes.{completed, unless}
 use Rattle.store.specs.Saves.{carried, emptying, groupOf, appending, recovering, applies, syncing, recoverCall}
-use Rattle.store.proofs.Causes.{Sound, cause-passes, passes-sound, cause-2}
+use Rattle.store.proofs.Causes.{Checked, cause-passes, passes-sound, cause-2}
 use Rattle.store.proofs.Places.{data-lt}
 
 -- ---- orders that the card carried out
@@ -99,7 +99,7 @@ module _ (os : List Order) (done gone : Record) (st : State) where
       go false q f = (leb-false _ _ q, f)
 
 -- a call without orders
-pub carried-none : (done gone : Record) (st : State) → carried [] done gone st ≡ finished (withRecord (withQueue (st .rec .waiting) (st .rec .power) done) st)
+pub carried-none : (done gone : Record) (st : State) → carried [] done gone st ≡ completed (withRecord (withQueue (st .rec .waiting) (st .rec .power) done) st)
 unfolding carried
 carried-none done gone st =
     let none : min 0 (st .rec .power) ≡ 0 = omega arith in
@@ -134,19 +134,19 @@ same-counts os st x y w p = go (leb (length os) (st .rec .power))
 
 -- ---- apply
 
-pub apply-none : (st : State) → st .rec .logged ≡ 0 → finished st ≡ cond (eqb (st .rec .logged) 0) (finished st) (emptying st)
+pub apply-none : (st : State) → st .rec .logged ≡ 0 → completed st ≡ cond (eqb (st .rec .logged) 0) (completed st) (emptying st)
 apply-none st n = rw (eq-eqb _ _ n)
 
-pub apply-some : (st : State) → st .rec .logged ≢ 0 → emptying st ≡ cond (eqb (st .rec .logged) 0) (finished st) (emptying st)
+pub apply-some : (st : State) → st .rec .logged ≢ 0 → emptying st ≡ cond (eqb (st .rec .logged) 0) (completed st) (emptying st)
 apply-some st n = rw (ne-eqb _ _ n)
 
 -- with a log or without, its orders are carried out
-pub apply-carried : (st : State) → cond (eqb (st .rec .logged) 0) (finished st) (emptying st)
+pub apply-carried : (st : State) → cond (eqb (st .rec .logged) 0) (completed st) (emptying st)
     ≡ carried (applyOrders (st .rec .blocks) (st .settled) (st .rec .logged)) (cond (eqb (st .rec .logged) 0) (st .rec) (withLog 0 start (st .rec))) (st .rec) st
 unfolding applyOrders
 apply-carried st = go (eqb (st .rec .logged) 0)
   where
-    go : (t : Bool) → cond t (finished st) (emptying st)
+    go : (t : Bool) → cond t (completed st) (emptying st)
         ≡ carried (cond t [] (checkpointOrders (st .rec .blocks) (entries (st .settled) (st .rec .logged)))) (cond t (st .rec) (withLog 0 start (st .rec))) (st .rec) st
     go true = sym (carried-none (st .rec) (st .rec) st)
     go false = refl
@@ -238,7 +238,7 @@ module _ (st : State) where
 -- ---- recover
 
 -- its cause, once the rows of the record and of the mode have passed
-recover-cause : (st : State) (n : ℕ) → n ≡ cause (power 0) st → n ≡ 0 → st .rec .mode ≢ down → st .rec .mode ≢ opened
+recover-cause : (st : State) (n : ℕ) → n ≡ cause (power 0) st → n ≡ 0 → st .rec .mode ≢ down → st .rec .mode ≢ openMode
     → cause recover st ≡ choiceNumber (choose (st .rec .blocks) (st .settled))
 recover-cause st n e z d o =
     cause-2 recover st n refl refl e ∙ rw (eq-eqb _ _ z, ne-eqb _ _ d, ne-eqb _ _ o) (go (choose (st .rec .blocks) (st .settled)))
@@ -249,7 +249,7 @@ recover-cause st n e z d o =
     go Foreign = refl
     go Neither = refl
 
-pub recover-call : (st : State) (n : ℕ) → n ≡ cause (power 0) st → n ≡ 0 → st .rec .mode ≢ down → st .rec .mode ≢ opened
+pub recover-call : (st : State) (n : ℕ) → n ≡ cause (power 0) st → n ≡ 0 → st .rec .mode ≢ down → st .rec .mode ≢ openMode
     → unless (choiceNumber (choose (st .rec .blocks) (st .settled))) st (recovering (choose (st .rec .blocks) (st .settled)) st) ≡ recoverCall st
 unfolding recoverCall
 recover-call st n e z d o = ap (λ (k : ℕ). unless k st (recovering (choose (st .rec .blocks) (st .settled)) st)) (sym (recover-cause st n e z d o))
@@ -268,7 +268,7 @@ cut-state ms done st q s p d r queue card whole e =
 -- ---- a call that no row refuses
 
 -- nothing waits unless the record is down
-pub idle : (st : State) → Sound st → st .rec .mode ≢ down → st .rec .waiting ≡ 0
+pub idle : (st : State) → Checked st → st .rec .mode ≢ down → st .rec .waiting ≡ 0
 idle st s live = go (ℕ-discrete (st .rec .waiting) 0)
   where
     go : Dec (st .rec .waiting ≡ 0) → st .rec .waiting ≡ 0
@@ -277,8 +277,8 @@ idle st s live = go (ℕ-discrete (st .rec .waiting) 0)
 
 -- what sync and apply may count on: they have the rows of abandon
 pub record Ready (st : State) : Type 0 where
-  pub sound : Sound st
-  pub mode : st .rec .mode ≡ opened
+  pub sound : Checked st
+  pub mode : st .rec .mode ≡ openMode
   pub live : st .rec .mode ≢ down
   pub waiting : st .rec .waiting ≡ 0
   pub homes : (i : ℕ) → i < st .rec .logged → slotAddress (st .settled) i < blocksIn (st .settled)
@@ -288,7 +288,7 @@ ready st n e z =
     let p = cause-passes abandon st n e z in
     let s = passes-sound abandon st n refl e z in
     let live : st .rec .mode ≢ down = eqb-false _ _ (p .not-down) in
-    let mode : st .rec .mode ≡ opened = only (st .rec .mode) (s .counts .mode) (eqb-false _ _ (p .not-closed)) live in
+    let mode : st .rec .mode ≡ openMode = only (st .rec .mode) (s .counts .mode) (eqb-false _ _ (p .not-closed)) live in
     record {
       sound = s;
       mode = mode;
@@ -297,5 +297,5 @@ ready st n e z =
       homes = λ i h. let inside = data-lt (st .rec .blocks) (slotAddress (st .settled) i) (s .lists mode .log-data i h) in omega (arith, s .counts .blocks);
     }
   where
-    only : (m : ℕ) → m ≤ down → m ≢ closed → m ≢ down → m ≡ opened
+    only : (m : ℕ) → m ≤ down → m ≢ closed → m ≢ down → m ≡ openMode
     only m l c d = omega arith

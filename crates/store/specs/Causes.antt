@@ -11,7 +11,7 @@ use Rattle.journal.specs.declared.lookup.Found.the-variants.{At, Absent}
 use Rattle.journal.specs.Layout.{slots, isData, wrongSize}
 use Rattle.journal.specs.Log.{entries, allData}
 use Rattle.journal.specs.Choice.{choose, choiceNumber}
-use Rattle.store.specs.State.{State, closed, opened, down}
+use Rattle.store.specs.State.{State, closed, openMode, down}
 use Rattle.store.specs.Lists.{openFrom, groupFrom, listed, find}
 use Rattle.store.specs.Request.{Request, format, power, put, get, commit, abandon, sync, apply, recover, cut}
 
@@ -90,7 +90,7 @@ wrongLists st =
     || twice (st .work) groupFrom (st .rec .grouped)
 
 abbrev pub wrongRecord : State → Bool
-wrongRecord st = wrongCounts st || wrongWaiting st || (eqb (st .rec .mode) opened && wrongLists st)
+wrongRecord st = wrongCounts st || wrongWaiting st || (eqb (st .rec .mode) openMode && wrongLists st)
 
 -- "Format checks 1 only"
 abbrev pub readsRecord : Request → Bool
@@ -209,7 +209,7 @@ table =
     ∷ record { number = 2; test = λ q st. readsRecord q && wrongRecord st }
     ∷ record { number = 3; test = λ q st. needsOpen q && eqb (st .rec .mode) closed }
     ∷ record { number = 4; test = λ q st. (needsOpen q || isRecover q) && eqb (st .rec .mode) down }
-    ∷ record { number = 5; test = λ q st. isRecover q && eqb (st .rec .mode) opened }
+    ∷ record { number = 5; test = λ q st. isRecover q && eqb (st .rec .mode) openMode }
     ∷ record { number = 6; test = λ q st. strayAddress q st }
     ∷ record { number = 7; test = λ q st. full q st }
     ∷ record { number = 8; test = λ q st. unsound 8 q st }

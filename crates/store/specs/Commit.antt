@@ -8,7 +8,7 @@ use Rattle.store.specs.State.{State, Outcome, withOpened, withGrouped, w
 use Rattle.store.specs.Lists.{openFrom, groupFrom, listed, find}
 use Rattle.store.specs.Request.{commit}
 use Rattle.store.specs.Causes.{cause}
-use Rattle.store.specs.Simple.{finished, unless}
+use Rattle.store.specs.Outcomes.{completed, unless}
 
 -- work memory and how many entries its group has
 pub record Group : Type 0 where
@@ -32,4 +32,4 @@ unfoldable pub commitCall : State → Outcome
 commitCall st =
     let g = joined (st .rec .opened) (record { work = st .work; count = st .rec .grouped }) in
     unless (cause commit st) st
-    (finished (withRecord (withOpened 0 (withGrouped (g .count) (st .rec))) (withWork (g .work) st)))
+    (completed (withRecord (withOpened 0 (withGrouped (g .count) (st .rec))) (withWork (g .work) st)))

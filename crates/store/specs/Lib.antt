@@ -1,10 +1,13 @@
 -- The store: the record, the refusals, the calls.
 pub mod State
-pub mod Held
+pub mod CodeState
 pub mod Lists
 pub mod Request
 pub mod Causes
-pub mod Simple
+pub mod Outcomes
+pub mod Format
+pub mod Power
+pub mod Put
 pub mod Get
 pub mod Commit
 pub mod Saves

@@ -14,11 +14,11 @@ use Rattle.journal.specs.Log.{entries, sumOf}
 use Rattle.journal.specs.Orders.{checkpointOrders, appendOrders, syncOrders}
 use Rattle.journal.specs.Choice.{choose, takenCount, takenSum, recoverOrders}
 use Rattle.store.specs.declared.record.Record.{Record}
-use Rattle.store.specs.State.{State, Outcome, closed, opened, down, withMode, withOpened, withGrouped, withLog, withRecord, cardIn, withCard}
+use Rattle.store.specs.State.{State, Outcome, closed, openMode, down, withMode, withOpened, withGrouped, withLog, withRecord, cardIn, withCard}
 use Rattle.store.specs.Lists.{groupFrom, listOf}
 use Rattle.store.specs.Request.{sync, apply, recover, cut}
 use Rattle.store.specs.Causes.{cause}
-use Rattle.store.specs.Simple.{finished, unless}
+use Rattle.store.specs.Outcomes.{completed, unless}
 
 -- a call that gives the orders os: done with the record `done`, or "the call ends with 4 and the record is down", with `gone`
 unfoldable pub carried : List Order → Record → Record → State → Outcome
@@ -53,7 +53,7 @@ appending st =
 
 -- "Done, the mode is open, open and group are empty, n and sum those of the list taken."
 abbrev pub reopened : ℕ → ℕ → Record → Record
-reopened n sum r = withMode opened (withOpened 0 (withGrouped 0 (withLog n sum r)))
+reopened n sum r = withMode openMode (withOpened 0 (withGrouped 0 (withLog n sum r)))
 
 -- the list of a choice is taken
 abbrev pub recovering : Choice → State → Outcome
@@ -66,8 +66,8 @@ abbrev pub applies : State → Bool
 applies st = not (eqb (st .rec .grouped) 0) && not (leb (st .rec .logged + st .rec .grouped) slots)
 
 -- the record's n and sum as the sync's own part meets them
-abbrev pub synced : State → Record
-synced st = cond (applies st) (withLog 0 start (st .rec)) (st .rec)
+abbrev pub metByAppend : State → Record
+metByAppend st = cond (applies st) (withLog 0 start (st .rec)) (st .rec)
 
 -- the orders of the apply inside
 abbrev pub innerOrders : State → List Order
@@ -77,7 +77,7 @@ innerOrders st = cond (applies st) (checkpointOrders (st .rec .blocks) (entries 
 -- call, or as a sync's apply left them if all that apply's orders happened"
 abbrev pub syncing : State → Outcome
 syncing st =
-    let r = synced st in
+    let r = metByAppend st in
     carried (syncOrders (st .rec .blocks) (st .settled) (st .rec .logged) (st .rec .sum) (groupOf st))
     (withGrouped 0 (withLog (r .logged + st .rec .grouped) (sumOf (r .sum) (groupOf st)) r))
     (cond (leb (length (innerOrders st)) (st .rec .power)) r (st .rec))
@@ -90,7 +90,7 @@ syncCall st = unless (cause sync st) st (syncing st)
 
 -- "n = 0: done, no orders."
 unfoldable pub applyCall : State → Outcome
-applyCall st = unless (cause apply st) st (cond (eqb (st .rec .logged) 0) (finished st) (emptying st))
+applyCall st = unless (cause apply st) st (cond (eqb (st .rec .logged) 0) (completed st) (emptying st))
 
 -- ---- recover
 
@@ -103,4 +103,4 @@ recoverCall st = unless (cause recover st) st (recovering (choose (st .rec .bloc
 unfoldable pub cutCall : List ℕ → State → Outcome
 cutCall marks st =
     unless (cause (cut marks) st) st
-    (finished (withCard (Card.cut marks (cardIn st)) (withRecord (withMode closed (withOpened 0 (withGrouped 0 (withLog 0 start (st .rec))))) st)))
+    (completed (withCard (Card.cut marks (cardIn st)) (withRecord (withMode closed (withOpened 0 (withGrouped 0 (withLog 0 start (st .rec))))) st)))

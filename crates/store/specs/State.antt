@@ -8,8 +8,8 @@ use Rattle.store.specs.declared.record.Record.{Record}
 abbrev pub closed : ℕ
 closed = 0
 
-abbrev pub opened : ℕ
-opened = 1
+abbrev pub openMode : ℕ
+openMode = 1
 
 abbrev pub down : ℕ
 down = 2

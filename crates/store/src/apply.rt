@@ -9,7 +9,7 @@ ghost use lib.ListN.{length};
 ghost use Rattle.card.specs.Card.{blocksIn};
 ghost use Rattle.journal.specs.Layout.{slots, firstData};
 ghost use Rattle.journal.specs.Log.{slotAddress};
-ghost use Rattle.store.specs.Held.{stateOf, outcomeOf};
+ghost use Rattle.store.specs.CodeState.{stateOf, outcomeOf};
 ghost use Rattle.store.specs.Causes.{waitingBytes};
 ghost use Rattle.store.specs.Saves.{emptying, applyCall};
 

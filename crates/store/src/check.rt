@@ -7,7 +7,7 @@ use crate::lists::address;
 use crate::lists::holds;
 use crate::record::CLOSED;
 use crate::record::DOWN;
-use crate::record::OPENED;
+use crate::record::OPEN_MODE;
 use crate::record::Record;
 use card::PLACES;
 use card::settled::blocks_in;
@@ -23,7 +23,7 @@ ghost use Rattle.cells.specs.Entry.{entryBytes};
 ghost use Rattle.card.specs.Card.{blocksIn};
 ghost use Rattle.journal.specs.Layout.{slots, firstData};
 ghost use Rattle.store.specs.declared.record.Record as Declared;
-ghost use Rattle.store.specs.Held.{stateOf};
+ghost use Rattle.store.specs.CodeState.{stateOf};
 ghost use Rattle.store.specs.Request as Request;
 ghost use Rattle.store.specs.Causes as Causes;
 ghost use Rattle.store.specs.Causes.{cause, workBytes};
@@ -147,7 +147,7 @@ impl Record {
         if self.wrong_waiting(waiting) {
             return 2;
         }
-        if self.mode != OPENED {
+        if self.mode != OPEN_MODE {
             return 0;
         }
         if self.wrong_lists(settled, work) {

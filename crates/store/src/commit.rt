@@ -14,7 +14,7 @@ ghost use Prim.Native.Nat.{_+_, _≤_, _<_};
 ghost use lib.ListN.{length};
 ghost use Rattle.journal.specs.Layout.{slots};
 ghost use Rattle.journal.specs.declared.lookup.Found.the-variants.{Absent};
-ghost use Rattle.store.specs.Held.{stateOf, outcomeOf};
+ghost use Rattle.store.specs.CodeState.{stateOf, outcomeOf};
 ghost use Rattle.store.specs.Lists as Lists;
 ghost use Rattle.store.specs.Lists.{openFrom, groupFrom, listed};
 ghost use Rattle.store.specs.Request as Request;

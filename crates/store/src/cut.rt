@@ -5,7 +5,7 @@ use crate::record::Record;
 ghost use mathlib.Core.Path.{_≡_};
 ghost use Rattle.fnv.specs.Fnv.{start};
 ghost use Rattle.store.specs.State.{closed, withMode, withOpened, withGrouped, withLog};
-ghost use Rattle.store.specs.Held.{stateOf, outcomeOf};
+ghost use Rattle.store.specs.CodeState.{stateOf, outcomeOf};
 ghost use Rattle.store.specs.Request as Request;
 ghost use Rattle.store.specs.Causes.{overOne, cause};
 ghost use Rattle.store.specs.Saves.{cutCall};

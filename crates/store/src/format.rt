@@ -16,8 +16,8 @@ ghost use Rattle.cells.specs.Entry.{blockBytes};
 ghost use Rattle.card.specs.Card.{blocksIn};
 ghost use Rattle.journal.specs.Layout.{headerAt};
 ghost use Rattle.journal.specs.Header.{encode, emptyHeader};
-ghost use Rattle.store.specs.Held.{stateOf, outcomeOf};
-ghost use Rattle.store.specs.Simple.{formatCall};
+ghost use Rattle.store.specs.CodeState.{stateOf, outcomeOf};
+ghost use Rattle.store.specs.Format.{formatCall};
 
 impl Record {
     // format: zeros everywhere, an empty log's header, and a fresh record. What the old record holds plays no part.

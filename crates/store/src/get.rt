@@ -21,7 +21,7 @@ ghost use lib.ListN.{length};
 ghost use Rattle.cells.specs.Part.{viewOf};
 ghost use Rattle.card.specs.Card.{blocksIn};
 ghost use Rattle.journal.specs.Layout.{slots, firstData};
-ghost use Rattle.store.specs.Held.{stateOf, Within};
+ghost use Rattle.store.specs.CodeState.{stateOf, HoldsBlock};
 ghost use Rattle.store.specs.Request as Request;
 ghost use Rattle.store.specs.Causes.{cause, workBytes};
 ghost use Rattle.store.specs.Get as Get;
@@ -91,7 +91,7 @@ impl Record {
 
 // The block at a place: through the card, or an entry's. Nowhere is no bytes, at the front of the settled ones.
 fn part<'a>(place: Place, settled: &'a [u8], work: &'a [u8]) -> &'a [u8]
-    requires { ⌜ Within place (now settled) (now work) ⌝ }
+    requires { ⌜ HoldsBlock place (now settled) (now work) ⌝ }
     ensures { λ r. ⌜ viewOf r ≡ partAt place (settled .entry) (work .entry) ⌝ }
 {
     match place {

@@ -3,8 +3,8 @@ use crate::record::Answer;
 use crate::record::Record;
 use card::queue::Queue;
 ghost use mathlib.Core.Path.{_≡_};
-ghost use Rattle.store.specs.Held.{stateOf, outcomeOf};
-ghost use Rattle.store.specs.Simple.{powerCall};
+ghost use Rattle.store.specs.CodeState.{stateOf, outcomeOf};
+ghost use Rattle.store.specs.Power.{powerCall};
 
 impl Record {
     pub fn power(self, settled: &[u8], waiting: &[u8], work: &[u8], count: u32) -> Answer

@@ -16,12 +16,12 @@ ghost use lib.ListN.{length};
 ghost use Rattle.cells.specs.Entry.{blockBytes, entryBytes};
 ghost use Rattle.journal.specs.Layout.{slots};
 ghost use Rattle.journal.specs.declared.lookup.Found.the-variants.{Absent};
-ghost use Rattle.store.specs.Held.{stateOf, outcomeOf};
+ghost use Rattle.store.specs.CodeState.{stateOf, outcomeOf};
 ghost use Rattle.store.specs.Lists as Lists;
 ghost use Rattle.store.specs.Lists.{openFrom};
 ghost use Rattle.store.specs.Request as Request;
 ghost use Rattle.store.specs.Causes.{cause};
-ghost use Rattle.store.specs.Simple.{putAt, putCall, abandonCall};
+ghost use Rattle.store.specs.Put.{putAt, putCall, abandonCall};
 
 impl Record {
     // put: replaces the open entry of that address or adds one at the end.

@@ -2,12 +2,12 @@
 use card::queue::Queue;
 ghost use mathlib.Core.Path.{_≡_};
 ghost use Rattle.store.specs.State.{withMode, withOpened, withGrouped, withLog, withQueue};
-ghost use Rattle.store.specs.Held.{fresh};
+ghost use Rattle.store.specs.CodeState.{fresh};
 
 // The modes.
 pub const CLOSED: u32 = 0;
 
-pub const OPENED: u32 = 1;
+pub const OPEN_MODE: u32 = 1;
 
 pub const DOWN: u32 = 2;
 
@@ -37,7 +37,7 @@ impl Record {
         ensures { λ r. ⌜ r ≡ fresh blocks ⌝ }
     {
         Record {
-            mode: OPENED,
+            mode: OPEN_MODE,
             blocks,
             opened: 0,
             grouped: 0,

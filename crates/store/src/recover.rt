@@ -1,6 +1,6 @@
 // recover: a closed record is opened with the log that the card holds.
 use crate::record::DOWN;
-use crate::record::OPENED;
+use crate::record::OPEN_MODE;
 use crate::record::Record;
 use crate::saved::Saved;
 use journal::checkpoint::fallback;
@@ -13,9 +13,9 @@ ghost use lib.ListN.{length};
 ghost use Rattle.card.specs.Card.{blocksIn};
 ghost use Rattle.journal.specs.Layout.{firstData};
 ghost use Rattle.journal.specs.Choice.{choiceNumber};
-ghost use Rattle.store.specs.Held.{stateOf, outcomeOf};
+ghost use Rattle.store.specs.CodeState.{stateOf, outcomeOf};
 ghost use Rattle.store.specs.Causes.{waitingBytes};
-ghost use Rattle.store.specs.Simple.{unless};
+ghost use Rattle.store.specs.Outcomes.{unless};
 ghost use Rattle.store.specs.Saves as Saves;
 ghost use Rattle.store.specs.Saves.{recovering, recoverCall};
 
@@ -30,7 +30,7 @@ impl Record {
         if self.mode == DOWN {
             return self.refused(4);
         }
-        if self.mode == OPENED {
+        if self.mode == OPEN_MODE {
             return self.refused(5);
         }
         let choice = choose(settled, self.blocks);
@@ -62,6 +62,6 @@ impl Record {
         self.with_log(n, sum)
             .with_grouped(0)
             .with_opened(0)
-            .with_mode(OPENED)
+            .with_mode(OPEN_MODE)
     }
 }

@@ -14,8 +14,8 @@ ghost use lib.ListN.{length};
 ghost use Rattle.card.specs.Card.{blocksIn};
 ghost use Rattle.journal.specs.Layout.{slots, firstData};
 ghost use Rattle.journal.specs.Log.{slotAddress};
-ghost use Rattle.store.specs.State.{opened};
-ghost use Rattle.store.specs.Held.{stateOf, outcomeOf};
+ghost use Rattle.store.specs.State.{openMode};
+ghost use Rattle.store.specs.CodeState.{stateOf, outcomeOf};
 ghost use Rattle.store.specs.Causes.{waitingBytes, workBytes};
 ghost use Rattle.store.specs.Saves.{appending, syncing, syncCall};
 
@@ -33,7 +33,7 @@ impl Record {
     // Its orders: none for an empty group; an apply first where the log has no room.
     fn synced(self, settled: &mut [u8], waiting: &mut [u8], work: &[u8]) -> Record
         requires { ⌜ firstData < blocksIn (now settled) ⌝ }
-        requires { ⌜ (self .mode ≡ opened) × (self .waiting ≡ 0) ⌝ }
+        requires { ⌜ (self .mode ≡ openMode) × (self .waiting ≡ 0) ⌝ }
         requires { ⌜ (self .grouped ≤ slots) × (self .logged ≤ slots) ⌝ }
         requires { ⌜ ((i : ℕ) → i < self .logged → slotAddress (now settled) i < blocksIn (now settled)) ⌝ }
         requires { ⌜ (waitingBytes ≤ length (now waiting)) × (workBytes ≤ length (now work)) ⌝ }

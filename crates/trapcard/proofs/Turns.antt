@@ -14,7 +14,7 @@ use Rattle.store.specs.Causes.{waitingBytes, workBytes}
 use Rattle.script.specs.declared.session.Session.{Session as Held}
 use Rattle.script.specs.Transcript.{beginning}
 use Rattle.script.specs.Steps.{Session, Step, fed, fresh}
-use Rattle.script.specs.Held.{sessionOf}
+use Rattle.script.specs.CodeSession.{sessionOf}
 use Rattle.script.proofs.Sessions.{fed-append}
 use Rattle.trapcard.specs.Turns.{goesOn, atEnd, mostReads, Stops}
 

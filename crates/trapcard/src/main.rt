@@ -23,7 +23,7 @@ ghost use mathlib.Core.List.{List};
 ghost use Prim.Native.Nat.{ℕ};
 ghost use lib.ListN.{take};
 ghost use Rattle.script.specs.Steps.{fresh, fed, finish};
-ghost use Rattle.script.specs.Held.{sessionOf};
+ghost use Rattle.script.specs.CodeSession.{sessionOf};
 ghost use Rattle.trapcard.specs.Turns.{output, goesOn, atEnd, Stops};
 
 // Reads until the input ends or something fails. What has been fed is some input, from the first byte on.

@@ -15,7 +15,7 @@ ghost use Prim.Native.Nat.{_+_, _<_};
 ghost use lib.ListN.{take};
 ghost use Rattle.io.specs.Counts.{clamped};
 ghost use Rattle.script.specs.Steps.{fedBytes, fed};
-ghost use Rattle.script.specs.Held.{sessionOf, stepOf};
+ghost use Rattle.script.specs.CodeSession.{sessionOf, stepOf};
 ghost use Rattle.trapcard.specs.Turns.{input, output, goesOn, mostReads};
 
 // The reads of a run, at the most: a run has to end, and nothing says that its input does.

@@ -8,7 +8,7 @@ use lib.Dec.{lit<}
 use lib.ListN.{take}
 use Rattle.io.specs.Counts.{clamped}
 use Rattle.script.specs.Steps.{fedBytes, fed}
-use Rattle.script.specs.Held.{sessionOf}
+use Rattle.script.specs.CodeSession.{sessionOf}
 use Rattle.trapcard.specs.Turns.{mostReads}
 use Rattle.trapcard.proofs.Turns.{stops-done, stops-long, fed-on}
 use Rattle.trapcard.proofs.read_all.Statement.{statement}

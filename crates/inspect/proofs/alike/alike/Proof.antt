@@ -1,16 +1,16 @@
 -- `inspect::alike::alike` meets its contract.
 use native.Mathlib.Omega.{arith}
 use borrow.Author.Needs.{needs}
-use Rattle.inspect.proofs.Readings.{Taken, read-taken}
+use Rattle.inspect.proofs.Readings.{TakenList, read-taken}
 use Rattle.inspect.proofs.Comparisons.{alike-first, alike-second, alike-blocks, alike-data}
 use Rattle.inspect.proofs.alike.alike.Statement.{statement}
 use Rattle.inspect.proofs.alike.alike.Tie as tie
 
 -- the first card is taken, and the second
-taken-a : (c : tie.Else1) → Taken (c .before .before .before .before .before .args .a .now) (c .before .before .inspect .result)
+taken-a : (c : tie.Else1) → TakenList (c .before .before .before .before .before .args .a .now) (c .before .before .inspect .result)
 taken-a c = read-taken _ _ (c .before .before .inspect .ensures) (c .if1 .left)
 
-taken-b : (c : tie.Else2) → Taken (c .before .before .before .before .before .before .before .before .args .b .now) (c .before .before .inspect2 .result)
+taken-b : (c : tie.Else2) → TakenList (c .before .before .before .before .before .before .before .before .args .b .now) (c .before .before .inspect2 .result)
 taken-b c = read-taken _ _ (c .before .before .inspect2 .ensures) (c .if2 .left)
 
 inspect-requires : tie.Need-inspect-requires

@@ -1,12 +1,12 @@
 -- `inspect::tally::tally` meets its contract.
 use native.Mathlib.Omega.{arith}
 use borrow.Author.Needs.{needs}
-use Rattle.inspect.proofs.Readings.{Taken, read-taken}
+use Rattle.inspect.proofs.Readings.{TakenList, read-taken}
 use Rattle.inspect.proofs.Sums.{tally-refused, tally-done}
 use Rattle.inspect.proofs.tally.tally.Statement.{statement}
 use Rattle.inspect.proofs.tally.tally.Tie as tie
 
-taken : (c : tie.Else1) → Taken (c .before .before .before .before .args .settled .now) (c .before .before .inspect .result)
+taken : (c : tie.Else1) → TakenList (c .before .before .before .before .args .settled .now) (c .before .before .inspect .result)
 taken c = read-taken _ _ (c .before .before .inspect .ensures) (c .if1 .left)
 
 inspect-requires : tie.Need-inspect-requires

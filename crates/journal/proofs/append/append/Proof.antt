@@ -9,7 +9,7 @@ use lib.Dec.{lit<}
 use lib.ListN.{length, length-append}
 use Rattle.cells.specs.Entry.{blockBytes, Entry}
 use Rattle.card.specs.Card.{Order, write, flush, run, blockAt, blocksIn}
-use Rattle.card.specs.Held.{cardOf}
+use Rattle.card.specs.CodeQueue.{cardOf}
 use Rattle.journal.specs.declared.append.Log.{Log}
 use Rattle.journal.specs.declared.header.Header.{Header}
 use Rattle.journal.specs.Layout.{descriptorAt}

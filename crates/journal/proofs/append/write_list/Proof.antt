@@ -7,7 +7,7 @@ use borrow.Author.Tests.{not-true, not-false}
 use borrow.Author.Needs.{needs}
 use lib.ListN.{length}
 use Rattle.card.specs.Card.{run, blockAt, write}
-use Rattle.card.specs.Held.{cardOf}
+use Rattle.card.specs.CodeQueue.{cardOf}
 use Rattle.journal.specs.Orders.{slotWrites, describe}
 use Rattle.journal.specs.Layout.{descriptorAt}
 use Rattle.journal.specs.Log.{entriesFrom}

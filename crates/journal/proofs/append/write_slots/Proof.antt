@@ -11,7 +11,7 @@ use Rattle.cells.specs.Entry.{Entry, entryAt}
 use Rattle.cells.specs.Entry.Laws.{entry-eq, length-block}
 use Rattle.journal.proofs.Logs.{listed-block}
 use Rattle.journal.proofs.OrderLists.{slotBlock, slotWrites-upTo}
-use Rattle.journal.proofs.Phases.{Written, rowed-orders, written-none, written-more, written-stop, written-all}
+use Rattle.journal.proofs.Phases.{WrittenSoFar, rowed-orders, written-none, written-more, written-stop, written-all}
 use Rattle.journal.proofs.append.write_slots.Statement.{statement}
 use Rattle.journal.proofs.append.write_slots.Tie as tie
 
@@ -20,7 +20,7 @@ abbrev row : List ℕ → ℕ → ℕ → ℕ → Entry
 row work n from k = slotBlock (n + k) (entryAt work (from + k))
 
 abbrev Inv-loop : tie.InvT-loop
-Inv-loop waiting₀ work group n from q₀ i₀ waiting q i = (i ≤ group .count) × Written (row work n from) i waiting₀ q₀ waiting q
+Inv-loop waiting₀ work group n from q₀ i₀ waiting q i = (i ≤ group .count) × WrittenSoFar (row work n from) i waiting₀ q₀ waiting q
 
 abbrev μ-loop : tie.MeasureT-loop
 μ-loop waiting₀ work group n from q₀ i₀ waiting q i = group .count - i

@@ -9,7 +9,7 @@ use lib.Dec.{leb}
 use lib.ListN.{length, length-append, length-map}
 use Rattle.cells.specs.Upto.Laws.{length-upTo}
 use Rattle.card.specs.Card.{Order, write, flush, run, blocksIn}
-use Rattle.card.specs.Held.{cardOf}
+use Rattle.card.specs.CodeQueue.{cardOf}
 use Rattle.card.proofs.Runs.{writes-below}
 use Rattle.journal.specs.declared.header.Header.{Header}
 use Rattle.journal.specs.Header.{emptyHeader}

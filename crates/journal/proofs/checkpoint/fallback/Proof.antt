@@ -3,7 +3,7 @@ use mathlib.Core.Path.{ap, _∙_}
 use mathlib.Core.List.{[], _∷_}
 use borrow.Author.Needs.{needs}
 use Rattle.card.specs.Card.{run, flush}
-use Rattle.card.specs.Held.{cardOf}
+use Rattle.card.specs.CodeQueue.{cardOf}
 use Rattle.journal.specs.declared.header.Header.{Header}
 use Rattle.journal.specs.Orders.{headerWrite, fallbackOrders}
 use Rattle.journal.proofs.checkpoint.fallback.Statement.{statement}

@@ -8,12 +8,12 @@ use Rattle.cells.specs.Entry.{Entry}
 use Rattle.journal.specs.Layout.{slotAt}
 use Rattle.journal.specs.Log.{slotEntry}
 use Rattle.journal.proofs.Logs.{length-blockAt, block-read, slot-entry}
-use Rattle.journal.proofs.Phases.{Written, written-none, written-more, written-stop, written-all}
+use Rattle.journal.proofs.Phases.{WrittenSoFar, written-none, written-more, written-stop, written-all}
 use Rattle.journal.proofs.checkpoint.write_homes.Statement.{statement}
 use Rattle.journal.proofs.checkpoint.write_homes.Tie as tie
 
 abbrev Inv-loop : tie.InvT-loop
-Inv-loop settled waiting₀ n q₀ i₀ waiting q i = (i ≤ n) × Written (slotEntry settled) i waiting₀ q₀ waiting q
+Inv-loop settled waiting₀ n q₀ i₀ waiting q i = (i ≤ n) × WrittenSoFar (slotEntry settled) i waiting₀ q₀ waiting q
 
 abbrev μ-loop : tie.MeasureT-loop
 μ-loop settled waiting₀ n q₀ i₀ waiting q i = n - i

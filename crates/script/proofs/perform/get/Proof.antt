@@ -1,7 +1,7 @@
 -- `script::perform::get` meets its contract.
 use mathlib.Core.Path.{refl}
 use borrow.Author.Needs.{needs}
-use Rattle.store.specs.Held.{stateOf}
+use Rattle.store.specs.CodeState.{stateOf}
 use Rattle.script.proofs.Replies.{got-done}
 use Rattle.script.proofs.perform.get.Statement.{statement}
 use Rattle.script.proofs.perform.get.Tie as tie

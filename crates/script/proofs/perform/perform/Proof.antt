@@ -1,7 +1,7 @@
 -- `script::perform::perform` meets its contract.
 use mathlib.Core.Path.{ap}
 use borrow.Author.Needs.{needs}
-use Rattle.script.specs.Performs.{called, saved, perform}
+use Rattle.script.specs.Replies.{called, saved, perform}
 use Rattle.script.proofs.perform.perform.Statement.{statement}
 use Rattle.script.proofs.perform.perform.Tie as tie
 

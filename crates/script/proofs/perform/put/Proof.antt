@@ -1,7 +1,7 @@
 -- `script::perform::put` meets its contract.
 use mathlib.Core.Path.{ap}
 use borrow.Author.Needs.{needs}
-use Rattle.script.specs.Performs.{called}
+use Rattle.script.specs.Replies.{called}
 use Rattle.script.proofs.perform.put.Statement.{statement}
 use Rattle.script.proofs.perform.put.Tie as tie
 

@@ -4,7 +4,7 @@ use mathlib.Core.Path.{_≡_, refl, sym, _∙_}
 use mathlib.Core.List.{_++_}
 use native.Mathlib.Omega.{arith}
 use lib.ListN.{length, take, drop, length-set}
-use Rattle.script.specs.Performs.{values}
+use Rattle.script.specs.Replies.{values}
 use Rattle.script.proofs.Replies.{marks-turn, marks-over}
 use Rattle.script.proofs.perform.read_marks.Statement.{statement}
 use Rattle.script.proofs.perform.read_marks.Tie as tie

@@ -3,16 +3,16 @@ use Prim.Native.Nat.{_+_, _*_, _/_}
 use mathlib.Core.Path.{_≡_, _∙_}
 use native.Mathlib.Omega.{arith}
 use Rattle.store.specs.declared.place.Place.the-variants.{Settled, Work}
-use Rattle.store.specs.Held.{Within}
+use Rattle.store.specs.CodeState.{HoldsBlock}
 use borrow.Author.Needs.{needs}
 use Rattle.store.proofs.get.part.Statement.{statement}
 use Rattle.store.proofs.get.part.Tie as tie
 
 -- what is required of each place
-in-settled : (c : tie.After-place) → let a = c .before .before .before .before .args in Within (Settled (c .place .given .0 .0)) (a .settled .now) (a .work .now)
+in-settled : (c : tie.After-place) → let a = c .before .before .before .before .args in HoldsBlock (Settled (c .place .given .0 .0)) (a .settled .now) (a .work .now)
 in-settled c = rw (c .place .given .1) at (c .before .before .before .before .pre)
 
-in-work : (c : tie.After-place2) → let a = c .before .before .before .before .args in Within (Work (c .place2 .given .0 .0)) (a .settled .now) (a .work .now)
+in-work : (c : tie.After-place2) → let a = c .before .before .before .before .args in HoldsBlock (Work (c .place2 .given .0 .0)) (a .settled .now) (a .work .now)
 in-work c = rw (c .place2 .given .1) at (c .before .before .before .before .pre)
 
 enum-known-place : tie.Need-enum-known-place

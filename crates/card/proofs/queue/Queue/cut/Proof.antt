@@ -5,7 +5,7 @@ use mathlib.Core.List.{List}
 use native.Mathlib.Omega.{arith}
 use lib.ListN.{length}
 use Rattle.card.specs.Card.{queue, cut}
-use Rattle.card.specs.Held.{cardOf}
+use Rattle.card.specs.CodeQueue.{cardOf}
 use borrow.Author.Needs.{needs}
 use Rattle.card.proofs.queue.Queue.cut.Statement.{statement}
 use Rattle.card.proofs.queue.Queue.cut.Tie as tie

@@ -5,7 +5,7 @@ use mathlib.Core.List.{[], _∷_}
 use native.Mathlib.Omega.{arith}
 use borrow.Author.Tests.{lt-ltb, le-ltb}
 use Rattle.card.specs.Card.{flush, queue, order}
-use Rattle.card.specs.Held.{cardOf}
+use Rattle.card.specs.CodeQueue.{cardOf}
 use Rattle.card.proofs.Runs.{run-dead, run-one}
 use borrow.Author.Needs.{needs}
 use Rattle.card.proofs.queue.Queue.flush.Statement.{statement}

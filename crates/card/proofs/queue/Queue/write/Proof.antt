@@ -6,7 +6,7 @@ use native.Mathlib.Omega.{arith}
 use borrow.Author.Tests.{lt-ltb, le-ltb}
 use Rattle.cells.specs.Entry.{Entry}
 use Rattle.card.specs.Card.{write, order}
-use Rattle.card.specs.Held.{cardOf}
+use Rattle.card.specs.CodeQueue.{cardOf}
 use Rattle.card.proofs.Runs.{run-dead, run-one}
 use borrow.Author.Needs.{needs}
 use Rattle.card.proofs.queue.Queue.write.Statement.{statement}

@@ -8,7 +8,7 @@ use borrow.Author.Tests.{not-true, not-false}
 use borrow.Author.Needs.{needs}
 use lib.Dec.{lit<}
 use Rattle.card.specs.Card.{write, flush, run, blocksIn}
-use Rattle.card.specs.Held.{cardOf}
+use Rattle.card.specs.CodeQueue.{cardOf}
 use Rattle.journal.proofs.Headers.{length-encode}
 use Rattle.journal.proofs.OrderLists.{headerEntry}
 use Rattle.journal.proofs.Phases.{stopped, resumed, write-below}

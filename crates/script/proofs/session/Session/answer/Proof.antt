@@ -5,8 +5,8 @@ use native.Mathlib.Omega.{arith}
 use borrow.Author.Needs.{needs}
 use lib.ListN.{length, take}
 use lib.Seq.{length-take-le}
-use Rattle.store.specs.Held.{stateOf}
-use Rattle.script.specs.Held.{replyOf}
+use Rattle.store.specs.CodeState.{stateOf}
+use Rattle.script.specs.CodeSession.{replyOf}
 use Rattle.script.proofs.Sessions.{answered-step}
 use Rattle.script.proofs.session.Session.answer.Statement.{statement}
 use Rattle.script.proofs.session.Session.answer.Tie as tie

@@ -4,11 +4,11 @@ use mathlib.Core.Path.{_≡_, ap, _∙_}
 use native.Mathlib.Omega.{arith}
 use borrow.Author.Needs.{needs}
 use lib.ListN.{length, take}
-use Rattle.store.specs.Held.{stateOf}
+use Rattle.store.specs.CodeState.{stateOf}
 use Rattle.script.specs.declared.session.Session.{Session}
 use Rattle.script.specs.Commands.{keptBytes}
 use Rattle.script.specs.Steps.{fedBytes, fed}
-use Rattle.script.specs.Held.{sessionOf}
+use Rattle.script.specs.CodeSession.{sessionOf}
 use Rattle.script.proofs.Sessions.{fed-within}
 use Rattle.script.proofs.session.Session.feed.Statement.{statement}
 use Rattle.script.proofs.session.Session.feed.Tie as tie

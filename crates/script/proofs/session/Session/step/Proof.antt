@@ -2,7 +2,7 @@
 use native.Mathlib.Omega.{arith}
 use borrow.Author.Needs.{needs}
 use lib.ListN.{take}
-use Rattle.store.specs.Held.{stateOf}
+use Rattle.store.specs.CodeState.{stateOf}
 use Rattle.script.proofs.Sessions.{feed-lf, feed-byte}
 use Rattle.script.proofs.session.Session.step.Statement.{statement}
 use Rattle.script.proofs.session.Session.step.Tie as tie

@@ -7,7 +7,7 @@ use Rattle.journal.specs.Orders.{appendOrders}
 use Rattle.journal.specs.Log.{sumOf}
 use Rattle.journal.proofs.OrderLists.{length-append-orders}
 use Rattle.store.specs.State.{withGrouped, withLog}
-use Rattle.store.specs.Held.{stateOf}
+use Rattle.store.specs.CodeState.{stateOf}
 use Rattle.store.specs.Saves.{groupOf}
 use Rattle.store.proofs.Saves.{given, group-size}
 use borrow.Author.Needs.{needs}

@@ -3,7 +3,7 @@ use mathlib.Core.Path.{ap, sym, _∙_}
 use mathlib.Core.List.{[]}
 use native.Mathlib.Omega.{arith}
 use Rattle.store.specs.State.{State, Outcome}
-use Rattle.store.specs.Held.{stateOf}
+use Rattle.store.specs.CodeState.{stateOf}
 use Rattle.store.specs.Saves.{applyCall}
 use Rattle.store.proofs.Calls.{call-refused, call-done}
 use Rattle.store.proofs.Saves.{Ready, ready, carried-power, carried-ends, carried-none, apply-none, apply-some}

@@ -4,7 +4,7 @@ use mathlib.Core.Bool.{false}
 use native.Mathlib.Omega.{arith}
 use borrow.Author.Tests.{eq-eqb, ne-eqb}
 use Rattle.store.specs.State.{State}
-use Rattle.store.specs.Held.{stateOf}
+use Rattle.store.specs.CodeState.{stateOf}
 use Rattle.store.specs.Causes.{wrongSizes, wrongCounts, wrongWaiting}
 use Rattle.store.proofs.Causes.{sizes-facts, counts-facts}
 use borrow.Author.Needs.{needs}

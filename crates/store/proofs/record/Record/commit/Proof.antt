@@ -3,10 +3,10 @@ use mathlib.Core.Path.{refl, ap, _∙_}
 use native.Mathlib.Omega.{arith}
 use borrow.Author.Tests.{ltb-false}
 use Rattle.store.specs.State.{withOpened, withGrouped, withRecord, withWork}
-use Rattle.store.specs.Held.{stateOf}
+use Rattle.store.specs.CodeState.{stateOf}
 use Rattle.store.specs.Request.{commit}
 use Rattle.store.specs.Causes.{cause}
-use Rattle.store.specs.Simple.{finished}
+use Rattle.store.specs.Outcomes.{completed}
 use Rattle.store.specs.Commit.{Group, commitCall}
 use Rattle.store.proofs.Calls.{call-refused, call-done}
 use Rattle.store.proofs.Causes.{cause-passes, passes-sound}
@@ -54,7 +54,7 @@ returns-2 c =
     let a = c .before .before .before .before .before .before .before .before .before .before .before .before .before .args in
     let st = stateOf (a .self) (a .settled .now) (a .waiting .now) (a .work .now) in
     rw (c .answer2 .ensures, c .before .with-opened .ensures, c .before .before .with-grouped .ensures)
-    (ap (λ (g : Group). finished (withRecord (withOpened 0 (withGrouped (g .count) (a .self))) (withWork (g .work) st))) (c .before .before .before .before .before .join-all .ensures)
+    (ap (λ (g : Group). completed (withRecord (withOpened 0 (withGrouped (g .count) (a .self))) (withWork (g .work) st))) (c .before .before .before .before .before .join-all .ensures)
     ∙ call-done _ (cause commit st) st _ (c .before .before .before .before .before .before .before .before .commit-number .ensures) (c .before .before .before .before .before .before .before .if1 .left))
 
 pub commit-spec : {M : Type 1} → statement M

@@ -6,10 +6,10 @@ use borrow.Author.Tests.{eq-eqb, ne-eqb, lt-ltb, le-ltb}
 use lib.Dec.{eqb}
 use lib.ListN.{drop}
 use Rattle.store.specs.State.{State}
-use Rattle.store.specs.Held.{stateOf}
+use Rattle.store.specs.CodeState.{stateOf}
 use Rattle.store.specs.Request.{commit, abandon}
 use Rattle.store.specs.Causes.{newcomers, table, first, cause}
-use Rattle.store.proofs.Causes.{Sound, cause-4, passes-sound}
+use Rattle.store.proofs.Causes.{Checked, cause-4, passes-sound}
 use borrow.Author.Needs.{needs}
 use Rattle.store.proofs.record.Record.commit_number.Statement.{statement}
 use Rattle.store.proofs.record.Record.commit_number.Tie as tie
@@ -21,7 +21,7 @@ given c = stateOf (c .args .self) (c .args .settled .now) (c .args .waiting .now
 table-of : (c : tie.After-not-open) → cause commit (given (c .before .before .before .before)) ≡ cond (eqb (c .not-open .result) 0) (first (drop 4 table) commit (given (c .before .before .before .before))) (c .not-open .result)
 table-of c = cause-4 commit (given (c .before .before .before .before)) (c .not-open .result) refl refl refl (c .not-open .ensures)
 
-checked : (c : tie.Else1) → Sound (given (c .before .before .before .before .before))
+checked : (c : tie.Else1) → Checked (given (c .before .before .before .before .before))
 checked c = passes-sound abandon (given (c .before .before .before .before .before)) (c .before .not-open .result) refl (c .before .not-open .ensures) (c .if1 .left)
 
 not-open-requires : tie.Need-not-open-requires

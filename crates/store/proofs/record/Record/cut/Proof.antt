@@ -6,9 +6,9 @@ use borrow.Author.Tests.{eqb-true, not-false}
 use lib.ListN.{length}
 use Rattle.card.specs.declared.queue.Queue.{Queue}
 use Rattle.store.specs.State.{State}
-use Rattle.store.specs.Held.{stateOf}
+use Rattle.store.specs.CodeState.{stateOf}
 use Rattle.store.specs.Request.{cut}
-use Rattle.store.specs.Simple.{finished}
+use Rattle.store.specs.Outcomes.{completed}
 use Rattle.store.specs.Saves.{cutCall}
 use Rattle.store.proofs.Calls.{call-refused, call-done}
 use Rattle.journal.proofs.Logs.{neither}
@@ -68,7 +68,7 @@ returns-2 c =
     let n = k .before .before .before .before in
     let a = n .before .before .before .before .before .before .args in
     rw (c .answer2 .ensures)
-    (ap finished (cut-state (a .marks .now) _ (given (n .before .before .before .before .before .before)) _ _ (k .cut .result) _ _ (k .before .before .queue .ensures) (k .cut .ensures) (c .before .before .shut .ensures) (c .before .with-queue .ensures))
+    (ap completed (cut-state (a .marks .now) _ (given (n .before .before .before .before .before .before)) _ _ (k .cut .result) _ _ (k .before .before .queue .ensures) (k .cut .ensures) (c .before .before .shut .ensures) (c .before .with-queue .ensures))
     ∙ call-done _ _ _ _ (n .cut-number .ensures) (k .before .before .before .if1 .left))
 
 pub cut-spec : {M : Type 1} → statement M

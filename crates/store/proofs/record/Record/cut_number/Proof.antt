@@ -7,7 +7,7 @@ use borrow.Author.Tests.{eq-eqb, ne-eqb}
 use lib.Dec.{eqb}
 use lib.ListN.{length, drop}
 use Rattle.store.specs.State.{State}
-use Rattle.store.specs.Held.{stateOf}
+use Rattle.store.specs.CodeState.{stateOf}
 use Rattle.store.specs.Request.{cut}
 use Rattle.store.specs.Causes.{table, first, cause}
 use Rattle.store.proofs.Causes.{cause-2}

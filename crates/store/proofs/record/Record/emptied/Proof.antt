@@ -9,7 +9,7 @@ use Rattle.journal.specs.Log.{slotEntry, entries}
 use Rattle.journal.specs.Orders.{checkpointOrders}
 use Rattle.journal.proofs.OrderLists.{length-checkpoint}
 use Rattle.store.specs.State.{withLog}
-use Rattle.store.specs.Held.{stateOf}
+use Rattle.store.specs.CodeState.{stateOf}
 use Rattle.store.proofs.Saves.{given}
 use borrow.Author.Needs.{needs}
 use Rattle.store.proofs.record.Record.emptied.Statement.{statement}

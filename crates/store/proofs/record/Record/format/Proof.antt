@@ -5,10 +5,10 @@ use native.Mathlib.Omega.{arith}
 use lib.ListN.{length, replicate, length-replicate}
 use Rattle.card.specs.Card.{blocksIn}
 use Rattle.store.specs.State.{State}
-use Rattle.store.specs.Held.{stateOf}
+use Rattle.store.specs.CodeState.{stateOf}
 use Rattle.store.specs.Request.{format}
 use Rattle.store.specs.Causes.{wrongSizes, cause}
-use Rattle.store.specs.Simple.{formatted, formatCall}
+use Rattle.store.specs.Format.{formatted, formatCall}
 use Rattle.store.proofs.Calls.{call-refused, call-done}
 use Rattle.store.proofs.Causes.{sizes-facts}
 use borrow.Author.Needs.{needs}

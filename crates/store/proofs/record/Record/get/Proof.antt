@@ -1,5 +1,5 @@
 -- `store::record::Record::get` meets its contract.
-use Rattle.store.specs.Held.{stateOf}
+use Rattle.store.specs.CodeState.{stateOf}
 use Rattle.store.proofs.Places.{get-within}
 use borrow.Author.Needs.{needs}
 use Rattle.store.proofs.record.Record.get.Statement.{statement}

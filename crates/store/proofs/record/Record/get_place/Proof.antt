@@ -2,7 +2,7 @@
 use mathlib.Core.Path.{refl}
 use native.Mathlib.Omega.{arith}
 use borrow.Author.Tests.{eq-eqb, ne-eqb}
-use Rattle.store.specs.Held.{stateOf}
+use Rattle.store.specs.CodeState.{stateOf}
 use Rattle.store.specs.Request.{get}
 use Rattle.store.specs.Get.{getPlace}
 use Rattle.store.proofs.Causes.{passes-sound}

@@ -1,5 +1,5 @@
 -- `store::record::Record::power` meets its contract.
-use Rattle.store.specs.Simple.{powerCall}
+use Rattle.store.specs.Power.{powerCall}
 use Rattle.store.proofs.Calls.{call-refused, call-done}
 use borrow.Author.Needs.{needs}
 use Rattle.store.proofs.record.Record.power.Statement.{statement}

@@ -8,11 +8,12 @@ use lib.Dec.{leb}
 use Rattle.journal.specs.declared.lookup.Found.{Found}
 use Rattle.journal.specs.declared.lookup.Found.the-variants.{Absent}
 use Rattle.journal.specs.Layout.{slots}
-use Rattle.store.specs.Held.{stateOf}
+use Rattle.store.specs.CodeState.{stateOf}
 use Rattle.store.specs.Lists.{openFrom, find}
 use Rattle.store.specs.Request.{put}
 use Rattle.store.specs.Causes.{isFound}
-use Rattle.store.specs.Simple.{finished, putCall}
+use Rattle.store.specs.Outcomes.{completed}
+use Rattle.store.specs.Put.{putCall}
 use Rattle.store.proofs.Calls.{call-refused, call-done}
 use Rattle.store.proofs.Causes.{cause-passes, passes-sound}
 use borrow.Author.Needs.{needs}
@@ -53,7 +54,7 @@ same-length-2 c = search needs
 
 returns-2 : tie.Need-returns-2
 unfolding putCall
-returns-2 c = rw (c .answer2 .ensures) (ap finished (c .before .before .before .put-entry .ensures _ _) ∙ call-done _ _ _ _ (c .before .before .before .before .before .before .put-number .ensures) (c .before .before .before .before .before .if1 .left))
+returns-2 c = rw (c .answer2 .ensures) (ap completed (c .before .before .before .put-entry .ensures _ _) ∙ call-done _ _ _ _ (c .before .before .before .before .before .before .put-number .ensures) (c .before .before .before .before .before .if1 .left))
 
 pub put-spec : {M : Type 1} → statement M
 put-spec =

@@ -10,9 +10,9 @@ use Rattle.journal.specs.declared.choice.Choice.{Choice}
 use Rattle.journal.specs.Choice.{choiceNumber}
 use Rattle.journal.proofs.OrderLists.{length-fallback}
 use Rattle.store.specs.declared.record.Record.{Record}
-use Rattle.store.specs.State.{State, Outcome, opened, down}
-use Rattle.store.specs.Held.{stateOf}
-use Rattle.store.specs.Simple.{unless}
+use Rattle.store.specs.State.{State, Outcome, openMode, down}
+use Rattle.store.specs.CodeState.{stateOf}
+use Rattle.store.specs.Outcomes.{unless}
 use Rattle.store.specs.Saves.{carried, reopened, recovering}
 use Rattle.store.proofs.Saves as Saves
 use Rattle.store.proofs.Saves.{carried-power, carried-ends, carried-none}
@@ -92,7 +92,7 @@ returns c =
     λ k.
     let st = given start k in
     rw (c .saved .ensures)
-    (carried-ends [] (reopened (a .0 .0) (a .0 .1 .0) (st .rec)) (st .rec) st (eqb-false opened down refl) _ _ _ _
+    (carried-ends [] (reopened (a .0 .0) (a .0 .1 .0) (st .rec)) (st .rec) st (eqb-false openMode down refl) _ _ _ _
     (ap (λ (r : Record). stateOf r (st .settled) (st .waiting) k) (c .before .reopened .ensures) ∙ sym (ap (λ (o : Outcome). o .state) (carried-none (reopened (a .0 .0) (a .0 .1 .0) (st .rec)) (st .rec) st)))
     ∙ ap (by st) (sym (a .1)))
 
@@ -107,7 +107,7 @@ returns-2 c =
     let start = c .before .before .before .before .before .before .before .before .before .before .before .before .before .before .before .before in
     λ k.
     rw (c .saved2 .ensures)
-    (carried-ends _ _ _ (given start k) (eqb-false opened down refl) _ _ _ _ (fell (c .before) k)
+    (carried-ends _ _ _ (given start k) (eqb-false openMode down refl) _ _ _ _ (fell (c .before) k)
     ∙ ap (by (given start k)) (sym (c .before .before .before .before .before .before .before .before .before .before .before .before .choice2 .given .1)))
 
 returns-3 : tie.Need-returns-3

@@ -3,8 +3,8 @@ use mathlib.Core.Path.{ap, refl, sym, _∙_}
 use mathlib.Core.Logic.{_≢_}
 use native.Mathlib.Omega.{arith}
 use borrow.Author.Tests.{eqb-false}
-use Rattle.store.specs.State.{State, Outcome, opened, down}
-use Rattle.store.specs.Held.{stateOf}
+use Rattle.store.specs.State.{State, Outcome, openMode, down}
+use Rattle.store.specs.CodeState.{stateOf}
 use Rattle.store.proofs.Saves.{sync-none, sync-room, sync-dead, sync-on, sync-live}
 use borrow.Author.Needs.{needs}
 use Rattle.store.proofs.record.Record.synced.Statement.{statement}
@@ -14,7 +14,7 @@ abbrev given : tie.Start → State
 given c = stateOf (c .args .self) (c .args .settled .now) (c .args .waiting .now) (c .args .work .now)
 
 live : (c : tie.Start) → c .args .self .mode ≢ down
-live c e = eqb-false opened down refl (sym (c .pre .1 .0 .0) ∙ e)
+live c e = eqb-false openMode down refl (sym (c .pre .1 .0 .0) ∙ e)
 
 -- what the apply left
 abbrev left : tie.After-emptied → State

@@ -9,7 +9,7 @@ use Rattle.cells.specs.Entry.{Entry}
 use Rattle.store.specs.State.{State}
 use Rattle.history.specs.Call.{Call, power, put, get, commit, abandon, sync, apply, recover, cut}
 use Rattle.history.specs.Dispatch.{dispatch}
-use Rattle.history.specs.Ledger.{Head, Pending, nothing, waits, Ledger, syncHeads, applyHeads, recoverHeads, noted, resolved, entered}
+use Rattle.history.specs.Ledger.{PlannedHeader, Pending, nothing, waits, Ledger, syncHeaders, applyHeaders, recoverHeaders, noted, resolved, entered}
 
 abbrev pub EvenPending : Pending → Pending → Type 0
 EvenPending nothing nothing = Unit {0}
@@ -39,7 +39,7 @@ pub even-trans : (k l m : Ledger) → Even k l → Even l m → Even k m
 even-trans k l m e f = record { written = e .written ∙ f .written; pending = pending-trans (k .pending) (l .pending) (m .pending) (e .pending) (f .pending) }
 
 -- a call's headers are the same for both
-noted-even : (hs : List Head) (k : ℕ) (l m : Ledger) → Even l m → Even (noted hs k l) (noted hs k m)
+noted-even : (hs : List PlannedHeader) (k : ℕ) (l m : Ledger) → Even l m → Even (noted hs k l) (noted hs k m)
 unfolding noted
 noted-even [] k l m e = e
 noted-even (h ∷ hs) k l m e =
@@ -72,9 +72,9 @@ entered-even (put a b) st l m e = e
 entered-even (get a) st l m e = e
 entered-even commit st l m e = e
 entered-even abandon st l m e = e
-entered-even sync st l m e = noted-even (syncHeads st) (dispatch sync st .orders) l m e
-entered-even apply st l m e = noted-even (applyHeads st) (dispatch apply st .orders) l m e
-entered-even recover st l m e = noted-even (recoverHeads st) (dispatch recover st .orders) l m e
+entered-even sync st l m e = noted-even (syncHeaders st) (dispatch sync st .orders) l m e
+entered-even apply st l m e = noted-even (applyHeaders st) (dispatch apply st .orders) l m e
+entered-even recover st l m e = noted-even (recoverHeaders st) (dispatch recover st .orders) l m e
 entered-even (cut ms) st l m e = go (eqb (dispatch (cut ms) st .answer) 0)
   where
     go : (t : Bool) → Even (cond t (record { written = resolved ms (l .pending) (l .written); pending = nothing }) l) (cond t (record { written = resolved ms (m .pending) (m .written); pending = nothing }) m)

@@ -3,8 +3,8 @@ use Prim.Native.Nat.{ℕ}
 use mathlib.Core.List.{List}
 use lib.ListN.{take}
 use Rattle.store.specs.declared.record.Record.{Record}
-use Rattle.store.specs.Held.{stateOf}
-use Rattle.script.specs.Performs.{Reply}
+use Rattle.store.specs.CodeState.{stateOf}
+use Rattle.script.specs.Replies.{Reply}
 use Rattle.script.specs.Steps.{Session, Step}
 
 abbrev pub replyOf : ℕ → ℕ → Record → List ℕ → List ℕ → List ℕ → Reply

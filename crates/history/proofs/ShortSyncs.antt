@@ -16,7 +16,7 @@ use Rattle.card.specs.Card.{queue}
 use Rattle.journal.specs.Layout.{slots}
 use Rattle.journal.proofs.Choices.{both}
 use Rattle.store.specs.Request as Request
-use Rattle.store.specs.State.{State, Outcome, closed, opened, down, withQueue, withRecord}
+use Rattle.store.specs.State.{State, Outcome, closed, openMode, down, withQueue, withRecord}
 use Rattle.store.specs.Causes.{cause}
 use Rattle.store.specs.Saves.{groupOf}
 use Rattle.history.specs.Call.{Call, requestOf, power, put, get, commit, abandon, sync, apply, recover, cut}
@@ -27,7 +27,7 @@ use Rattle.history.specs.Ledger.{Ledger, entered, inner, sameLog}
 use Rattle.history.specs.History.{World, next, after, storeNext, ledgerNext, foundWritten, acceptedCut}
 use Rattle.history.specs.Statements as S
 use Rattle.history.specs.Statements.{Fate, quiet, decided, Standing, known, undecided, observe, fate, outcome, WholeIsNew, shortSync, noneFinished, allOnes, headed, atCut}
-use Rattle.history.proofs.Leads.{foundIn}
+use Rattle.history.proofs.AfterCut.{foundIn}
 use Rattle.history.proofs.CauseLaws.{cause-passes}
 use Rattle.history.proofs.Relation.{Basics, OpenSim, ClosedSim, DownSim, cutSettled, cutWritten}
 use Rattle.history.proofs.PlainLaws
@@ -38,8 +38,8 @@ use Rattle.history.proofs.ApplyStep.{apply-laid}
 use Rattle.history.proofs.CutStep as CutStep
 use Rattle.history.proofs.RecoverStep.{is-closed}
 use Rattle.history.proofs.SyncStep.{short-whole}
-use Rattle.history.proofs.Induct.{step, next-sim, clean-first}
-use Rattle.history.proofs.Served.{sync-cases}
+use Rattle.history.proofs.ListInduction.{step, next-sim, clean-first}
+use Rattle.history.proofs.PlainAnswers.{sync-cases}
 use Rattle.history.proofs.ReadsBack.{power-served, cut-accepted}
 
 -- ---- when a cut lays the group of a sync cut short
@@ -57,8 +57,8 @@ pub sync-laid : (n m k : ℕ) (F found : Bool) (ms : List ℕ) → k < syncTakes
     → verdict (ofSync k) n m F (headerKept ms (syncWaits n m k)) found .laid ≡ eqb k (innerOf n m + (m + 2)) && eqb (getD ms (m + 1) 0) 1 && found
 sync-laid n m k F found ms h = go (decLe (n + m) slots)
   where
-    calm : n + m ≤ slots → Dec (k ≡ m + 2) → verdict (ofSync k) n m F (headerKept ms (syncWaits n m k)) found .laid ≡ eqb k (innerOf n m + (m + 2)) && eqb (getD ms (m + 1) 0) 1 && found
-    calm f (yes e) =
+    single : n + m ≤ slots → Dec (k ≡ m + 2) → verdict (ofSync k) n m F (headerKept ms (syncWaits n m k)) found .laid ≡ eqb k (innerOf n m + (m + 2)) && eqb (getD ms (m + 1) 0) 1 && found
+    single f (yes e) =
         let w : syncWaits n m k ≡ suc (m + 1) = PlainLaws.sync-waits-plain n m k f ∙ e ∙ (omega arith) in
         ap (λ (v : Verdict). v .laid) (PlainLaws.choose-sync-own k n m F (headerKept ms (syncWaits n m k)) found f e)
         ∙ own-laid n m (headerKept ms (syncWaits n m k)) found
@@ -67,7 +67,7 @@ sync-laid n m k F found ms h = go (decLe (n + m) slots)
       where
         zero-in : n + m ≤ slots → m + 2 ≡ innerOf n m + (m + 2)
         zero-in f = let i : innerOf n m ≡ 0 = rw (PlainLaws.no-apply n m f) in omega arith
-    calm f (no e) =
+    single f (no e) =
         let i : innerOf n m ≡ 0 = rw (PlainLaws.no-apply n m f) in
         ap (λ (v : Verdict). v .laid) (PlainLaws.choose-sync-before k n m F (headerKept ms (syncWaits n m k)) found f e)
         ∙ sym (ap (λ (t : Bool). t && eqb (getD ms (m + 1) 0) 1 && found) (ne-eqb k (innerOf n m + (m + 2)) (λ z. e (omega arith))))
@@ -87,7 +87,7 @@ sync-laid n m k F found ms h = go (decLe (n + m) slots)
         ∙ sym (ap (λ (t : Bool). t && eqb (getD ms (m + 1) 0) 1 && found) (ne-eqb k (innerOf n m + (m + 2)) (λ z. e (omega arith))))
 
     go : Dec (n + m ≤ slots) → verdict (ofSync k) n m F (headerKept ms (syncWaits n m k)) found .laid ≡ eqb k (innerOf n m + (m + 2)) && eqb (getD ms (m + 1) 0) 1 && found
-    go (yes f) = calm f (ℕ-discrete k (m + 2))
+    go (yes f) = single f (ℕ-discrete k (m + 2))
     go (no f) = over (omega arith) (ℕ-discrete k (n + 3 + (m + 2)))
 
 -- ---- phases
@@ -97,12 +97,12 @@ planned d ms found = verdict (d .short) (d .n) (length (d .G)) (d .F) (headerKep
 
 -- open: nothing has happened to S
 pub record OpenPhase (old : Disk) (st : State) (d : Plain) : Type 0 where
-  pub mode : st .rec .mode ≡ opened
+  pub mode : st .rec .mode ≡ openMode
   pub S : d .S ≡ old
 
 -- not open, and no cut lays anything
 pub record OtherPhase (old : Disk) (f : Fate) (st : State) (d : Plain) : Type 0 where
-  pub mode : st .rec .mode ≢ opened
+  pub mode : st .rec .mode ≢ openMode
   pub S : d .S ≡ outcome f old
   pub laid : (ms : List ℕ) (found : Bool) → planned d ms found .laid ≡ false
   pub whole : WholeIsNew f
@@ -129,9 +129,9 @@ refused-short (put a b) w h m = refl
 refused-short (get a) w h m = refl
 refused-short commit w h m = refl
 refused-short abandon w h m = refl
-refused-short sync w h m = go (ℕ-discrete (w .store .rec .mode) opened)
+refused-short sync w h m = go (ℕ-discrete (w .store .rec .mode) openMode)
   where
-    go : Dec (w .store .rec .mode ≡ opened) → eqb (w .store .rec .mode) opened && eqb (dispatch sync (w .store) .answer) 4 ≡ false
+    go : Dec (w .store .rec .mode ≡ openMode) → eqb (w .store .rec .mode) openMode && eqb (dispatch sync (w .store) .answer) 4 ≡ false
     go (yes e) =
         let d : w .plain .mode ≡ 1 = m .basics .mirrors .mode ∙ e in
         absurd (h (rw (ne-eqb (w .plain .mode) 0 (λ z. omega arith), ne-eqb (w .plain .mode) 2 (λ z. omega arith))))
@@ -191,7 +191,7 @@ power-same k w (undecided G place made) = refl
 power-same k w (known (decided G laid all)) = refl
 
 -- open: no sync was cut short yet
-open-watch : (old : Disk) (f : Standing) (st : State) (l : Ledger) (d : Plain) → Watch old f st l d → st .rec .mode ≡ opened → (f ≡ known quiet) × (d .S ≡ old)
+open-watch : (old : Disk) (f : Standing) (st : State) (l : Ledger) (d : Plain) → Watch old f st l d → st .rec .mode ≡ openMode → (f ≡ known quiet) × (d .S ≡ old)
 open-watch old (known quiet) st l d (_⊎_.inl x) e = (refl, x .S)
 open-watch old (known quiet) st l d (_⊎_.inr x) e = absurd (x .mode e)
 open-watch old (undecided G place made) st l d x e = absurd (omega (arith, x .mode))
@@ -214,7 +214,7 @@ to-watch old quiet st l d x = _⊎_.inr x
 to-watch old (decided G laid all) st l d x = x
 
 -- a call that needs an open record, keeps it open and leaves S
-open-kept : (old : Disk) (c : Call) (w : World) (f : Standing) → WorldSim w → w .store .rec .mode ≡ opened → Watch old f (w .store) (w .ledger) (w .plain)
+open-kept : (old : Disk) (c : Call) (w : World) (f : Standing) → WorldSim w → w .store .rec .mode ≡ openMode → Watch old f (w .store) (w .ledger) (w .plain)
     → plainNext c w .mode ≡ w .plain .mode → plainNext c w .S ≡ w .plain .S → observe c w (known quiet) ≡ known quiet
     → Watch old (observe c w f) (storeNext c w) (ledgerNext c w) (plainNext c w)
 open-kept old c w f m o x p s q =
@@ -288,7 +288,7 @@ module _ (old : Disk) (w : World) (m : WorldSim w) (h : refusal sync (w .plain) 
   observed : observe sync w (known quiet) ≡ undecided (groupOf (w .store)) (w .store .rec .grouped + 1) (headed w)
   unfolding observe shortSync
   observed =
-      let e : eqb (w .store .rec .mode) opened && eqb (dispatch sync (w .store) .answer) 4 ≡ true = rw (eq-eqb _ _ (o .mode), eq-eqb _ 4 answer-four) in
+      let e : eqb (w .store .rec .mode) openMode && eqb (dispatch sync (w .store) .answer) 4 ≡ true = rw (eq-eqb _ _ (o .mode), eq-eqb _ 4 answer-four) in
       ap (λ (t : Bool). cond t (undecided (groupOf (w .store)) (w .store .rec .grouped + 1) (headed w)) (known quiet)) e
 
   -- behind its own header m + 2 writes wait
@@ -411,7 +411,7 @@ module _ (old : Disk) (ms : List ℕ) (w : World) (m : WorldSim w) (h : refusal 
   P : plainNext (cut ms) w ≡ CutStep.plainAt (w .store) (w .plain) (cond (planned (w .plain) ms found .laid) (overlay (w .plain .G) (w .plain .S)) (w .plain .S)) (planned (w .plain) ms found .n) (planned (w .plain) ms found .F)
   P = ap (λ (d : Done). d .plain) (CutStep.plain-cut ms w m h)
 
-  closed-now : storeNext (cut ms) w .rec .mode ≢ opened
+  closed-now : storeNext (cut ms) w .rec .mode ≢ openMode
   closed-now e = let k : storeNext (cut ms) w .rec .mode ≡ 0 = ap (λ (s : State). s .rec .mode) (CutStep.store-cut ms w m h) in omega arith
 
   -- nothing is laid

@@ -18,7 +18,7 @@ use Rattle.card.specs.Disk.{Disk, lay, overlay}
 use Rattle.card.specs.Card.{blockAt, blocksIn, kept}
 use Rattle.card.proofs.All.{All, all-take}
 use Rattle.card.proofs.Overlays.{overlay-nil, overlay-cons, lay-same, overlay-other}
-use Rattle.card.proofs.Runs.{Short}
+use Rattle.card.proofs.Runs.{NarrowAddress}
 use Rattle.card.proofs.Cuts.{all-kept}
 use Rattle.journal.specs.declared.header.Header.{Header}
 use Rattle.journal.specs.Layout.{headerAt, descriptorAt, slotAt, slots, firstData, isData}
@@ -28,7 +28,7 @@ use Rattle.journal.proofs.Headers.{decode-encode}
 use Rattle.journal.proofs.Logs.{length-blockAt}
 use Rattle.journal.proofs.OrderLists.{headerEntry, appendWrites}
 use Rattle.history.specs.Ledger.{sameLog, collides}
-use Rattle.history.proofs.Disks.{slotE, logD, entries-disk, Head, WholeCard, FallCard, ClosedCard, SafeCard, same-log, same-agree, closed-agree, data-above, data-below, append-head, append-found, append-bad, append-safe, append-sum, Appended, homes-kept, emptied, fallen}
+use Rattle.history.proofs.Disks.{slotE, logD, entries-disk, HasHeader, WholeCard, FallCard, ClosedCard, SafeCard, same-log, same-agree, closed-agree, data-above, data-below, append-head, append-found, append-bad, append-safe, append-sum, Appended, homes-kept, emptied, fallen}
 use Rattle.history.proofs.Crashes.{lost, header-lost, found-written, all-appended, length-front}
 
 -- ---- equal logs
@@ -55,7 +55,7 @@ other-sums a b s l h = rw (s, eq-eqb _ _ l) at h
 
 -- ---- a header on the card is read as it was written
 
-pub read-head : (s : List ℕ) (N p ps c ns : ℕ) → N < 2 ^ 32 → Head (blockAt s) N p ps c ns → headerOf s ≡ header N p ps c ns
+pub read-head : (s : List ℕ) (N p ps c ns : ℕ) → N < 2 ^ 32 → HasHeader (blockAt s) N p ps c ns → headerOf s ≡ header N p ps c ns
 read-head s N p ps c ns l h =
     ap decode (h .block)
     ∙ decode-encode (header N p ps c ns)
@@ -142,13 +142,13 @@ module _ (N : ℕ) (s : List ℕ) (n h : ℕ) (G : List Entry) (w : List Entry) 
             rw (← found-log, ← append-sum N (blockAt s) (blockAt t) w S n h G card on-card, e)
 
   -- all writes laid: the log found is the log written
-  pub append-all : (t : List ℕ) → All Short G → allData N G ≡ true → LaidOn t (appendWrites N s n h G) → WholeCard N (blockAt t) (logD (blockAt s) n ++ G) (overlay G S) (n + length G)
+  pub append-all : (t : List ℕ) → All NarrowAddress G → allData N G ≡ true → LaidOn t (appendWrites N s n h G) → WholeCard N (blockAt t) (logD (blockAt s) n ++ G) (overlay G S) (n + length G)
   append-all t low g a =
       closed-agree N (overlay (appendWrites N s n h G) (blockAt s)) (blockAt t) (logD (blockAt s) n ++ G) (overlay G S) (n + length G) false big a
       (append-found N (blockAt s) (overlay (appendWrites N s n h G) (blockAt s)) w S n h G card (all-appended N s n h G room long sum) g (found-written N s n h G room long low))
 
   -- so a cut that kept every write finds it
-  pub append-whole : (t : List ℕ) → All Short G → LaidOn t (appendWrites N s n h G) → sameLog (foundIn t) (logD (blockAt s) n ++ G) ≡ true
+  pub append-whole : (t : List ℕ) → All NarrowAddress G → LaidOn t (appendWrites N s n h G) → sameLog (foundIn t) (logD (blockAt s) n ++ G) ≡ true
   append-whole t low a =
       rw (found-log t (appendWrites N s n h G) a (all-appended N s n h G room long sum)
       ∙ same-log (n + length G) (blockAt t) (overlay (appendWrites N s n h G) (blockAt s)) (same-agree (n + length G) (blockAt t) (overlay (appendWrites N s n h G) (blockAt s)) room (λ x l. a x (omega arith)))

@@ -8,7 +8,9 @@ use Rattle.cells.specs.Entry.{blockBytes}
 use Rattle.store.specs.State.{State, Outcome}
 use Rattle.store.specs.Request.{get}
 use Rattle.store.specs.Causes.{cause}
-use Rattle.store.specs.Simple.{formatCall, powerCall, putCall, abandonCall}
+use Rattle.store.specs.Format.{formatCall}
+use Rattle.store.specs.Power.{powerCall}
+use Rattle.store.specs.Put.{putCall, abandonCall}
 use Rattle.store.specs.Get.{getPlace, bytesAt}
 use Rattle.store.specs.Commit.{commitCall}
 use Rattle.store.specs.Saves.{syncCall, applyCall, recoverCall, cutCall}

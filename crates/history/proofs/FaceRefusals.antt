@@ -10,7 +10,7 @@ use Rattle.journal.specs.declared.choice.Choice.the-variants.{Whole, Fallback, 
 use Rattle.journal.specs.Layout.{wrongSize}
 use Rattle.journal.specs.Choice.{choiceNumber}
 use Rattle.store.specs.State.{State}
-use Rattle.store.specs.Held.{stateOf}
+use Rattle.store.specs.CodeState.{stateOf}
 use Rattle.store.specs.Request as Request
 use Rattle.store.specs.Causes.{cause}
 use Rattle.store.specs.Get.{getPlace}

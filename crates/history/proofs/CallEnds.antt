@@ -10,13 +10,13 @@ use lib.ListN.{length}
 use Rattle.cells.specs.Entry.{blockBytes, Entry}
 use Rattle.fnv.specs.Fnv.{start}
 use Rattle.card.specs.Card.{Card, Order, run, blockAt, places}
-use Rattle.card.specs.Held.{Below}
+use Rattle.card.specs.CodeQueue.{Below}
 use Rattle.card.proofs.All.{All}
 use Rattle.card.proofs.Runs.{queue-below}
 use Rattle.journal.specs.Layout.{slots}
 use Rattle.journal.specs.Log.{entries, sumOf}
 use Rattle.store.specs.declared.record.Record.{Record}
-use Rattle.store.specs.State.{State, Outcome, opened, down, withMode, withRecord, withCard, cardIn}
+use Rattle.store.specs.State.{State, Outcome, openMode, down, withMode, withRecord, withCard, cardIn}
 use Rattle.store.specs.Lists.{openFrom, groupFrom, listOf}
 use Rattle.store.specs.Saves.{carried}
 use Rattle.store.proofs.Causes.{SizeFacts, sizes-facts}
@@ -133,7 +133,7 @@ pub record Finishes (c : Call) (w : World) (r : Card) (done : Record) (s : List 
   pub ledger : ledgerNext c w ≡ l
   pub left : Left (cardIn (w .store)) r s [] p
   pub size : length s ≡ length (w .store .settled)
-  pub mode : done .mode ≡ opened
+  pub mode : done .mode ≡ openMode
   pub blocks : done .blocks ≡ w .store .rec .blocks
   pub open-count : done .opened ≤ slots
   pub group-count : done .grouped ≤ slots
@@ -144,7 +144,7 @@ pub record Finishes (c : Call) (w : World) (r : Card) (done : Record) (s : List 
   pub sum : done .sum ≡ sumOf start (logD (blockAt s) (done .logged))
   pub card : WholeCard (w .store .rec .blocks) (blockAt s) (l .written) (d .S) (done .logged)
   pub pending : l .pending ≡ nothing
-  pub plain-mode : d .mode ≡ opened
+  pub plain-mode : d .mode ≡ openMode
   pub plain-N : d .N ≡ w .store .rec .blocks
   pub plain-waiting : d .waiting ≡ 0
   pub plain-power : d .power ≡ p

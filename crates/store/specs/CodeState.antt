@@ -10,21 +10,21 @@ use Rattle.journal.specs.Layout.{mostBlocks}
 use Rattle.store.specs.declared.place.Place.{Place}
 use Rattle.store.specs.declared.place.Place.the-variants.{Settled, Work, Nowhere}
 use Rattle.store.specs.declared.record.Record.{Record}
-use Rattle.store.specs.State.{State, Outcome, opened}
+use Rattle.store.specs.State.{State, Outcome, openMode}
 
 abbrev pub stateOf : Record → List ℕ → List ℕ → List ℕ → State
 stateOf r settled waiting work = record { rec = r; settled = settled; waiting = waiting; work = work }
 
 -- the record that a format leaves
 abbrev pub fresh : ℕ → Record
-fresh N = record { mode = opened; blocks = N; opened = 0; grouped = 0; logged = 0; waiting = 0; power = 1000000; sum = start }
+fresh N = record { mode = openMode; blocks = N; opened = 0; grouped = 0; logged = 0; waiting = 0; power = 1000000; sum = start }
 
 -- the number, the orders carried out, the record and the buffers after the call
 abbrev pub outcomeOf : ℕ → ℕ → Record → List ℕ → List ℕ → List ℕ → Outcome
 outcomeOf number orders r settled waiting work = record { answer = number; orders = orders; state = stateOf r settled waiting work }
 
 -- a place that holds a whole block: one of the settled blocks, or that of an entry in work memory
-abbrev pub Within : Place → List ℕ → List ℕ → Type 0
-Within (Settled o) settled work = (o % blockBytes ≡ 0) × (o / blockBytes < blocksIn settled) × (o / blockBytes < mostBlocks)
-Within (Work o) settled work = (o % entryBytes ≡ 4) × (entryBytes * (o / entryBytes) + entryBytes ≤ length work)
-Within Nowhere settled work = Unit {0}
+abbrev pub HoldsBlock : Place → List ℕ → List ℕ → Type 0
+HoldsBlock (Settled o) settled work = (o % blockBytes ≡ 0) × (o / blockBytes < blocksIn settled) × (o / blockBytes < mostBlocks)
+HoldsBlock (Work o) settled work = (o % entryBytes ≡ 4) × (entryBytes * (o / entryBytes) + entryBytes ≤ length work)
+HoldsBlock Nowhere settled work = Unit {0}

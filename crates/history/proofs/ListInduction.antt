@@ -20,7 +20,8 @@ use Rattle.journal.proofs.Logs.{neither, sumOf-nil}
 use Rattle.store.specs.Request as Request
 use Rattle.store.specs.State.{State, Outcome}
 use Rattle.store.specs.Causes.{cause}
-use Rattle.store.specs.Simple.{formatted, formatCall, finished, refused}
+use Rattle.store.specs.Outcomes.{completed, refused}
+use Rattle.store.specs.Format.{formatted, formatCall}
 use Rattle.store.proofs.Causes.{SizeFacts, sizes-facts}
 use Rattle.history.specs.Call.{Call, power, put, get, commit, abandon, sync, apply, recover, cut}
 use Rattle.history.specs.Plain.{fresh}
@@ -29,7 +30,7 @@ use Rattle.history.specs.Ledger.{Ledger, entered}
 use Rattle.history.specs.History.{World, begun, next, after, exception}
 use Rattle.history.proofs.Disks.{emptied, data-above, data-below}
 use Rattle.history.proofs.CauseLaws.{facts-sizes, facts-record, cause-passes}
-use Rattle.history.proofs.Evens.{even-refl, even-trans, entered-even}
+use Rattle.history.proofs.LedgerLengths.{even-refl, even-trans, entered-even}
 use Rattle.history.proofs.Relation.{Safe}
 use Rattle.history.proofs.Steps.{WorldSim, StepOK}
 use Rattle.history.proofs.SimpleSteps.{power-step, put-step, get-step, commit-step, abandon-step}
@@ -109,7 +110,7 @@ module _ (st : State) (h : formatCall st .answer ≡ 0) where
   pub formatted-now : formatCall st .state ≡ formatted st
   unfolding formatCall
   formatted-now =
-      let r : formatCall st ≡ finished (formatted st) = rw (eq-eqb _ 0 passes) in
+      let r : formatCall st ≡ completed (formatted st) = rw (eq-eqb _ 0 passes) in
       ap (λ (o : Outcome). o .state) r
 
   sz : SizeFacts st
