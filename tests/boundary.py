@@ -30,7 +30,7 @@ NUMBERS = {
     "TRAPCARD_PLACES": ("card", "Card", "places"),
     "TRAPCARD_EMPTY_SUM": ("fnv", "Fnv", "start"),
     "TRAPCARD_MODE_CLOSED": ("store", "State", "closed"),
-    "TRAPCARD_MODE_OPEN": ("store", "State", "opened"),
+    "TRAPCARD_MODE_OPEN": ("store", "State", "openMode"),
     "TRAPCARD_MODE_DOWN": ("store", "State", "down"),
 }
 
@@ -64,7 +64,7 @@ CAUSES = {
     "TRAPCARD_ERR_STATE": "wrongRecord",
     "TRAPCARD_ERR_CLOSED": "closed",
     "TRAPCARD_ERR_POWER": "down",
-    "TRAPCARD_ERR_OPEN": "opened",
+    "TRAPCARD_ERR_OPEN": "openMode",
     "TRAPCARD_ERR_ADDRESS": "strayAddress",
     "TRAPCARD_ERR_FULL": "full",
     "TRAPCARD_ERR_FOREIGN": "unsound {Foreign}",
