@@ -69,10 +69,10 @@ foundIn s = entries s (headerOf s .count)
 
 pub record Leads (N : ℕ) (s : List ℕ) (w : List Entry) (S : Disk) (n : ℕ) (F : Bool) : Type 0 where
   pub clean : collides (foundIn s) w ≡ false → ClosedCard N (blockAt s) w S n F
-  pub safe : SafeCard N (blockAt s) (length w)
+  pub safe : SafeCard N (blockAt s) w
 
 pub closed-leads : (N : ℕ) (s : List ℕ) (w : List Entry) (S : Disk) (n : ℕ) (F : Bool) → ClosedCard N (blockAt s) w S n F → Leads N s w S n F
-closed-leads N s w S n F r = record { clean = λ h. r; safe = record { w = w; S = S; n = n; F = F; size = refl; card = r } }
+closed-leads N s w S n F r = record { clean = λ h. r; safe = record { w = w; S = S; n = n; F = F; size = refl; total = refl; card = r } }
 
 -- on a disk that agrees with e below N
 pub agree-leads : (N : ℕ) (s : List ℕ) (e : Disk) (w : List Entry) (S : Disk) (n : ℕ) (F : Bool) → firstData < N → ((a : ℕ) → a < N → blockAt s a ≡ e a)

@@ -186,7 +186,7 @@ module _ (ms : List ℕ) (w : World) (m : WorldSim w) (h : refusal (cut ms) (w .
               ledger = record { written = c .w; pending = nothing };
               plain = plainAt (w .store) (w .plain) (c .S) (c .n) (c .F);
               sim = cut-sim ms (w .store) (w .plain) (c .w) (c .S) (c .n) (c .F) b (c .card);
-              even = record { written = sym (c .size); pending = tt };
+              even = record { written = (sym (c .size), sym (c .total)); pending = tt };
             });
       }
 

@@ -121,13 +121,14 @@ abbrev pub ClosedCard : ℕ → Disk → List Entry → Disk → ℕ → Bool �
 ClosedCard N d w S n false = WholeCard N d w S n
 ClosedCard N d w S n true = FallCard N d w S n
 
--- a card that some list of k entries, some disk and some count belong to
-pub record SafeCard (N : ℕ) (d : Disk) (k : ℕ) : Type 0 where
+-- a card that some list, as long as v and with its sum, some disk and some count belong to
+pub record SafeCard (N : ℕ) (d : Disk) (v : List Entry) : Type 0 where
   pub w : List Entry
   pub S : Disk
   pub n : ℕ
   pub F : Bool
-  pub size : length w ≡ k
+  pub size : length w ≡ length v
+  pub total : sumOf start w ≡ sumOf start v
   pub card : ClosedCard N d w S n F
 
 -- ---- a disk that agrees below N
@@ -255,10 +256,10 @@ module _ (N : ℕ) (d e : Disk) (w : List Entry) (S : Disk) (n h : ℕ) (G : Lis
   }
 
   -- it has the sum by a collision: whatever is found then is a log all the same
-  pub append-safe : logD d n ++ G ≢ logD e (n + length G) → SafeCard N e (length (logD d n ++ G))
+  pub append-safe : logD d n ++ G ≢ logD e (n + length G) → SafeCard N e (logD d n ++ G)
   append-safe z = go (good N (logD e (n + length G)) (sumOf h G)) refl
     where
-      go : (t : Bool) → good N (logD e (n + length G)) (sumOf h G) ≡ t → SafeCard N e (length (logD d n ++ G))
+      go : (t : Bool) → good N (logD e (n + length G)) (sumOf h G) ≡ t → SafeCard N e (logD d n ++ G)
       go true b =
           let parts = both (eqb (sumOf start (logD e (n + length G))) (sumOf h G)) (allData N (logD e (n + length G))) b in
           let q : sumOf start (logD e (n + length G)) ≡ sumOf h G = borrow.Author.Tests.eqb-true _ _ (parts .0) in
@@ -268,9 +269,10 @@ module _ (N : ℕ) (d e : Disk) (w : List Entry) (S : Disk) (n h : ℕ) (G : Lis
             n = n + length G;
             F = false;
             size = length-upTo (slotE e) (n + length G) ∙ sym append-size;
+            total = q ∙ sym append-sum;
             card = record { p = n; ps = h; head = rw q append-head; all = parts .1; same = refl; disk = λ a x. refl };
           }
-      go false b = record { w = logD d n ++ G; S = S; n = n; F = true; size = refl; card = append-bad z b }
+      go false b = record { w = logD d n ++ G; S = S; n = n; F = true; size = refl; total = refl; card = append-bad z b }
 
 -- ---- a checkpoint
 

@@ -6,7 +6,7 @@ pub mod AfterCut
 pub mod Lists
 pub mod WorkLists
 pub mod CauseLaws
-pub mod LedgerLengths
+pub mod EvenLedgers
 pub mod Relation
 pub mod PlainLaws
 pub mod Steps

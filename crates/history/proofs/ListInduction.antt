@@ -30,7 +30,7 @@ use Rattle.history.specs.Ledger.{Ledger, entered}
 use Rattle.history.specs.History.{World, begun, next, after, exception}
 use Rattle.history.proofs.Disks.{emptied, data-above, data-below}
 use Rattle.history.proofs.CauseLaws.{facts-sizes, facts-record, cause-passes}
-use Rattle.history.proofs.LedgerLengths.{even-refl, even-trans, entered-even}
+use Rattle.history.proofs.EvenLedgers.{even-refl, even-trans, entered-even}
 use Rattle.history.proofs.Relation.{Safe}
 use Rattle.history.proofs.Steps.{WorldSim, StepOK}
 use Rattle.history.proofs.SimpleSteps.{power-step, put-step, get-step, commit-step, abandon-step}

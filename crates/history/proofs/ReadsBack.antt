@@ -18,7 +18,6 @@ use Rattle.journal.specs.declared.choice.Choice.{Choice}
 use Rattle.journal.specs.Log.{headerOf, entries, sumOf}
 use Rattle.journal.specs.Choice.{takenCount}
 use Rattle.journal.proofs.Choices.{both}
-use Rattle.journal.proofs.Logs.{neither}
 use Rattle.store.specs.Request as Request
 use Rattle.store.specs.State.{State, Outcome, closed, openMode, withQueue, withRecord}
 use Rattle.store.specs.Causes.{cause}
@@ -355,14 +354,7 @@ accepted-serves ms w m a = go (ℕ-discrete (refusal (cut ms) (w .plain)) 0)
 
 pub written-summed : WrittenSummed
 unfolding next acceptedCut
-written-summed st f cs ms a = record {
-  count = totals .count ∙ sym (s .even .written);
-  sum = λ x.
-      let p = neither (after cs (begun st) .excepted) (exception (cut ms) (after cs (begun st))) x in
-      let m = after-sim cs (begun st) (begun-sim st f) (p .0) in
-      summed (next (cut ms) (after cs (begun st))) (next-sim (cut ms) (after cs (begun st)) m (p .1))
-      (shut (after cs (begun st)) m a) .sum;
-}
+written-summed st f cs ms a = record { count = totals .count ∙ sym (s .even .written .0); sum = totals .sum ∙ sym (s .even .written .1) }
   where
     shut : (w : World) → WorldSim w → acceptedCut (cut ms) w ≡ true → storeNext (cut ms) w .rec .mode ≡ closed
     shut w m a = ap (λ (s : State). s .rec .mode) (store-cut ms w m (accepted-serves ms w m a))

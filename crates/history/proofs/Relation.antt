@@ -18,7 +18,7 @@ use Rattle.history.specs.Ledger.{Ledger, nothing, resolved, sameLog}
 use Rattle.history.proofs.Disks.{WholeCard, ClosedCard}
 use Rattle.history.proofs.AfterCut.{Leads, foundIn}
 use Rattle.history.proofs.CauseLaws.{Mirrors}
-use Rattle.history.proofs.LedgerLengths.{Even}
+use Rattle.history.proofs.EvenLedgers.{Even}
 
 -- what holds in every mode
 pub record Basics (st : State) (d : Plain) : Type 0 where
@@ -81,7 +81,7 @@ pub record Sim (st : State) (l : Ledger) (d : Plain) : Type 0 where
   pub basics : Basics st d
   pub phase : OpenSim st l d ⊎ (ClosedSim st l d ⊎ DownSim st l d)
 
--- a state that some ledger, as long as l, and some plain disk belong to: what no collision breaks
+-- a state that some ledger, as long as l and with its sums, and some plain disk belong to: what no collision breaks
 pub record Safe (st : State) (l : Ledger) : Type 0 where
   pub ledger : Ledger
   pub plain : Plain

@@ -1,10 +1,8 @@
 -- A line of a script is its call, and a script from a format on is a list of calls.
 use Prim.Native.Nat.{ℕ, zero, suc, _*_}
 use mathlib.Core.Path.{_≡_, refl, ap, sym, _∙_}
-use mathlib.Core.Logic.{_≢_}
 use mathlib.Core.Bool.{Bool, true, false, cond}
 use mathlib.Core.List.{List, [], _∷_, _++_, append-assoc}
-use borrow.Author.Tests.{eq-eqb}
 use lib.Dec.{eqb}
 use lib.ListN.{length, length-replicate}
 use Rattle.cells.specs.Entry.Laws.{length-setEntry}
@@ -32,10 +30,10 @@ use Rattle.script.specs.declared.command.Command.the-variants.{Format, Power, P
 use Rattle.script.specs.Commands.{parse}
 use Rattle.script.specs.Answers.{answerLine, decimal, digits}
 use Rattle.script.specs.Replies.{perform, answered}
-use Rattle.script.specs.Transcript.{linesOf, reply, printed, said, beginning, transcript}
+use Rattle.script.specs.Transcript.{reply, printed, said, beginning, transcript}
 use Rattle.history.specs.Call.{requestOf}
 use Rattle.history.specs.Dispatch.{called}
-use Rattle.history.specs.History.{World, begun, next, after}
+use Rattle.history.specs.History.{World, begun, next}
 use Rattle.history.specs.Scripts.{Says, nothing, begins, asks, saysOf, says, lineOf, leftBy, ByCall, leftAfter, worldBy, told, ScriptsAreHistories}
 
 -- ---- a line

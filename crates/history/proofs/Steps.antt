@@ -33,7 +33,7 @@ use Rattle.history.specs.Statements.{Agrees}
 use Rattle.history.proofs.Disks.{logD, entries-disk, WholeCard, FallCard, ClosedCard}
 use Rattle.history.proofs.AfterCut.{read-head}
 use Rattle.history.proofs.CauseLaws.{record-facts, cause-refusal}
-use Rattle.history.proofs.LedgerLengths.{even-refl}
+use Rattle.history.proofs.EvenLedgers.{even-refl}
 use Rattle.history.proofs.Relation.{Basics, OpenSim, ClosedSim, DownSim, Sim, Safe}
 
 -- ---- what a step has to show

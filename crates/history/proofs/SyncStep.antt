@@ -17,14 +17,14 @@ use Rattle.card.specs.Card.{Card, Order, run, cut, settle, blockAt, places}
 use Rattle.card.proofs.All.{All, all-at}
 use Rattle.card.proofs.Runs.{run-nil, run-append, length-settle}
 use Rattle.journal.specs.Layout.{headerAt, slots}
-use Rattle.journal.specs.Log.{headerOf, entries, sumOf}
+use Rattle.journal.specs.Log.{entries, sumOf}
 use Rattle.journal.specs.Orders.{appendOrders, checkpointOrders, syncOrders}
 use Rattle.journal.proofs.Logs.{sumOf-nil}
 use Rattle.journal.proofs.Choices.{both}
 use Rattle.journal.proofs.OrderLists.{appendWrites, length-append-orders, length-checkpoint, append-afresh}
 use Rattle.store.specs.Request as Request
 use Rattle.store.specs.declared.record.Record.{Record}
-use Rattle.store.specs.State.{State, Outcome, openMode, withGrouped, withLog, withCard, withRecord, cardIn}
+use Rattle.store.specs.State.{State, Outcome, withGrouped, withLog, withCard, withRecord, cardIn}
 use Rattle.store.specs.Lists.{groupFrom, listOf}
 use Rattle.store.specs.Causes.{cause}
 use Rattle.store.specs.Saves.{carried, syncCall, groupOf, applies, metByAppend, innerOrders}

@@ -34,7 +34,7 @@ use Rattle.history.specs.History.{World, begun, next, after, storeNext, 
 use Rattle.history.specs.Statements as S
 use Rattle.history.specs.Statements.{noCut, EndsFinished, noneFinished, shortSync, allOnes, Fate, quiet, decided, Standing, known, undecided, observe, fate, outcome}
 use Rattle.history.specs.Linked.{AllPassable}
-use Rattle.history.specs.Worked.{halted, sevens, nines, at40, filed, crashed, metByRecover, answers, Script, Worked}
+use Rattle.history.specs.Worked.{halted, sevens, nines, at40, filed, crashed, answers, Script, Worked}
 use Rattle.history.proofs.Disks.{slotE, logD}
 use Rattle.history.proofs.AfterCut.{foundIn}
 use Rattle.history.proofs.Relation.{cutSettled, cutWritten}

@@ -2,11 +2,10 @@
 use Prim.Native.Nat.{ℕ, _^_, _<_}
 use mathlib.Core.Path.{_≡_}
 use mathlib.Core.List.{List, [], _∷_}
-use lib.ListN.{length}
 use Rattle.store.specs.State.{State}
 use Rattle.store.specs.CodeState.{stateOf}
 use Rattle.store.specs.Format.{formatCall}
-use Rattle.firmware.specs.Face.{recordBytes, encodeRecord, decodeRecord, Face, faceOf, faced, gotIn, got}
+use Rattle.firmware.specs.Face.{encodeRecord, decodeRecord, Face, faceOf, faced, gotIn, got}
 use Rattle.history.specs.Call.{Call, power, put, get, commit, abandon, sync, apply, recover, cut}
 use Rattle.history.specs.Dispatch.{dispatch}
 use Rattle.history.specs.History.{begun, after}

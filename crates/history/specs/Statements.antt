@@ -78,11 +78,10 @@ ReadBack =
     → dispatch recover (after ds (next (cut ms) (after cs (begun st))) .store) .answer ≡ 0
     → Taken (next (cut ms) (after cs (begun st))) (dispatch recover (after ds (next (cut ms) (after cs (begun st))) .store) .state)
 
--- a check on the log written: at every accepted cut it has the header's n entries and, with no exception so far, the header's sum
--- of n
+-- a check on the log written: at every accepted cut, exceptions included, it has the header's n entries and the header's sum of n
 pub record Summed (w : World) : Type 0 where
   pub count : headerOf (w .store .settled) .count ≡ length (w .ledger .written)
-  pub sum : w .excepted ≡ false → headerOf (w .store .settled) .sum ≡ sumOf start (w .ledger .written)
+  pub sum : headerOf (w .store .settled) .sum ≡ sumOf start (w .ledger .written)
 
 abbrev pub WrittenSummed : Type 0
 WrittenSummed =

@@ -1,4 +1,4 @@
--- Ledgers whose lists are as long: what a collision leaves of the log written.
+-- Ledgers whose lists are as long and have the same sums: what a collision leaves of the log written.
 use Prim.Native.Nat.{ℕ, suc}
 use mathlib.Core.Path.{_≡_, refl, _∙_}
 use mathlib.Core.Bool.{Bool, true, false, cond}
@@ -6,37 +6,43 @@ use mathlib.Core.List.{List, [], _∷_}
 use lib.Dec.{eqb, leb}
 use lib.ListN.{length, getD}
 use Rattle.cells.specs.Entry.{Entry}
+use Rattle.fnv.specs.Fnv.{start}
+use Rattle.journal.specs.Log.{sumOf}
 use Rattle.store.specs.State.{State}
 use Rattle.history.specs.Call.{Call, power, put, get, commit, abandon, sync, apply, recover, cut}
 use Rattle.history.specs.Dispatch.{dispatch}
 use Rattle.history.specs.Ledger.{PlannedHeader, Pending, nothing, waits, Ledger, syncHeaders, applyHeaders, recoverHeaders, noted, resolved, entered}
 
+-- as long, with the same sum
+abbrev pub EvenLists : List Entry → List Entry → Type 0
+EvenLists a b = (length a ≡ length b) × (sumOf start a ≡ sumOf start b)
+
 abbrev pub EvenPending : Pending → Pending → Type 0
 EvenPending nothing nothing = Unit {0}
 EvenPending nothing (waits q b) = ⊥
 EvenPending (waits p a) nothing = ⊥
-EvenPending (waits p a) (waits q b) = (p ≡ q) × (length a ≡ length b)
+EvenPending (waits p a) (waits q b) = (p ≡ q) × EvenLists a b
 
 pub record Even (l m : Ledger) : Type 0 where
-  pub written : length (l .written) ≡ length (m .written)
+  pub written : EvenLists (l .written) (m .written)
   pub pending : EvenPending (l .pending) (m .pending)
 
 pending-refl : (p : Pending) → EvenPending p p
 pending-refl nothing = tt
-pending-refl (waits p a) = (refl, refl)
+pending-refl (waits p a) = (refl, (refl, refl))
 
 pub even-refl : (l : Ledger) → Even l l
-even-refl l = record { written = refl; pending = pending-refl (l .pending) }
+even-refl l = record { written = (refl, refl); pending = pending-refl (l .pending) }
 
 pending-trans : (p q r : Pending) → EvenPending p q → EvenPending q r → EvenPending p r
 pending-trans nothing nothing r e f = f
 pending-trans nothing (waits q b) r e f = absurd e
 pending-trans (waits p a) nothing r e f = absurd e
 pending-trans (waits p a) (waits q b) nothing e f = absurd f
-pending-trans (waits p a) (waits q b) (waits r c) e f = (e .0 ∙ f .0, e .1 ∙ f .1)
+pending-trans (waits p a) (waits q b) (waits r c) e f = (e .0 ∙ f .0, (e .1 .0 ∙ f .1 .0, e .1 .1 ∙ f .1 .1))
 
 pub even-trans : (k l m : Ledger) → Even k l → Even l m → Even k m
-even-trans k l m e f = record { written = e .written ∙ f .written; pending = pending-trans (k .pending) (l .pending) (m .pending) (e .pending) (f .pending) }
+even-trans k l m e f = record { written = (e .written .0 ∙ f .written .0, e .written .1 ∙ f .written .1); pending = pending-trans (k .pending) (l .pending) (m .pending) (e .pending) (f .pending) }
 
 -- a call's headers are the same for both
 noted-even : (hs : List PlannedHeader) (k : ℕ) (l m : Ledger) → Even l m → Even (noted hs k l) (noted hs k m)
@@ -44,24 +50,24 @@ unfolding noted
 noted-even [] k l m e = e
 noted-even (h ∷ hs) k l m e =
     go (leb k (h .at)) (eqb k (suc (h .at)))
-    (noted-even hs k (record { written = h .list; pending = nothing }) (record { written = h .list; pending = nothing }) (record { written = refl; pending = tt }))
+    (noted-even hs k (record { written = h .list; pending = nothing }) (record { written = h .list; pending = nothing }) (record { written = (refl, refl); pending = tt }))
   where
     go : (s t : Bool) → Even (noted hs k (record { written = h .list; pending = nothing })) (noted hs k (record { written = h .list; pending = nothing }))
         → Even (cond s l (cond t (record { written = l .written; pending = waits (h .place) (h .list) }) (noted hs k (record { written = h .list; pending = nothing }))))
         (cond s m (cond t (record { written = m .written; pending = waits (h .place) (h .list) }) (noted hs k (record { written = h .list; pending = nothing }))))
     go true t r = e
-    go false true r = record { written = e .written; pending = (refl, refl) }
+    go false true r = record { written = e .written; pending = (refl, (refl, refl)) }
     go false false r = r
 
 -- a cut decides the same for both
-resolved-even : (ms : List ℕ) (p q : Pending) (a b : List Entry) → EvenPending p q → length a ≡ length b → length (resolved ms p a) ≡ length (resolved ms q b)
+resolved-even : (ms : List ℕ) (p q : Pending) (a b : List Entry) → EvenPending p q → EvenLists a b → EvenLists (resolved ms p a) (resolved ms q b)
 unfolding resolved
 resolved-even ms nothing nothing a b e f = f
 resolved-even ms nothing (waits q y) a b e f = absurd e
 resolved-even ms (waits p x) nothing a b e f = absurd e
 resolved-even ms (waits p x) (waits q y) a b e f = rw (e .0) (go (eqb (getD ms q 0) 1))
   where
-    go : (t : Bool) → length (cond t x a) ≡ length (cond t y b)
+    go : (t : Bool) → EvenLists (cond t x a) (cond t y b)
     go true = e .1
     go false = f
 
