@@ -278,17 +278,17 @@ module _ (w : World) (m : WorldSim w) (h : dispatch recover (w .store) .answer �
 
 -- ---- a reading of the list: what is said of an a that ends in a finished sync or recovery, and a b that holds none
 
-pub record Reading (st : State) (a b : List Call) : Type 0 where
+pub record SplitReading (st : State) (a b : List Call) : Type 0 where
   pub one : countShort b (after a (begun st)) ≤ 1
   pub end : Fate
   pub fated : fate b (after a (begun st)) (known quiet) ≡ known end
   pub found : S.FoundIs (blocksIn (st .settled)) (storeNext recover (after b (after a (begun st)))) (outcome end (after a (begun st) .plain .S))
   pub whole : WholeIsNew end
 
-pub reading : (st : State) → formatCall st .answer ≡ 0 → (a b : List Call) → EndsFinished a (begun st) → noneFinished b (after a (begun st)) ≡ true
-    → dispatch recover (after b (after a (begun st)) .store) .answer ≡ 0 → after b (after a (begun st)) .excepted ≡ false → Reading st a b
+pub split-reading : (st : State) → formatCall st .answer ≡ 0 → (a b : List Call) → EndsFinished a (begun st) → noneFinished b (after a (begun st)) ≡ true
+    → dispatch recover (after b (after a (begun st)) .store) .answer ≡ 0 → after b (after a (begun st)) .excepted ≡ false → SplitReading st a b
 unfolding begun fresh
-reading st f a b ends none h x =
+split-reading st f a b ends none h x =
     let w = after a (begun st) in
     let clean : after a (begun st) .excepted ≡ false = clean-before b (after a (begun st)) x in
     let m : WorldSim (after a (begun st)) = after-sim a (begun st) (begun-sim st f) clean in
@@ -357,7 +357,7 @@ pub crash-atomicity : CrashAtomicity
 crash-atomicity st f cs h x =
     let s = split cs (begun st) in
     let same : after cs (begun st) ≡ after (s .b) (after (s .a) (begun st)) = ap (λ (l : List Call). after l (begun st)) (s .same) ∙ after-append (s .a) (s .b) (begun st) in
-    let r = reading st f (s .a) (s .b) (s .ends) (s .none)
+    let r = split-reading st f (s .a) (s .b) (s .ends) (s .none)
     (ap (λ (w : World). dispatch recover (w .store) .answer) (sym same) ∙ h)
     (ap (λ (w : World). w .excepted) (sym same) ∙ x) in
     record {

@@ -71,26 +71,26 @@ by-call l st = record { prints = prints-by (parse l) l st; leaves = leaves-by (p
 
 -- ---- no call changes a buffer's length
 
-record Sized (st st′ : State) : Type 0 where
+record SameSizes (st st′ : State) : Type 0 where
   settled : length (st′ .settled) ≡ length (st .settled)
   waiting : length (st′ .waiting) ≡ length (st .waiting)
   work : length (st′ .work) ≡ length (st .work)
 
-same-size : (st : State) → Sized st st
+same-size : (st : State) → SameSizes st st
 same-size st = record { settled = refl; waiting = refl; work = refl }
 
-unless-sized : (k : ℕ) (st : State) (o : Outcome) → Sized st (o .state) → Sized st (unless k st o .state)
+unless-sized : (k : ℕ) (st : State) (o : Outcome) → SameSizes st (o .state) → SameSizes st (unless k st o .state)
 unless-sized k st o h = go (eqb k 0)
   where
-    go : (t : Bool) → Sized st (cond t o (refused k st) .state)
+    go : (t : Bool) → SameSizes st (cond t o (refused k st) .state)
     go true = h
     go false = same-size st
 
-carried-sized : (os : List Order) (done gone : Record) (st : State) → Sized st (carried os done gone st .state)
+carried-sized : (os : List Order) (done gone : Record) (st : State) → SameSizes st (carried os done gone st .state)
 unfolding carried
 carried-sized os done gone st = record { settled = run-lengths os (cardIn st) .0; waiting = run-lengths os (cardIn st) .1; work = refl }
 
-put-sized : (f : Found) (e : Entry) (st : State) → Sized st (putAt f e st)
+put-sized : (f : Found) (e : Entry) (st : State) → SameSizes st (putAt f e st)
 put-sized (At i) e st = record { settled = refl; waiting = refl; work = length-setEntry (st .work) i e }
 put-sized Absent e st = record { settled = refl; waiting = refl; work = length-setEntry (st .work) (st .rec .opened) e }
 
@@ -108,13 +108,13 @@ joined-sized zero g = refl
 joined-sized (suc n) g = one-sized (listed (g .work) openFrom n) (joined n g) ∙ joined-sized n g
 
 -- a call that is done without orders, and one that gives orders
-done-sized : (q : Request.Request) (st now : State) → called q st ≡ unless (cause q st) st (completed now) → Sized st now → Sized st (called q st .state)
+done-sized : (q : Request.Request) (st now : State) → called q st ≡ unless (cause q st) st (completed now) → SameSizes st now → SameSizes st (called q st .state)
 done-sized q st now e h = rw e (unless-sized (cause q st) st (completed now) h)
 
-orders-sized : (q : Request.Request) (st : State) (os : List Order) (done gone : Record) → called q st ≡ unless (cause q st) st (carried os done gone st) → Sized st (called q st .state)
+orders-sized : (q : Request.Request) (st : State) (os : List Order) (done gone : Record) → called q st ≡ unless (cause q st) st (carried os done gone st) → SameSizes st (called q st .state)
 orders-sized q st os done gone e = rw e (unless-sized (cause q st) st (carried os done gone st) (carried-sized os done gone st))
 
-format-sized : (st : State) → Sized st (formatted st)
+format-sized : (st : State) → SameSizes st (formatted st)
 unfolding formatted
 format-sized st = record {
   settled = simp (length-setCell, length-replicate);
@@ -130,7 +130,7 @@ cut-queue : (ms : List ℕ) (st : State) → Card.cut ms (cardIn st) .waiting �
 unfolding Card.cut
 cut-queue ms st = refl
 
-called-sized : (q : Request.Request) (st : State) → Sized st (called q st .state)
+called-sized : (q : Request.Request) (st : State) → SameSizes st (called q st .state)
 unfolding formatCall powerCall putCall commitCall abandonCall syncCall applyCall recoverCall cutCall
 called-sized Request.format st = done-sized Request.format st _ refl (format-sized st)
 called-sized (Request.power k) st = done-sized (Request.power k) st _ refl (record { settled = refl; waiting = refl; work = refl })
@@ -145,7 +145,7 @@ called-sized Request.recover st = orders-sized Request.recover st _ _ _ refl
 called-sized (Request.cut ms) st =
     done-sized (Request.cut ms) st _ refl (record { settled = cut-sized ms st; waiting = ap length (cut-queue ms st); work = refl })
 
-sizes-kept : (st st′ : State) → Sized st st′ → wrongSizes st′ ≡ wrongSizes st
+sizes-kept : (st st′ : State) → SameSizes st st′ → wrongSizes st′ ≡ wrongSizes st
 unfolding wrongSizes Rattle.journal.specs.Layout.wrongSize
 sizes-kept st st′ h = rw (h .settled, h .waiting, h .work)
 

@@ -26,7 +26,7 @@ use Rattle.history.specs.Dispatch.{dispatch}
 use Rattle.history.specs.Ledger.{Ledger, entered, inner, sameLog}
 use Rattle.history.specs.History.{World, next, after, storeNext, ledgerNext, foundWritten, acceptedCut}
 use Rattle.history.specs.Statements as S
-use Rattle.history.specs.Statements.{Fate, quiet, decided, Standing, known, undecided, observe, fate, outcome, WholeIsNew, shortSync, noneFinished, allOnes, headed, atCut}
+use Rattle.history.specs.Statements.{Fate, quiet, decided, Progress, known, undecided, observe, fate, outcome, WholeIsNew, shortSync, noneFinished, allOnes, headed, atCut}
 use Rattle.history.proofs.AfterCut.{foundIn}
 use Rattle.history.proofs.CauseLaws.{cause-passes}
 use Rattle.history.proofs.Relation.{Basics, OpenSim, ClosedSim, DownSim, cutSettled, cutWritten}
@@ -115,7 +115,7 @@ pub record ShortPhase (old : Disk) (G : List Entry) (place : ℕ) (made : Bool) 
   pub laid : (ms : List ℕ) (found : Bool) → planned d ms found .laid ≡ made && eqb (getD ms place 0) 1 && found
   pub whole : made ≡ true → (ms : List ℕ) → length ms ≡ st .rec .waiting → allOnes ms ≡ true → (eqb (getD ms place 0) 1 ≡ true) × (sameLog (foundIn (cutSettled ms st)) (cutWritten ms l) ≡ true)
 
-abbrev pub Watch : Disk → Standing → State → Ledger → Plain → Type 0
+abbrev pub Watch : Disk → Progress → State → Ledger → Plain → Type 0
 Watch old (known quiet) st l d = OpenPhase old st d ⊎ OtherPhase old quiet st d
 Watch old (undecided G place made) st l d = ShortPhase old G place made st l d
 Watch old (known (decided G laid all)) st l d = OtherPhase old (decided G laid all) st d
@@ -159,16 +159,16 @@ refused-at recover w G place made h m = refl
 refused-at (cut ms) w G place made h m =
     ap (λ (t : Bool). cond t (known (decided G (made && eqb (getD ms place 0) 1 && foundWritten (cut ms) w) (made && allOnes ms))) (undecided G place made)) (refused-cut ms w h m)
 
-observe-refused : (c : Call) (w : World) (f : Standing) → refusal c (w .plain) ≢ 0 → WorldSim w → observe c w f ≡ f
+observe-refused : (c : Call) (w : World) (f : Progress) → refusal c (w .plain) ≢ 0 → WorldSim w → observe c w f ≡ f
 unfolding observe
 observe-refused c w (known quiet) h m = rw (refused-short c w h m)
 observe-refused c w (undecided G place made) h m = refused-at c w G place made h m
 observe-refused c w (known (decided G laid all)) h m = refl
 
-watch-at : (old : Disk) {f f′ : Standing} {st st′ : State} {l l′ : Ledger} {d d′ : Plain} → f′ ≡ f → st′ ≡ st → l′ ≡ l → d′ ≡ d → Watch old f st l d → Watch old f′ st′ l′ d′
+watch-at : (old : Disk) {f f′ : Progress} {st st′ : State} {l l′ : Ledger} {d d′ : Plain} → f′ ≡ f → st′ ≡ st → l′ ≡ l → d′ ≡ d → Watch old f st l d → Watch old f′ st′ l′ d′
 watch-at old a b c e x = rw (a, b, c, e) x
 
-watch-refused : (old : Disk) (c : Call) (w : World) (f : Standing) → refusal c (w .plain) ≢ 0 → WorldSim w → Watch old f (w .store) (w .ledger) (w .plain)
+watch-refused : (old : Disk) (c : Call) (w : World) (f : Progress) → refusal c (w .plain) ≢ 0 → WorldSim w → Watch old f (w .store) (w .ledger) (w .plain)
     → Watch old (observe c w f) (storeNext c w) (ledgerNext c w) (plainNext c w)
 watch-refused old c w f h m x =
     let k : cause (requestOf c) (w .store) ≢ 0 = λ e. h (sym (same-cause (w .store) (w .ledger) (w .plain) m c) ∙ e) in
@@ -177,33 +177,33 @@ watch-refused old c w f h m x =
 
 -- ---- a call that is served
 
-power-watch : (old : Disk) (k : ℕ) (f : Standing) (st : State) (l : Ledger) (d : Plain) → Watch old f st l d → Watch old f (withRecord (withQueue (st .rec .waiting) k (st .rec)) st) l (withPower k d)
+power-watch : (old : Disk) (k : ℕ) (f : Progress) (st : State) (l : Ledger) (d : Plain) → Watch old f st l d → Watch old f (withRecord (withQueue (st .rec .waiting) k (st .rec)) st) l (withPower k d)
 unfolding Card.cut queue
 power-watch old k (known quiet) st l d (_⊎_.inl x) = _⊎_.inl (record { mode = x .mode; S = x .S })
 power-watch old k (known quiet) st l d (_⊎_.inr x) = _⊎_.inr (record { mode = x .mode; S = x .S; laid = x .laid; whole = x .whole })
 power-watch old k (undecided G place made) st l d x = record { mode = x .mode; S = x .S; group = x .group; laid = x .laid; whole = x .whole }
 power-watch old k (known (decided G laid all)) st l d x = record { mode = x .mode; S = x .S; laid = x .laid; whole = x .whole }
 
-power-same : (k : ℕ) (w : World) (f : Standing) → observe (power k) w f ≡ f
+power-same : (k : ℕ) (w : World) (f : Progress) → observe (power k) w f ≡ f
 unfolding observe shortSync
 power-same k w (known quiet) = refl
 power-same k w (undecided G place made) = refl
 power-same k w (known (decided G laid all)) = refl
 
 -- open: no sync was cut short yet
-open-watch : (old : Disk) (f : Standing) (st : State) (l : Ledger) (d : Plain) → Watch old f st l d → st .rec .mode ≡ openMode → (f ≡ known quiet) × (d .S ≡ old)
+open-watch : (old : Disk) (f : Progress) (st : State) (l : Ledger) (d : Plain) → Watch old f st l d → st .rec .mode ≡ openMode → (f ≡ known quiet) × (d .S ≡ old)
 open-watch old (known quiet) st l d (_⊎_.inl x) e = (refl, x .S)
 open-watch old (known quiet) st l d (_⊎_.inr x) e = absurd (x .mode e)
 open-watch old (undecided G place made) st l d x e = absurd (omega (arith, x .mode))
 open-watch old (known (decided G laid all)) st l d x e = absurd (x .mode e)
 
 -- closed: what became of it is known
-pub record Closed (old : Disk) (f : Standing) (st : State) (d : Plain) : Type 0 where
+pub record Closed (old : Disk) (f : Progress) (st : State) (d : Plain) : Type 0 where
   pub end : Fate
   pub fated : f ≡ known end
   pub phase : OtherPhase old end st d
 
-pub closed-watch : (old : Disk) (f : Standing) (st : State) (l : Ledger) (d : Plain) → Watch old f st l d → st .rec .mode ≡ closed → Closed old f st d
+pub closed-watch : (old : Disk) (f : Progress) (st : State) (l : Ledger) (d : Plain) → Watch old f st l d → st .rec .mode ≡ closed → Closed old f st d
 closed-watch old (known quiet) st l d (_⊎_.inl x) e = absurd (omega (arith, x .mode))
 closed-watch old (known quiet) st l d (_⊎_.inr x) e = record { end = quiet; fated = refl; phase = x }
 closed-watch old (undecided G place made) st l d x e = absurd (omega (arith, x .mode))
@@ -214,7 +214,7 @@ to-watch old quiet st l d x = _⊎_.inr x
 to-watch old (decided G laid all) st l d x = x
 
 -- a call that needs an open record, keeps it open and leaves S
-open-kept : (old : Disk) (c : Call) (w : World) (f : Standing) → WorldSim w → w .store .rec .mode ≡ openMode → Watch old f (w .store) (w .ledger) (w .plain)
+open-kept : (old : Disk) (c : Call) (w : World) (f : Progress) → WorldSim w → w .store .rec .mode ≡ openMode → Watch old f (w .store) (w .ledger) (w .plain)
     → plainNext c w .mode ≡ w .plain .mode → plainNext c w .S ≡ w .plain .S → observe c w (known quiet) ≡ known quiet
     → Watch old (observe c w f) (storeNext c w) (ledgerNext c w) (plainNext c w)
 open-kept old c w f m o x p s q =
@@ -309,7 +309,7 @@ module _ (old : Disk) (w : World) (m : WorldSim w) (h : refusal sync (w .plain) 
               let i : innerOf n m ≡ n + 3 = rw (PlainLaws.do-apply n m g) in
               PlainLaws.sync-waits-own n m k g (omega arith) ∙ (omega arith)
 
-  sync-watch : (f : Standing) → Watch old f (w .store) (w .ledger) (w .plain) → Watch old (observe sync w f) (storeNext sync w) (ledgerNext sync w) (plainNext sync w)
+  sync-watch : (f : Progress) → Watch old f (w .store) (w .ledger) (w .plain) → Watch old (observe sync w f) (storeNext sync w) (ledgerNext sync w) (plainNext sync w)
   sync-watch f x =
       let y = open-watch old f (w .store) (w .ledger) (w .plain) x (o .mode) in
       let P : plainNext sync w ≡ Plain.cutShort (ofSync (w .plain .power)) (syncWaits (w .plain .n) (length (w .plain .G)) (w .plain .power)) (w .plain) .plain = ap (λ (z : Done). z .plain) short-plain in
@@ -330,7 +330,7 @@ module _ (old : Disk) (w : World) (m : WorldSim w) (h : refusal sync (w .plain) 
 
 -- ---- apply
 
-apply-watch : (old : Disk) (w : World) (f : Standing) → WorldSim w → refusal apply (w .plain) ≡ 0 → Watch old f (w .store) (w .ledger) (w .plain)
+apply-watch : (old : Disk) (w : World) (f : Progress) → WorldSim w → refusal apply (w .plain) ≡ 0 → Watch old f (w .store) (w .ledger) (w .plain)
     → Watch old (observe apply w f) (storeNext apply w) (ledgerNext apply w) (plainNext apply w)
 unfolding observe shortSync
 apply-watch old w f m h x = go (ℕ-discrete (w .plain .n) 0) (decLe (w .plain .n + 3) (w .plain .power))
@@ -371,13 +371,13 @@ recover-laid k n m F t u = go (eqb k 0)
     go true = refl
     go false = refl
 
-recover-same : (w : World) (f : Standing) → observe recover w f ≡ f
+recover-same : (w : World) (f : Progress) → observe recover w f ≡ f
 unfolding observe shortSync
 recover-same w (known quiet) = refl
 recover-same w (undecided G place made) = refl
 recover-same w (known (decided G laid all)) = refl
 
-recover-watch : (old : Disk) (w : World) (f : Standing) → WorldSim w → refusal recover (w .plain) ≡ 0 → S.finished recover w ≡ false → Watch old f (w .store) (w .ledger) (w .plain)
+recover-watch : (old : Disk) (w : World) (f : Progress) → WorldSim w → refusal recover (w .plain) ≡ 0 → S.finished recover w ≡ false → Watch old f (w .store) (w .ledger) (w .plain)
     → Watch old (observe recover w f) (storeNext recover w) (ledgerNext recover w) (plainNext recover w)
 unfolding S.finished
 recover-watch old w f m h nf x = go (w .plain .F) refl (decLe 2 (w .plain .power))
@@ -444,7 +444,7 @@ module _ (old : Disk) (ms : List ℕ) (w : World) (m : WorldSim w) (h : refusal 
             rw (q .0, y .0, y .1);
       })
 
-  cut-watch : (f : Standing) → Watch old f (w .store) (w .ledger) (w .plain) → Watch old (observe (cut ms) w f) (storeNext (cut ms) w) (ledgerNext (cut ms) w) (plainNext (cut ms) w)
+  cut-watch : (f : Progress) → Watch old f (w .store) (w .ledger) (w .plain) → Watch old (observe (cut ms) w f) (storeNext (cut ms) w) (ledgerNext (cut ms) w) (plainNext (cut ms) w)
   unfolding observe shortSync
   cut-watch (known quiet) (_⊎_.inl x) = cut-still quiet refl (open-none (m .phase)) (x .S) tt
     where
@@ -460,7 +460,7 @@ module _ (old : Disk) (ms : List ℕ) (w : World) (m : WorldSim w) (h : refusal 
 
 -- ---- every call
 
-served-watch : (old : Disk) (c : Call) (w : World) (f : Standing) → WorldSim w → refusal c (w .plain) ≡ 0 → S.finished c w ≡ false → Watch old f (w .store) (w .ledger) (w .plain)
+served-watch : (old : Disk) (c : Call) (w : World) (f : Progress) → WorldSim w → refusal c (w .plain) ≡ 0 → S.finished c w ≡ false → Watch old f (w .store) (w .ledger) (w .plain)
     → Watch old (observe c w f) (storeNext c w) (ledgerNext c w) (plainNext c w)
 unfolding observe shortSync entered
 served-watch old (power k) w f m h nf x =
@@ -483,7 +483,7 @@ served-watch old apply w f m h nf x = apply-watch old w f m h x
 served-watch old recover w f m h nf x = recover-watch old w f m h nf x
 served-watch old (cut ms) w f m h nf x = cut-watch old ms w m h f x
 
-pub watch-step : (old : Disk) (c : Call) (w : World) (f : Standing) → WorldSim w → S.finished c w ≡ false → Watch old f (w .store) (w .ledger) (w .plain)
+pub watch-step : (old : Disk) (c : Call) (w : World) (f : Progress) → WorldSim w → S.finished c w ≡ false → Watch old f (w .store) (w .ledger) (w .plain)
     → Watch old (observe c w f) (storeNext c w) (ledgerNext c w) (plainNext c w)
 watch-step old c w f m nf x = go (ℕ-discrete (refusal c (w .plain)) 0)
   where
@@ -491,7 +491,7 @@ watch-step old c w f m nf x = go (ℕ-discrete (refusal c (w .plain)) 0)
     go (yes h) = served-watch old c w f m h nf x
     go (no h) = watch-refused old c w f h m x
 
-pub watch-list : (old : Disk) (cs : List Call) (w : World) (f : Standing) → WorldSim w → noneFinished cs w ≡ true → after cs w .excepted ≡ false → Watch old f (w .store) (w .ledger) (w .plain)
+pub watch-list : (old : Disk) (cs : List Call) (w : World) (f : Progress) → WorldSim w → noneFinished cs w ≡ true → after cs w .excepted ≡ false → Watch old f (w .store) (w .ledger) (w .plain)
     → Watch old (fate cs w f) (after cs w .store) (after cs w .ledger) (after cs w .plain)
 unfolding after fate noneFinished next
 watch-list old [] w f m n e x = x

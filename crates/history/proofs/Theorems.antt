@@ -29,7 +29,7 @@ use Rattle.history.proofs.PlainAnswers.{Either, served-answer}
 use Rattle.history.proofs.ReadsBack as ReadsBack
 use Rattle.history.proofs.Atomicity as Atomicity
 use Rattle.history.proofs.RefusalsProof as RefusalsProof
-use Rattle.history.proofs.FaceRefusals as Surfaces
+use Rattle.history.proofs.FaceRefusals as FaceRefusals
 use Rattle.history.proofs.Links as Links
 use Rattle.history.proofs.ScriptsProof as ScriptsProof
 
@@ -129,11 +129,11 @@ crash-atomicity = Atomicity.crash-atomicity
 pub refusals : Refusals
 refusals = record {
   calls = RefusalsProof.calls;
-  parts = Surfaces.parts;
+  parts = FaceRefusals.parts;
   lines = ScriptsProof.by-call;
-  reads = Surfaces.reads;
-  faces = Surfaces.faces RefusalsProof.calls;
-  gets = Surfaces.gets;
+  reads = FaceRefusals.reads;
+  faces = FaceRefusals.faces RefusalsProof.calls;
+  gets = FaceRefusals.gets;
 }
 
 -- ---- Through C

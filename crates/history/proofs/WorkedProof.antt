@@ -32,7 +32,7 @@ use Rattle.history.specs.Dispatch.{dispatch}
 use Rattle.history.specs.Ledger.{sameLog, collides}
 use Rattle.history.specs.History.{World, begun, next, after, storeNext, ledgerNext, foundWritten, acceptedCut, exception}
 use Rattle.history.specs.Statements as S
-use Rattle.history.specs.Statements.{noCut, EndsFinished, noneFinished, shortSync, allOnes, Fate, quiet, decided, Standing, known, undecided, observe, fate, outcome}
+use Rattle.history.specs.Statements.{noCut, EndsFinished, noneFinished, shortSync, allOnes, Fate, quiet, decided, Progress, known, undecided, observe, fate, outcome}
 use Rattle.history.specs.Linked.{AllPassable}
 use Rattle.history.specs.Worked.{halted, sevens, nines, at40, filed, crashed, answers, Script, Worked}
 use Rattle.history.proofs.Disks.{slotE, logD}
@@ -42,7 +42,7 @@ use Rattle.history.proofs.Steps.{WorldSim}
 use Rattle.history.proofs.CutStep.{found-cut, exception-cut}
 use Rattle.history.proofs.ListInduction.{begun-sim}
 use Rattle.history.proofs.ReadsBack.{power-served, cut-accepted}
-use Rattle.history.proofs.Atomicity.{Reading, reading}
+use Rattle.history.proofs.Atomicity.{SplitReading, split-reading}
 use Rattle.history.proofs.WorkedSums.{other-sum}
 use Rattle.history.proofs.WorkedPlain.{openAt, downAt, closedAt, plain-put, plain-commit, plain-filed, plain-power, plain-halted, plain-torn, plain-whole, plain-again, plain-fallback, plain-found, Went, went}
 use Rattle.history.proofs.WorkedSync.{group-is, grouped-is, no-inner, filed-log, filed-next, halted-written, halted-torn, halted-whole}
@@ -274,7 +274,7 @@ module _ (w : World) (m : Filed w) (ms : List ℕ) (same : Bool) (k : ℕ) (c : 
   fated : fate (crashed ms) w (known quiet) ≡ known (decided (at40 nines ∷ []) (eqb (getD ms 2 0) 1 && same) (allOnes ms))
   unfolding fate observe shortSync
   fated =
-      ap (λ (x : Standing). fate (cut ms ∷ power 100 ∷ []) (v₄ w) x) (observed w m)
+      ap (λ (x : Progress). fate (cut ms ∷ power 100 ∷ []) (v₄ w) x) (observed w m)
       ∙ (λ j.
       fate (power 100 ∷ []) v₅
       (cond (accepted w m ms (c .fit) j) (known (decided (at40 nines ∷ []) (eqb (getD ms 2 0) 1 && c .found j) (allOnes ms))) (undecided (at40 nines ∷ []) 2 true)))
@@ -331,9 +331,9 @@ module _ (st : State) (f : formatCall st .answer ≡ 0) (size : blocksIn (st .se
 
   module _ (ms : List ℕ) (same : Bool) (k : ℕ) (c : Cuts w₃ ms same k) where
     -- the disk found, by crash atomicity
-    read : Reading st filed (crashed ms)
+    read : SplitReading st filed (crashed ms)
     unfolding after
-    read = reading st f filed (crashed ms) ends (none-done w₃ all-filed ms same k c) (t₇ w₃ all-filed ms same k c .answer) (all-clean w₃ all-filed ms same k c)
+    read = split-reading st f filed (crashed ms) ends (none-done w₃ all-filed ms same k c) (t₇ w₃ all-filed ms same k c .answer) (all-clean w₃ all-filed ms same k c)
 
     is-40 : isData (blocksIn (st .settled)) 40 ≡ true
     is-40 = ap (λ (N : ℕ). isData N 40) size

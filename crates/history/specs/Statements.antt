@@ -154,16 +154,16 @@ pub data Fate : Type 0 where
 
 -- along the list: known; or still undecided, with the group of the sync, the place in the queue of its own header and whether that
 -- header was written
-pub data Standing : Type 0 where
-  known : Fate → Standing
-  undecided : List Entry → ℕ → Bool → Standing
+pub data Progress : Type 0 where
+  known : Fate → Progress
+  undecided : List Entry → ℕ → Bool → Progress
 
 -- the sync's own header was written, and nothing after it
 abbrev pub headed : World → Bool
 headed w = eqb (dispatch sync (w .store) .orders) (inner (w .store) + (w .store .rec .grouped + 2))
 
 -- at an accepted cut: its header kept, and the log found is the log written
-abbrev pub atCut : Call → World → List Entry → ℕ → Bool → Standing
+abbrev pub atCut : Call → World → List Entry → ℕ → Bool → Progress
 atCut (power k) w G place made = undecided G place made
 atCut (put a b) w G place made = undecided G place made
 atCut (get a) w G place made = undecided G place made
@@ -177,12 +177,12 @@ atCut (cut ms) w G place made =
     (known (decided G (made && eqb (getD ms place 0) 1 && foundWritten (cut ms) w) (made && allOnes ms)))
     (undecided G place made)
 
-unfoldable pub observe : Call → World → Standing → Standing
+unfoldable pub observe : Call → World → Progress → Progress
 observe c w (known quiet) = cond (shortSync c w) (undecided (groupOf (w .store)) (w .store .rec .grouped + 1) (headed w)) (known quiet)
 observe c w (known (decided G laid all)) = known (decided G laid all)
 observe c w (undecided G place made) = atCut c w G place made
 
-unfoldable pub fate : List Call → World → Standing → Standing
+unfoldable pub fate : List Call → World → Progress → Progress
 fate [] w f = f
 fate (c ∷ cs) w f = fate cs (next c w) (observe c w f)
 
