@@ -10,9 +10,9 @@ use Rattle.cells.specs.Upto.{upTo}
 use Rattle.cells.specs.Entry.{blockBytes, Entry, entryAt, setEntry}
 use Rattle.card.specs.Disk.{Disk}
 
--- the places of the queue
-abbrev pub places : ℕ
-places = 34
+-- no queue has more places than this, so that its count fits 4 bytes
+abbrev pub mostPlaces : ℕ
+mostPlaces = 65536
 
 pub record Card : Type 0 where
   pub settled : List ℕ

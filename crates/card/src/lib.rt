@@ -1,6 +1,3 @@
 // A block device with a write queue: settled bytes and waiting writes in two lent buffers, counts by value.
 pub mod queue;
 pub mod settled;
-
-// The places of the queue.
-pub const PLACES: usize = 34;

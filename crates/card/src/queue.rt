@@ -10,7 +10,7 @@ ghost use lib.ListN.{length};
 ghost use Rattle.cells.specs.Upto.{upTo};
 ghost use Rattle.cells.specs.Entry.{blockBytes, entryBytes, entryAt};
 ghost use Rattle.card.specs.Card as Card;
-ghost use Rattle.card.specs.Card.{places, blocksIn, run};
+ghost use Rattle.card.specs.Card.{mostPlaces, blocksIn, run};
 ghost use Rattle.card.specs.CodeQueue.{cardOf, Below};
 
 // How many writes wait, and how many orders still happen.
@@ -61,7 +61,7 @@ impl Queue {
     // The order write: one more waiting write, or nothing at power 0.
     pub fn write(self, waiting: &mut [u8], address: u32, block: &[u8]) -> Ordered
         requires { ⌜ entryBytes * self .waiting + entryBytes ≤ length (now waiting) ⌝ }
-        requires { ⌜ self .waiting < places ⌝ }
+        requires { ⌜ self .waiting < mostPlaces ⌝ }
         requires { ⌜ length (now block) ≡ blockBytes ⌝ }
         ensures { λ r. ⌜ r .happened ≡ ltb 0 (self .power) ⌝ }
         ensures { λ r. ⌜ ((s : List ℕ) → cardOf s (now (waiting .exit)) (r .queue) ≡ run (Card.write (record { address = address; block = now (block .entry) }) ∷ []) (cardOf s (now (waiting .entry)) self)) ⌝ }

@@ -7,6 +7,8 @@ use lib.Bits.{bitXor}
 use lib.Dec.{T, eqb, eqb→eq}
 use Rattle.fnv.specs.Fnv.{start, prime, step}
 use Rattle.fnv.proofs.Laws.{sum-nil}
+use Rattle.journal.specs.Geometry.Laws.{trap-slots, trap-descriptors}
+use Rattle.journal.specs.Geometry.{trap}
 use Rattle.journal.specs.Layout.{slotAt, isData, placeOf}
 use Rattle.journal.specs.Cases.{Case, emptySum, sumStep, syncTakes, applyTakes, slotStarts, blockStarts, addressIs, Claim, RowsHold, cases}
 use Rattle.journal.proofs.OrderLists.{applyCount, syncCount, length-apply, length-sync}
@@ -14,11 +16,11 @@ use Rattle.journal.proofs.OrderLists.{applyCount, syncCount, length-app
 abbrev right : Case → Bool
 right (emptySum v) = eqb start v
 right (sumStep h b v) = eqb (bitXor h b * prime % 2 ^ 64) v
-right (syncTakes n m v) = eqb (syncCount n m) v
+right (syncTakes n m v) = eqb (syncCount trap n m) v
 right (applyTakes n v) = eqb (applyCount n) v
-right (slotStarts i v) = eqb (placeOf (slotAt i)) v
+right (slotStarts i v) = eqb (placeOf (slotAt trap i)) v
 right (blockStarts a v) = eqb (placeOf a) v
-right (addressIs N a v) = Bool·beq (isData N a) v
+right (addressIs N a v) = Bool·beq (isData trap N a) v
 
 same : (a b : Bool) → T (Bool·beq a b) → a ≡ b
 same true true t = refl
@@ -30,11 +32,11 @@ claim : (c : Case) → T (right c) → Claim c
 unfolding step
 claim (emptySum v) t = sum-nil ∙ eqb→eq start v t
 claim (sumStep h b v) t = eqb→eq (bitXor h b * prime % 2 ^ 64) v t
-claim (syncTakes n m v) t = λ N h s es e. length-sync N s n h es ∙ ap (syncCount n) e ∙ eqb→eq (syncCount n m) v t
-claim (applyTakes n v) t = λ N s. length-apply N s n ∙ eqb→eq (applyCount n) v t
-claim (slotStarts i v) t = eqb→eq (placeOf (slotAt i)) v t
+claim (syncTakes n m v) t = λ N h s es e. length-sync trap N s n h es ∙ ap (syncCount trap n) e ∙ eqb→eq (syncCount trap n m) v t
+claim (applyTakes n v) t = λ N s. length-apply trap N s n ∙ eqb→eq (applyCount n) v t
+claim (slotStarts i v) t = eqb→eq (placeOf (slotAt trap i)) v t
 claim (blockStarts a v) t = eqb→eq (placeOf a) v t
-claim (addressIs N a v) t = same (isData N a) v t
+claim (addressIs N a v) t = same (isData trap N a) v t
 
 abbrev all : List Case → Bool
 all [] = true
@@ -49,4 +51,4 @@ holds [] t = tt
 holds (c ∷ cs) t = let p = first (right c) (all cs) t in (claim c (p .0), holds cs (p .1))
 
 pub cases-hold : RowsHold cases
-cases-hold = holds cases tt
+cases-hold = holds cases (rw (trap-slots, trap-descriptors) tt)

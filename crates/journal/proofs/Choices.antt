@@ -6,9 +6,9 @@ use mathlib.Core.List.{List}
 use native.Mathlib.Omega.{arith}
 use borrow.Author.Tests.{le-ltb, lt-ltb, eqb-true, leb-true, leb-false, not-false}
 use lib.Dec.{leb, ltb}
+use Rattle.journal.specs.Geometry.{Geometry}
 use Rattle.journal.specs.declared.header.Header.{Header}
 use Rattle.journal.specs.declared.choice.Choice.the-variants.{Whole, Fallback, Foreign, Neither}
-use Rattle.journal.specs.Layout.{slots}
 use Rattle.journal.specs.Header.{formatNumber}
 use Rattle.journal.specs.Log.{headerOf, entries, good}
 use Rattle.journal.specs.Choice.{foreign, choose, takenCount}
@@ -25,54 +25,55 @@ not-leb a b = go (leb a b) refl
 
 -- ---- a header of this card
 
--- what is not foreign
-pub record Ours (N : ℕ) (h : Header) : Type 0 where
-  pub format : h .format ≡ formatNumber
-  pub blocks : h .blocks ≡ N
-  pub count : h .count ≤ slots
-  pub previous : h .previous ≤ h .count
+module _ (g : Geometry) where
+  -- what is not foreign
+  pub record Ours (N : ℕ) (h : Header) : Type 0 where
+    pub format : h .format ≡ formatNumber
+    pub blocks : h .blocks ≡ N
+    pub count : h .count ≤ g .slots
+    pub previous : h .previous ≤ h .count
 
-pub ours : (N : ℕ) (h : Header) → foreign N h ≡ false → Ours N h
-ours N h e =
-    let p = both _ _ (not-false _ e) in
-    let q = both _ _ (p .0) in
-    let r = both _ _ (q .0) in
-    record {
-      format = eqb-true _ _ (r .0);
-      blocks = eqb-true _ _ (r .1);
-      count = leb-true _ _ (q .1);
-      previous = leb-true _ _ (p .1);
-    }
+  pub ours : (N : ℕ) (h : Header) → foreign g N h ≡ false → Ours N h
+  ours N h e =
+      let p = both _ _ (not-false _ e) in
+      let q = both _ _ (p .0) in
+      let r = both _ _ (q .0) in
+      record {
+        format = eqb-true _ _ (r .0);
+        blocks = eqb-true _ _ (r .1);
+        count = leb-true _ _ (q .1);
+        previous = leb-true _ _ (p .1);
+      }
 
--- ---- the choice, case by case
+  -- ---- the choice, case by case
 
-module _ (N : ℕ) (s : List ℕ) (h : Header) (read : h ≡ headerOf s) where
-  pub choose-foreign : foreign N h ≡ true → choose N s ≡ Foreign
+  module _ (N : ℕ) (s : List ℕ) (h : Header) (read : h ≡ headerOf s) where
+    pub choose-foreign : foreign g N h ≡ true → choose g N s ≡ Foreign
+    unfolding choose
+    choose-foreign f = rw (← read, f)
+
+    pub choose-whole : foreign g N h ≡ false → good g N (entries g s (h .count)) (h .sum) ≡ true → choose g N s ≡ Whole (h .count) (h .sum)
+    unfolding choose
+    choose-whole f n = rw (← read, f, n)
+
+    pub choose-fallback : foreign g N h ≡ false → good g N (entries g s (h .count)) (h .sum) ≡ false → good g N (entries g s (h .previous)) (h .presum) ≡ true
+        → choose g N s ≡ Fallback (h .previous) (h .presum)
+    unfolding choose
+    choose-fallback f n p = rw (← read, f, n, p)
+
+    pub choose-neither : foreign g N h ≡ false → good g N (entries g s (h .count)) (h .sum) ≡ false → good g N (entries g s (h .previous)) (h .presum) ≡ false
+        → choose g N s ≡ Neither
+    unfolding choose
+    choose-neither f n p = rw (← read, f, n, p)
+
+  -- a list that is taken fits the slots
+  pub taken-count : (N : ℕ) (s : List ℕ) → takenCount (choose g N s) ≤ g .slots
   unfolding choose
-  choose-foreign f = rw (← read, f)
-
-  pub choose-whole : foreign N h ≡ false → good N (entries s (h .count)) (h .sum) ≡ true → choose N s ≡ Whole (h .count) (h .sum)
-  unfolding choose
-  choose-whole f n = rw (← read, f, n)
-
-  pub choose-fallback : foreign N h ≡ false → good N (entries s (h .count)) (h .sum) ≡ false → good N (entries s (h .previous)) (h .presum) ≡ true
-      → choose N s ≡ Fallback (h .previous) (h .presum)
-  unfolding choose
-  choose-fallback f n p = rw (← read, f, n, p)
-
-  pub choose-neither : foreign N h ≡ false → good N (entries s (h .count)) (h .sum) ≡ false → good N (entries s (h .previous)) (h .presum) ≡ false
-      → choose N s ≡ Neither
-  unfolding choose
-  choose-neither f n p = rw (← read, f, n, p)
-
--- a list that is taken fits the slots
-pub taken-count : (N : ℕ) (s : List ℕ) → takenCount (choose N s) ≤ slots
-unfolding choose
-taken-count N s = go (foreign N (headerOf s)) refl (good N (entries s (headerOf s .count)) (headerOf s .sum)) (good N (entries s (headerOf s .previous)) (headerOf s .presum))
-  where
-    go : (f : Bool) → foreign N (headerOf s) ≡ f → (n p : Bool)
-        → takenCount (cond f Foreign (cond n (Whole (headerOf s .count) (headerOf s .sum)) (cond p (Fallback (headerOf s .previous) (headerOf s .presum)) Neither))) ≤ slots
-    go true e n p = omega arith
-    go false e true p = ours N (headerOf s) e .count
-    go false e false true = let o = ours N (headerOf s) e in omega (arith, o .count, o .previous)
-    go false e false false = omega arith
+  taken-count N s = go (foreign g N (headerOf s)) refl (good g N (entries g s (headerOf s .count)) (headerOf s .sum)) (good g N (entries g s (headerOf s .previous)) (headerOf s .presum))
+    where
+      go : (f : Bool) → foreign g N (headerOf s) ≡ f → (n p : Bool)
+          → takenCount (cond f Foreign (cond n (Whole (headerOf s .count) (headerOf s .sum)) (cond p (Fallback (headerOf s .previous) (headerOf s .presum)) Neither))) ≤ g .slots
+      go true e n p = omega arith
+      go false e true p = ours N (headerOf s) e .count
+      go false e false true = let o = ours N (headerOf s) e in omega (arith, o .count, o .previous)
+      go false e false false = omega arith

@@ -23,7 +23,8 @@ use Rattle.fnv.proofs.Laws.{sumFrom-nil, sumFrom-append, sumFrom-lt}
 use Rattle.card.specs.Card.{blockAt, blocksIn}
 use Rattle.card.proofs.All.{All, all-upTo, upTo-all}
 use Rattle.card.proofs.Runs.{Whole, NarrowAddress}
-use Rattle.journal.specs.Layout.{slotAt, descriptorAt, firstData, slots, isData}
+use Rattle.journal.specs.Geometry.{Geometry}
+use Rattle.journal.specs.Layout.{slotAt, descriptorAt, firstData, isData}
 use Rattle.journal.specs.Log.{slotAddress, slotEntry, entries, entriesFrom, sumOf, allData}
 
 -- ---- tests
@@ -80,81 +81,83 @@ sumOf-lt h es l = sumFrom-lt h (flat es) l
 
 -- ---- a list of data blocks
 
-pub data-bounds : (N a : ℕ) → isData N a ≡ true → (firstData ≤ a) × (a < N)
-data-bounds N a e = let p = both _ _ e in (leb-true firstData a (p .0), ltb-true a N (p .1))
+module _ (g : Geometry) where
+  pub data-bounds : (N a : ℕ) → isData g N a ≡ true → (firstData g ≤ a) × (a < N)
+  data-bounds N a e = let p = both _ _ e in (leb-true (firstData g) a (p .0), ltb-true a N (p .1))
 
-pub bounds-data : (N a : ℕ) → firstData ≤ a → a < N → isData N a ≡ true
-bounds-data N a h k = rw (le-leb firstData a h, lt-ltb a N k)
+  pub bounds-data : (N a : ℕ) → firstData g ≤ a → a < N → isData g N a ≡ true
+  bounds-data N a h k = rw (le-leb (firstData g) a h, lt-ltb a N k)
 
-pub allData-all : (N : ℕ) (es : List Entry) → allData N es ≡ true → All (λ e. isData N (e .address) ≡ true) es
-unfolding allData
-allData-all N [] h = tt
-allData-all N (e ∷ es) h = let p = both _ _ h in (p .0, allData-all N es (p .1))
+  pub allData-all : (N : ℕ) (es : List Entry) → allData g N es ≡ true → All (λ e. isData g N (e .address) ≡ true) es
+  unfolding allData
+  allData-all N [] h = tt
+  allData-all N (e ∷ es) h = let p = both _ _ h in (p .0, allData-all N es (p .1))
 
-pub all-allData : (N : ℕ) (es : List Entry) → All (λ e. isData N (e .address) ≡ true) es → allData N es ≡ true
-unfolding allData
-all-allData N [] h = refl
-all-allData N (e ∷ es) h = rw (h .0, all-allData N es (h .1))
+  pub all-allData : (N : ℕ) (es : List Entry) → All (λ e. isData g N (e .address) ≡ true) es → allData g N es ≡ true
+  unfolding allData
+  all-allData N [] h = refl
+  all-allData N (e ∷ es) h = rw (h .0, all-allData N es (h .1))
 
--- each slot of such a log
-pub slot-data : (s : List ℕ) (N n i : ℕ) → i < n → allData N (entries s n) ≡ true → isData N (slotAddress s i) ≡ true
-unfolding slotEntry
-slot-data s N n i h e = upTo-all (λ x. isData N (x .address) ≡ true) (slotEntry s) n (allData-all N (entries s n) e) i h
+  -- each slot of such a log
+  pub slot-data : (s : List ℕ) (N n i : ℕ) → i < n → allData g N (entries g s n) ≡ true → isData g N (slotAddress s i) ≡ true
+  unfolding slotEntry
+  slot-data s N n i h e = upTo-all (λ x. isData g N (x .address) ≡ true) (slotEntry g s) n (allData-all N (entries g s n) e) i h
 
-pub allData-append : (N : ℕ) (a b : List Entry) → allData N (a ++ b) ≡ allData N a && allData N b
-unfolding allData
-allData-append N [] b = refl
-allData-append N (e ∷ a) b = go (isData N (e .address)) (allData-append N a b)
-  where
-    go : (t : Bool) → allData N (a ++ b) ≡ allData N a && allData N b → t && allData N (a ++ b) ≡ (t && allData N a) && allData N b
-    go true k = k
-    go false k = refl
+  pub allData-append : (N : ℕ) (a b : List Entry) → allData g N (a ++ b) ≡ allData g N a && allData g N b
+  unfolding allData
+  allData-append N [] b = refl
+  allData-append N (e ∷ a) b = go (isData g N (e .address)) (allData-append N a b)
+    where
+      go : (t : Bool) → allData g N (a ++ b) ≡ allData g N a && allData g N b → t && allData g N (a ++ b) ≡ (t && allData g N a) && allData g N b
+      go true k = k
+      go false k = refl
 
--- ---- entry by entry
+  -- ---- entry by entry
 
--- an entry with the slot's address and its block
-pub slot-entry : (s : List ℕ) (i : ℕ) (e : Entry) → e .address ≡ slotAddress s i → e .block ≡ blockAt s (slotAt i) → e ≡ slotEntry s i
-unfolding slotEntry
-slot-entry s i e p q = entry-eq p q
+  -- an entry with the slot's address and its block
+  pub slot-entry : (s : List ℕ) (i : ℕ) (e : Entry) → e .address ≡ slotAddress s i → e .block ≡ blockAt s (slotAt g i) → e ≡ slotEntry g s i
+  unfolding slotEntry
+  slot-entry s i e p q = entry-eq p q
 
 -- the sum goes on over the next entry
 pub sum-more : (f : ℕ → Entry) (h i g : ℕ) (e : Entry) → g ≡ sumOf h (upTo f i) → e ≡ f i → sumOf g (e ∷ []) ≡ sumOf h (upTo f (i + 1))
 sum-more f h i g e p q = rw (add-one, p, q) (sym (sumOf-append h (upTo f i) (f i ∷ [])))
 
--- the last of n addresses, then those before it
-data-down : (N : ℕ) (s : List ℕ) (n : ℕ) → 0 < n → allData N (entries s n) ≡ allData N (entries s (n - 1)) && isData N (slotAddress s (n - 1))
-unfolding allData slotEntry
-data-down N s zero h = absurd (omega arith)
-data-down N s (suc n) h =
-    let e : suc n - 1 ≡ n = omega arith in
-    rw e
-    (allData-append N (entries s n) (slotEntry s n ∷ [])
-    ∙ ap (λ (t : Bool). allData N (entries s n) && t) (and-true (isData N (slotAddress s n))))
+module _ (g : Geometry) where
+  -- the last of n addresses, then those before it
+  data-down : (N : ℕ) (s : List ℕ) (n : ℕ) → 0 < n → allData g N (entries g s n) ≡ allData g N (entries g s (n - 1)) && isData g N (slotAddress s (n - 1))
+  unfolding allData slotEntry
+  data-down N s zero h = absurd (omega arith)
+  data-down N s (suc n) h =
+      let e : suc n - 1 ≡ n = omega arith in
+      rw e
+      (allData-append g N (entries g s n) (slotEntry g s n ∷ [])
+      ∙ ap (λ (t : Bool). allData g N (entries g s n) && t) (and-true (isData g N (slotAddress s n))))
 
-pub data-stop : (N : ℕ) (s : List ℕ) (n : ℕ) → 0 < n → isData N (slotAddress s (n - 1)) ≡ false → allData N (entries s n) ≡ false
-data-stop N s n h e = data-down N s n h ∙ rw (e, and-false)
+  pub data-stop : (N : ℕ) (s : List ℕ) (n : ℕ) → 0 < n → isData g N (slotAddress s (n - 1)) ≡ false → allData g N (entries g s n) ≡ false
+  data-stop N s n h e = data-down N s n h ∙ rw (e, and-false)
 
-pub data-on : (N : ℕ) (s : List ℕ) (n : ℕ) → 0 < n → isData N (slotAddress s (n - 1)) ≡ true → allData N (entries s n) ≡ allData N (entries s (n - 1))
-data-on N s n h e = data-down N s n h ∙ rw (e, and-true)
+  pub data-on : (N : ℕ) (s : List ℕ) (n : ℕ) → 0 < n → isData g N (slotAddress s (n - 1)) ≡ true → allData g N (entries g s n) ≡ allData g N (entries g s (n - 1))
+  data-on N s n h e = data-down N s n h ∙ rw (e, and-true)
 
--- ---- what the log holds is whole, and its addresses fit four bytes
+  -- ---- what the log holds is whole, and its addresses fit four bytes
 
-pub entries-whole : (s : List ℕ) (n : ℕ) → firstData < blocksIn s → n ≤ slots → All Whole (entries s n)
-unfolding slotEntry
-entries-whole s n h k = all-upTo Whole (slotEntry s) n (λ i p. length-blockAt s (slotAt i) (omega arith))
+  pub entries-whole : (s : List ℕ) (n : ℕ) → firstData g < blocksIn s → n ≤ g .slots → All Whole (entries g s n)
+  unfolding slotEntry
+  entries-whole s n h k = all-upTo Whole (slotEntry g s) n (λ i p. length-blockAt s (slotAt g i) (omega arith))
 
-pub slotAddress-lt : (s : List ℕ) (i : ℕ) → Bytes s → firstData < blocksIn s → i < slots → slotAddress s i < 2 ^ 32
-unfolding slotAddress
-slotAddress-lt s i b h k =
-    let whole : length (blockAt s descriptorAt) ≡ blockBytes = length-blockAt s descriptorAt (omega arith) in
-    let four : length (cell 4 (blockAt s descriptorAt) i) ≡ 4 = length-cell 4 (blockAt s descriptorAt) i (omega arith) in
-    let small : num (cell 4 (blockAt s descriptorAt) i) < 256 ^ length (cell 4 (blockAt s descriptorAt) i) =
-    num-lt (cell 4 (blockAt s descriptorAt) i) (bytes-cell 4 (blockAt s descriptorAt) i (bytes-cell blockBytes s descriptorAt b)) in
-    rw four at small
+  pub slotAddress-lt : (s : List ℕ) (i : ℕ) → Bytes s → firstData g < blocksIn s → i < g .slots → slotAddress s i < 2 ^ 32
+  unfolding slotAddress
+  slotAddress-lt s i b h k =
+      let whole : length (blockAt s descriptorAt) ≡ blockBytes = length-blockAt s descriptorAt (omega arith) in
+      let four : length (cell 4 (blockAt s descriptorAt) i) ≡ 4 = length-cell 4 (blockAt s descriptorAt) i (omega arith) in
+      let small : num (cell 4 (blockAt s descriptorAt) i) < 256 ^ length (cell 4 (blockAt s descriptorAt) i) =
+      num-lt (cell 4 (blockAt s descriptorAt) i) (bytes-cell 4 (blockAt s descriptorAt) i (bytes-cell blockBytes s descriptorAt b)) in
+      rw four at small
 
-pub entries-below : (X : ℕ) (s : List ℕ) (n : ℕ) → ((i : ℕ) → i < n → slotAddress s i < X) → All (λ e. e .address < X) (entries s n)
-unfolding slotEntry
-entries-below X s n h = all-upTo (λ e. e .address < X) (slotEntry s) n h
+  pub entries-below : (X : ℕ) (s : List ℕ) (n : ℕ) → ((i : ℕ) → i < n → slotAddress s i < X) → All (λ e. e .address < X) (entries g s n)
+  unfolding slotEntry
+  entries-below X s n h = all-upTo (λ e. e .address < X) (slotEntry g s) n h
 
-pub entries-short : (s : List ℕ) (n : ℕ) → Bytes s → firstData < blocksIn s → n ≤ slots → All NarrowAddress (entries s n)
-entries-short s n b h k = entries-below (2 ^ 32) s n (λ i p. slotAddress-lt s i b h (omega arith))
+  pub entries-short : (s : List ℕ) (n : ℕ) → Bytes s → firstData g < blocksIn s → n ≤ g .slots → All NarrowAddress (entries g s n)
+  entries-short s n b h k = entries-below (2 ^ 32) s n (λ i p. slotAddress-lt s i b h (omega arith))

@@ -13,6 +13,7 @@ use Rattle.cells.specs.Entry.{Entry}
 use Rattle.card.specs.Card.{blockAt}
 use Rattle.card.specs.Disk.{Disk, lay, overlay}
 use Rattle.card.proofs.Overlays.{lay-same, lay-other, overlay-append}
+use Rattle.journal.specs.Geometry.{Geometry}
 use Rattle.journal.specs.declared.lookup.Found.{Found}
 use Rattle.journal.specs.declared.lookup.Found.the-variants.{At, Absent}
 use Rattle.journal.specs.Layout.{slotAt}
@@ -94,6 +95,7 @@ overlay-found e (suc n) d a =
     go true p k = lay-same (e n) (overlay (upTo e n) d) a (sym (eqb-true _ _ p))
     go false p k = lay-other (e n) (overlay (upTo e n) d) a (λ q. eqb-false _ _ p (sym q)) ∙ k
 
-pub overlay-slots : (s : List ℕ) (n : ℕ) (d : Disk) (a : ℕ) → overlay (entries s n) d a ≡ foundIn (lastSlot s a n) (λ k. blockAt s (slotAt k)) (d a)
-unfolding slotEntry
-overlay-slots s n d a = overlay-found (slotEntry s) n d a
+module _ (g : Geometry) where
+  pub overlay-slots : (s : List ℕ) (n : ℕ) (d : Disk) (a : ℕ) → overlay (entries g s n) d a ≡ foundIn (lastSlot s a n) (λ k. blockAt s (slotAt g k)) (d a)
+  unfolding slotEntry
+  overlay-slots s n d a = overlay-found (slotEntry g s) n d a

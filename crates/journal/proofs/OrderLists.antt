@@ -16,8 +16,9 @@ use Rattle.card.specs.declared.queue.Queue.{Queue}
 use Rattle.card.specs.CodeQueue.{cardOf, Below}
 use Rattle.card.proofs.All.{All, all-append}
 use Rattle.card.proofs.Runs.{Whole, NarrowAddress, writes-below}
+use Rattle.journal.specs.Geometry.{Geometry}
 use Rattle.journal.specs.declared.header.Header.{Header}
-use Rattle.journal.specs.Layout.{headerAt, descriptorAt, slotAt, slots, firstData}
+use Rattle.journal.specs.Layout.{headerAt, descriptorAt, slotAt, firstData}
 use Rattle.journal.specs.Header.{encode, header, emptyHeader}
 use Rattle.journal.specs.Log.{slotEntry, entries, sumOf}
 use Rattle.journal.specs.Orders.{headerWrite, slotWrites, describe, appendOrders, checkpointOrders, fallbackOrders, applyOrders, syncOrders}
@@ -26,56 +27,57 @@ use Rattle.journal.proofs.Phases.{below-card}
 
 -- ---- log blocks
 
--- an entry's block, on its way to slot k
-abbrev pub slotBlock : ℕ → Entry → Entry
-slotBlock k e = record { address = slotAt k; block = e .block }
+module _ (g : Geometry) where
+  -- an entry's block, on its way to slot k
+  abbrev pub slotBlock : ℕ → Entry → Entry
+  slotBlock k e = record { address = slotAt g k; block = e .block }
 
--- a list's blocks, on their way to the slots from n on
-unfoldable pub slotBlocks : ℕ → List Entry → List Entry
-slotBlocks n [] = []
-slotBlocks n (e ∷ es) = slotBlock n e ∷ slotBlocks (suc n) es
+  -- a list's blocks, on their way to the slots from n on
+  unfoldable pub slotBlocks : ℕ → List Entry → List Entry
+  slotBlocks n [] = []
+  slotBlocks n (e ∷ es) = slotBlock n e ∷ slotBlocks (suc n) es
 
-pub slotWrites-blocks : (n : ℕ) (es : List Entry) → slotWrites n es ≡ map write (slotBlocks n es)
-unfolding slotWrites slotBlocks
-slotWrites-blocks n [] = refl
-slotWrites-blocks n (e ∷ es) = ap (λ (os : List Order). write (slotBlock n e) ∷ os) (slotWrites-blocks (suc n) es)
+  pub slotWrites-blocks : (n : ℕ) (es : List Entry) → slotWrites g n es ≡ map write (slotBlocks n es)
+  unfolding slotWrites slotBlocks
+  slotWrites-blocks n [] = refl
+  slotWrites-blocks n (e ∷ es) = ap (λ (os : List Order). write (slotBlock n e) ∷ os) (slotWrites-blocks (suc n) es)
 
-pub length-slotBlocks : (n : ℕ) (es : List Entry) → length (slotBlocks n es) ≡ length es
-unfolding slotBlocks
-length-slotBlocks n [] = refl
-length-slotBlocks n (e ∷ es) = ap suc (length-slotBlocks (suc n) es)
+  pub length-slotBlocks : (n : ℕ) (es : List Entry) → length (slotBlocks n es) ≡ length es
+  unfolding slotBlocks
+  length-slotBlocks n [] = refl
+  length-slotBlocks n (e ∷ es) = ap suc (length-slotBlocks (suc n) es)
 
-pub slotBlocks-append : (n : ℕ) (a b : List Entry) → slotBlocks n (a ++ b) ≡ slotBlocks n a ++ slotBlocks (n + length a) b
-unfolding slotBlocks
-slotBlocks-append n [] b = rw (add-zero)
-slotBlocks-append n (e ∷ a) b =
-    rw (add-suc, ← suc-add n (length a)) (ap (λ (l : List Entry). slotBlock n e ∷ l) (slotBlocks-append (suc n) a b))
+  pub slotBlocks-append : (n : ℕ) (a b : List Entry) → slotBlocks n (a ++ b) ≡ slotBlocks n a ++ slotBlocks (n + length a) b
+  unfolding slotBlocks
+  slotBlocks-append n [] b = rw (add-zero)
+  slotBlocks-append n (e ∷ a) b =
+      rw (add-suc, ← suc-add n (length a)) (ap (λ (l : List Entry). slotBlock n e ∷ l) (slotBlocks-append (suc n) a b))
 
-pub slotBlocks-upTo : (n : ℕ) (e : ℕ → Entry) (m : ℕ) → slotBlocks n (upTo e m) ≡ upTo (λ i. slotBlock (n + i) (e i)) m
-unfolding slotBlocks
-slotBlocks-upTo n e zero = refl
-slotBlocks-upTo n e (suc m) =
-    slotBlocks-append n (upTo e m) (e m ∷ [])
-    ∙ ap₂ (λ (a : List Entry) (k : ℕ). a ++ (slotBlock (n + k) (e m) ∷ [])) (slotBlocks-upTo n e m) (length-upTo e m)
+  pub slotBlocks-upTo : (n : ℕ) (e : ℕ → Entry) (m : ℕ) → slotBlocks n (upTo e m) ≡ upTo (λ i. slotBlock (n + i) (e i)) m
+  unfolding slotBlocks
+  slotBlocks-upTo n e zero = refl
+  slotBlocks-upTo n e (suc m) =
+      slotBlocks-append n (upTo e m) (e m ∷ [])
+      ∙ ap₂ (λ (a : List Entry) (k : ℕ). a ++ (slotBlock (n + k) (e m) ∷ [])) (slotBlocks-upTo n e m) (length-upTo e m)
 
-pub slotWrites-upTo : (n : ℕ) (e : ℕ → Entry) (m : ℕ) → slotWrites n (upTo e m) ≡ map write (upTo (λ i. slotBlock (n + i) (e i)) m)
-slotWrites-upTo n e m = slotWrites-blocks n (upTo e m) ∙ ap (map write) (slotBlocks-upTo n e m)
+  pub slotWrites-upTo : (n : ℕ) (e : ℕ → Entry) (m : ℕ) → slotWrites g n (upTo e m) ≡ map write (upTo (λ i. slotBlock (n + i) (e i)) m)
+  slotWrites-upTo n e m = slotWrites-blocks n (upTo e m) ∙ ap (map write) (slotBlocks-upTo n e m)
 
--- they are whole if the entries are, and lie in the slots from n on
-pub slots-whole : (n : ℕ) (es : List Entry) → All Whole es → All Whole (slotBlocks n es)
-unfolding slotBlocks
-slots-whole n [] h = tt
-slots-whole n (e ∷ es) h = (h .0, slots-whole (suc n) es (h .1))
+  -- they are whole if the entries are, and lie in the slots from n on
+  pub slots-whole : (n : ℕ) (es : List Entry) → All Whole es → All Whole (slotBlocks n es)
+  unfolding slotBlocks
+  slots-whole n [] h = tt
+  slots-whole n (e ∷ es) h = (h .0, slots-whole (suc n) es (h .1))
 
-pub slots-below : (X n : ℕ) (es : List Entry) → slotAt (n + length es) ≤ X → All (λ e. e .address < X) (slotBlocks n es)
-unfolding slotBlocks
-slots-below X n [] h = tt
-slots-below X n (e ∷ es) h = (omega arith, slots-below X (suc n) es (omega arith))
+  pub slots-below : (X n : ℕ) (es : List Entry) → slotAt g (n + length es) ≤ X → All (λ e. e .address < X) (slotBlocks n es)
+  unfolding slotBlocks
+  slots-below X n [] h = tt
+  slots-below X n (e ∷ es) h = (omega arith, slots-below X (suc n) es (omega arith))
 
-pub slots-from : (X n : ℕ) (es : List Entry) → X ≤ slotAt n → All (λ e. X ≤ e .address) (slotBlocks n es)
-unfolding slotBlocks
-slots-from X n [] h = tt
-slots-from X n (e ∷ es) h = (h, slots-from X (suc n) es (omega arith))
+  pub slots-from : (X n : ℕ) (es : List Entry) → X ≤ slotAt g n → All (λ e. X ≤ e .address) (slotBlocks n es)
+  unfolding slotBlocks
+  slots-from X n [] h = tt
+  slots-from X n (e ∷ es) h = (h, slots-from X (suc n) es (omega arith))
 
 -- ---- the writes of each list
 
@@ -86,35 +88,36 @@ headerEntry h = record { address = headerAt; block = encode h }
 abbrev pub descriptorEntry : List ℕ → ℕ → List Entry → Entry
 descriptorEntry s n es = record { address = descriptorAt; block = describe (blockAt s descriptorAt) n es }
 
--- what an append writes before its flush
-abbrev pub appendWrites : ℕ → List ℕ → ℕ → ℕ → List Entry → List Entry
-appendWrites N s n h es = slotBlocks n es ++ (descriptorEntry s n es ∷ headerEntry (header N n h (n + length es) (sumOf h es)) ∷ [])
+module _ (g : Geometry) where
+  -- what an append writes before its flush
+  abbrev pub appendWrites : ℕ → List ℕ → ℕ → ℕ → List Entry → List Entry
+  appendWrites N s n h es = slotBlocks g n es ++ (descriptorEntry s n es ∷ headerEntry (header N n h (n + length es) (sumOf h es)) ∷ [])
 
-pub append-writes : (N : ℕ) (s : List ℕ) (n h : ℕ) (es : List Entry) → appendOrders N s n h es ≡ map write (appendWrites N s n h es) ++ (flush ∷ [])
-unfolding appendOrders
-append-writes N s n h es =
-    rw (map-append write (slotBlocks n es) (descriptorEntry s n es ∷ headerEntry (header N n h (n + length es) (sumOf h es)) ∷ []), append-assoc, ← slotWrites-blocks n es)
+  pub append-writes : (N : ℕ) (s : List ℕ) (n h : ℕ) (es : List Entry) → appendOrders g N s n h es ≡ map write (appendWrites N s n h es) ++ (flush ∷ [])
+  unfolding appendOrders
+  append-writes N s n h es =
+      rw (map-append write (slotBlocks g n es) (descriptorEntry s n es ∷ headerEntry (header N n h (n + length es) (sumOf h es)) ∷ []), append-assoc, ← slotWrites-blocks g n es)
 
--- in the two phases in which it is given: log blocks and descriptor, then header and flush
-pub append-split : (N : ℕ) (s : List ℕ) (n h : ℕ) (es : List Entry)
-    → appendOrders N s n h es ≡ (slotWrites n es ++ (write (descriptorEntry s n es) ∷ [])) ++ (headerWrite (header N n h (n + length es) (sumOf h es)) ∷ flush ∷ [])
-unfolding appendOrders
-append-split N s n h es =
-    sym (append-assoc (slotWrites n es) (write (descriptorEntry s n es) ∷ []) (headerWrite (header N n h (n + length es) (sumOf h es)) ∷ flush ∷ []))
+  -- in the two phases in which it is given: log blocks and descriptor, then header and flush
+  pub append-split : (N : ℕ) (s : List ℕ) (n h : ℕ) (es : List Entry)
+      → appendOrders g N s n h es ≡ (slotWrites g n es ++ (write (descriptorEntry s n es) ∷ [])) ++ (headerWrite (header N n h (n + length es) (sumOf h es)) ∷ flush ∷ [])
+  unfolding appendOrders
+  append-split N s n h es =
+      sym (append-assoc (slotWrites g n es) (write (descriptorEntry s n es) ∷ []) (headerWrite (header N n h (n + length es) (sumOf h es)) ∷ flush ∷ []))
 
--- what waits after the first
-pub list-below : (X : ℕ) (s w : List ℕ) (q : Queue) (w′ : List ℕ) (q′ : Queue) (n : ℕ) (es : List Entry) (d : Entry)
-    → cardOf s w′ q′ ≡ run (slotWrites n es ++ (write d ∷ [])) (cardOf s w q)
-    → entryBytes * (q .waiting + length es + 1) ≤ length w → All Whole es → Whole d → d .address < slotAt 0 → n + length es ≤ slots → firstData ≤ X
-    → Below X w (q .waiting) → Below X w′ (q′ .waiting)
-list-below X s w q w′ q′ n es d told room whole d-whole d-low fits large old =
-    below-card X s w′ q′ _
-    (told ∙ ap (λ (os : List Order). run (os ++ (write d ∷ [])) (cardOf s w q)) (slotWrites-blocks n es) ∙ ap (λ (os : List Order). run os (cardOf s w q)) (sym (map-append write (slotBlocks n es) (d ∷ []))))
-    (writes-below X (slotBlocks n es ++ (d ∷ [])) (cardOf s w q) (rw (length-append, length-slotBlocks) (omega arith))
-    (all-append Whole (slotBlocks n es) (d ∷ []) (slots-whole n es whole) (d-whole, tt))
-    (all-append NarrowAddress (slotBlocks n es) (d ∷ []) (slots-below (2 ^ 32) n es (omega arith)) (omega arith, tt))
-    (all-append (λ e. e .address < X) (slotBlocks n es) (d ∷ []) (slots-below X n es (omega arith)) (omega arith, tt))
-    old)
+  -- what waits after the first
+  pub list-below : (X : ℕ) (s w : List ℕ) (q : Queue) (w′ : List ℕ) (q′ : Queue) (n : ℕ) (es : List Entry) (d : Entry)
+      → cardOf s w′ q′ ≡ run (slotWrites g n es ++ (write d ∷ [])) (cardOf s w q)
+      → entryBytes * (q .waiting + length es + 1) ≤ length w → All Whole es → Whole d → d .address < slotAt g 0 → n + length es ≤ g .slots → firstData g ≤ X
+      → Below X w (q .waiting) → Below X w′ (q′ .waiting)
+  list-below X s w q w′ q′ n es d told room whole d-whole d-low fits large old =
+      below-card X s w′ q′ _
+      (told ∙ ap (λ (os : List Order). run (os ++ (write d ∷ [])) (cardOf s w q)) (slotWrites-blocks g n es) ∙ ap (λ (os : List Order). run os (cardOf s w q)) (sym (map-append write (slotBlocks g n es) (d ∷ []))))
+      (writes-below X (slotBlocks g n es ++ (d ∷ [])) (cardOf s w q) (rw (length-append, length-slotBlocks g) (omega arith))
+      (all-append Whole (slotBlocks g n es) (d ∷ []) (slots-whole g n es whole) (d-whole, tt))
+      (all-append NarrowAddress (slotBlocks g n es) (d ∷ []) (slots-below g (2 ^ 32) n es (omega arith)) (omega arith, tt))
+      (all-append (λ e. e .address < X) (slotBlocks g n es) (d ∷ []) (slots-below g X n es (omega arith)) (omega arith, tt))
+      old)
 
 pub checkpoint-writes : (N : ℕ) (es : List Entry)
     → checkpointOrders N es ≡ (map write es ++ (flush ∷ [])) ++ (map write (headerEntry (emptyHeader N) ∷ []) ++ (flush ∷ []))
@@ -125,19 +128,20 @@ pub fallback-writes : (N p h : ℕ) → fallbackOrders N p h ≡ map write (head
 unfolding fallbackOrders
 fallback-writes N p h = refl
 
--- at n = 0 the descriptor that stands on the card plays no part
-pub append-afresh : (N : ℕ) (s t : List ℕ) (h : ℕ) (es : List Entry) → appendOrders N s 0 h es ≡ appendOrders N t 0 h es
-unfolding appendOrders describe
-append-afresh N s t h es = refl
+module _ (g : Geometry) where
+  -- at n = 0 the descriptor that stands on the card plays no part
+  pub append-afresh : (N : ℕ) (s t : List ℕ) (h : ℕ) (es : List Entry) → appendOrders g N s 0 h es ≡ appendOrders g N t 0 h es
+  unfolding appendOrders describe
+  append-afresh N s t h es = refl
 
--- ---- lengths
+  -- ---- lengths
 
-pub length-slotWrites : (n : ℕ) (es : List Entry) → length (slotWrites n es) ≡ length es
-length-slotWrites n es = rw (slotWrites-blocks, length-map) (length-slotBlocks n es)
+  pub length-slotWrites : (n : ℕ) (es : List Entry) → length (slotWrites g n es) ≡ length es
+  length-slotWrites n es = rw (slotWrites-blocks g, length-map) (length-slotBlocks g n es)
 
-pub length-append-orders : (N : ℕ) (s : List ℕ) (n h : ℕ) (es : List Entry) → length (appendOrders N s n h es) ≡ length es + 3
-unfolding appendOrders
-length-append-orders N s n h es = simp (length-append, length-slotWrites)
+  pub length-append-orders : (N : ℕ) (s : List ℕ) (n h : ℕ) (es : List Entry) → length (appendOrders g N s n h es) ≡ length es + 3
+  unfolding appendOrders
+  length-append-orders N s n h es = simp (length-append, length-slotWrites)
 
 pub length-checkpoint : (N : ℕ) (es : List Entry) → length (checkpointOrders N es) ≡ length es + 3
 unfolding checkpointOrders
@@ -151,25 +155,26 @@ length-fallback N p h = refl
 abbrev pub applyCount : ℕ → ℕ
 applyCount n = cond (eqb n 0) 0 (n + 3)
 
-pub length-apply : (N : ℕ) (s : List ℕ) (n : ℕ) → length (applyOrders N s n) ≡ applyCount n
-unfolding applyOrders
-length-apply N s n = go (eqb n 0)
-  where
-    go : (t : Bool) → length (cond t [] (checkpointOrders N (entries s n))) ≡ cond t 0 (n + 3)
-    go true = refl
-    go false = length-checkpoint N (entries s n) ∙ ap (λ (k : ℕ). k + 3) (length-upTo (slotEntry s) n)
+module _ (g : Geometry) where
+  pub length-apply : (N : ℕ) (s : List ℕ) (n : ℕ) → length (applyOrders g N s n) ≡ applyCount n
+  unfolding applyOrders
+  length-apply N s n = go (eqb n 0)
+    where
+      go : (t : Bool) → length (cond t [] (checkpointOrders N (entries g s n))) ≡ cond t 0 (n + 3)
+      go true = refl
+      go false = length-checkpoint N (entries g s n) ∙ ap (λ (k : ℕ). k + 3) (length-upTo (slotEntry g s) n)
 
--- "m = 0: done, no orders. If n+m > 32, apply runs first and n is then 0 […] m+3 orders"
-abbrev pub syncCount : ℕ → ℕ → ℕ
-syncCount n m = cond (eqb m 0) 0 (cond (leb (n + m) slots) (m + 3) (n + 3 + (m + 3)))
+  -- "m = 0: done, no orders. If n+m > 32, apply runs first and n is then 0 […] m+3 orders"
+  abbrev pub syncCount : ℕ → ℕ → ℕ
+  syncCount n m = cond (eqb m 0) 0 (cond (leb (n + m) (g .slots)) (m + 3) (n + 3 + (m + 3)))
 
-pub length-sync : (N : ℕ) (s : List ℕ) (n h : ℕ) (es : List Entry) → length (syncOrders N s n h es) ≡ syncCount n (length es)
-unfolding syncOrders
-length-sync N s n h es = go (eqb (length es) 0) (leb (n + length es) slots)
-  where
-    go : (t u : Bool)
-        → length (cond t [] (cond u (appendOrders N s n h es) (checkpointOrders N (entries s n) ++ appendOrders N s 0 start es)))
-        ≡ cond t 0 (cond u (length es + 3) (n + 3 + (length es + 3)))
-    go true u = refl
-    go false true = length-append-orders N s n h es
-    go false false = rw (length-append, length-checkpoint, length-upTo, length-append-orders)
+  pub length-sync : (N : ℕ) (s : List ℕ) (n h : ℕ) (es : List Entry) → length (syncOrders g N s n h es) ≡ syncCount n (length es)
+  unfolding syncOrders
+  length-sync N s n h es = go (eqb (length es) 0) (leb (n + length es) (g .slots))
+    where
+      go : (t u : Bool)
+          → length (cond t [] (cond u (appendOrders g N s n h es) (checkpointOrders N (entries g s n) ++ appendOrders g N s 0 start es)))
+          ≡ cond t 0 (cond u (length es + 3) (n + 3 + (length es + 3)))
+      go true u = refl
+      go false true = length-append-orders g N s n h es
+      go false false = rw (length-append, length-checkpoint, length-upTo, length-append-orders g)

@@ -6,6 +6,7 @@ use mathlib.Core.List.{List, [], _∷_}
 use lib.ListN.{length}
 use Rattle.cells.specs.Entry.{Entry}
 use Rattle.fnv.specs.Fnv.{step, sum}
+use Rattle.journal.specs.Geometry.{trap}
 use Rattle.journal.specs.Layout.{slotAt, isData, placeOf}
 use Rattle.journal.specs.Orders.{syncOrders, applyOrders}
 
@@ -22,11 +23,11 @@ pub data Case : Type 0 where
 abbrev pub Claim : Case → Type 0
 Claim (emptySum v) = sum [] ≡ v
 Claim (sumStep h b v) = step h b ≡ v
-Claim (syncTakes n m v) = (N h : ℕ) (s : List ℕ) (es : List Entry) → length es ≡ m → length (syncOrders N s n h es) ≡ v
-Claim (applyTakes n v) = (N : ℕ) (s : List ℕ) → length (applyOrders N s n) ≡ v
-Claim (slotStarts i v) = placeOf (slotAt i) ≡ v
+Claim (syncTakes n m v) = (N h : ℕ) (s : List ℕ) (es : List Entry) → length es ≡ m → length (syncOrders trap N s n h es) ≡ v
+Claim (applyTakes n v) = (N : ℕ) (s : List ℕ) → length (applyOrders trap N s n) ≡ v
+Claim (slotStarts i v) = placeOf (slotAt trap i) ≡ v
 Claim (blockStarts a v) = placeOf a ≡ v
-Claim (addressIs N a v) = isData N a ≡ v
+Claim (addressIs N a v) = isData trap N a ≡ v
 
 abbrev pub RowsHold : List Case → Type 0
 RowsHold [] = Unit {0}

@@ -7,23 +7,24 @@ use Rattle.card.specs.Card.{Order}
 use Rattle.journal.specs.declared.header.Header.{Header}
 use Rattle.journal.specs.declared.choice.Choice.{Choice}
 use Rattle.journal.specs.declared.choice.Choice.the-variants.{Whole, Fallback, Foreign, Neither}
-use Rattle.journal.specs.Layout.{slots}
+use Rattle.journal.specs.Geometry.{Geometry}
 use Rattle.journal.specs.Header.{formatNumber}
 use Rattle.journal.specs.Log.{headerOf, entries, good}
 use Rattle.journal.specs.Orders.{fallbackOrders}
 
--- "format not 1, other N, n over 32 or p over n"
-abbrev pub foreign : ℕ → Header → Bool
-foreign N h = not (eqb (h .format) formatNumber && eqb (h .blocks) N && leb (h .count) slots && leb (h .previous) (h .count))
+module _ (g : Geometry) where
+  -- "format not 1, other N, n over 32 or p over n"
+  abbrev pub foreign : ℕ → Header → Bool
+  foreign N h = not (eqb (h .format) formatNumber && eqb (h .blocks) N && leb (h .count) (g .slots) && leb (h .previous) (h .count))
 
--- "if the first n entries are good, they are the log […] Else if the first p are good"
-unfoldable pub choose : ℕ → List ℕ → Choice
-choose N s =
-    let h = headerOf s in
-    cond (foreign N h) Foreign
-    (cond (good N (entries s (h .count)) (h .sum)) (Whole (h .count) (h .sum))
-    (cond (good N (entries s (h .previous)) (h .presum)) (Fallback (h .previous) (h .presum))
-    Neither))
+  -- "if the first n entries are good, they are the log […] Else if the first p are good"
+  unfoldable pub choose : ℕ → List ℕ → Choice
+  choose N s =
+      let h = headerOf s in
+      cond (foreign N h) Foreign
+      (cond (good g N (entries g s (h .count)) (h .sum)) (Whole (h .count) (h .sum))
+      (cond (good g N (entries g s (h .previous)) (h .presum)) (Fallback (h .previous) (h .presum))
+      Neither))
 
 -- the number that document 01 gives for each case
 abbrev pub choiceNumber : Choice → ℕ

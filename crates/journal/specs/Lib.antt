@@ -1,4 +1,5 @@
 -- The journal: layout, header, log, the orders that write it, the choice of recovery.
+pub mod Geometry
 pub mod Layout
 pub mod Header
 pub mod Log

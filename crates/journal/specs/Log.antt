@@ -10,6 +10,8 @@ use Rattle.cells.specs.Entry.{Entry, flat, entryAt}
 use Rattle.fnv.specs.Fnv.{start, sumFrom}
 use Rattle.card.specs.Card.{blockAt}
 use Rattle.journal.specs.declared.header.Header.{Header}
+use Rattle.journal.specs.Geometry.{Geometry}
+use Rattle.journal.specs.Geometry.{Geometry}
 use Rattle.journal.specs.Layout.{headerAt, descriptorAt, slotAt, isData}
 use Rattle.journal.specs.Header.{decode}
 
@@ -20,14 +22,6 @@ headerOf s = decode (blockAt s headerAt)
 unfoldable pub slotAddress : List ℕ → ℕ → ℕ
 slotAddress s i = num (cell 4 (blockAt s descriptorAt) i)
 
--- the entry in slot i
-unfoldable pub slotEntry : List ℕ → ℕ → Entry
-slotEntry s i = record { address = slotAddress s i; block = blockAt s (slotAt i) }
-
--- the first n entries
-abbrev pub entries : List ℕ → ℕ → List Entry
-entries s n = upTo (slotEntry s) n
-
 -- m entries of a run of them in memory, from place `from` on
 abbrev pub entriesFrom : List ℕ → ℕ → ℕ → List Entry
 entriesFrom work from m = upTo (λ i. entryAt work (from + i)) m
@@ -36,10 +30,19 @@ entriesFrom work from m = upTo (λ i. entryAt work (from + i)) m
 abbrev pub sumOf : ℕ → List Entry → ℕ
 sumOf h es = sumFrom h (flat es)
 
-unfoldable pub allData : ℕ → List Entry → Bool
-allData N [] = true
-allData N (e ∷ es) = isData N (e .address) && allData N es
+module _ (g : Geometry) where
+  -- the entry in slot i
+  unfoldable pub slotEntry : List ℕ → ℕ → Entry
+  slotEntry s i = record { address = slotAddress s i; block = blockAt s (slotAt g i) }
 
--- "A list is good if its sum equals the header's and each address is a data block."
-abbrev pub good : ℕ → List Entry → ℕ → Bool
-good N es sum = eqb (sumOf start es) sum && allData N es
+  -- the first n entries
+  abbrev pub entries : List ℕ → ℕ → List Entry
+  entries s n = upTo (slotEntry s) n
+
+  unfoldable pub allData : ℕ → List Entry → Bool
+  allData N [] = true
+  allData N (e ∷ es) = isData g N (e .address) && allData N es
+
+  -- "A list is good if its sum equals the header's and each address is a data block."
+  abbrev pub good : ℕ → List Entry → ℕ → Bool
+  good N es sum = eqb (sumOf start es) sum && allData N es

@@ -9,18 +9,14 @@ use Rattle.cells.specs.Entry.{blockBytes, Entry}
 use Rattle.fnv.specs.Fnv.{start}
 use Rattle.card.specs.Card.{Order, write, flush, blockAt}
 use Rattle.journal.specs.declared.header.Header.{Header}
-use Rattle.journal.specs.Layout.{headerAt, descriptorAt, slotAt, slots}
+use Rattle.journal.specs.Geometry.{Geometry}
+use Rattle.journal.specs.Layout.{headerAt, descriptorAt, slotAt}
 use Rattle.journal.specs.Header.{encode, header, emptyHeader}
 use Rattle.journal.specs.Log.{entries, sumOf}
 
 -- "a header": one write of block 0
 abbrev pub headerWrite : Header → Order
 headerWrite h = write (record { address = headerAt; block = encode h })
-
--- "m log blocks in slot order", from slot n on
-unfoldable pub slotWrites : ℕ → List Entry → List Order
-slotWrites n [] = []
-slotWrites n (e ∷ es) = write (record { address = slotAt n; block = e .block }) ∷ slotWrites (suc n) es
 
 unfoldable pub addressBytes : List Entry → List ℕ
 addressBytes [] = []
@@ -31,15 +27,9 @@ addressBytes (e ∷ es) = le 4 (e .address) ++ addressBytes es
 unfoldable pub describe : List ℕ → ℕ → List Entry → List ℕ
 describe old n es = take (4 * n) old ++ (addressBytes es ++ replicate (blockBytes - 4 * (n + length es)) 0)
 
--- "m log blocks in slot order, the descriptor, a header with p = n and count n+m, one flush: m+3 orders. […] Sums continue from
--- the record's." The list es is appended to n entries whose sum is h
-unfoldable pub appendOrders : ℕ → List ℕ → ℕ → ℕ → List Entry → List Order
-appendOrders N s n h es =
-    slotWrites n es
-    ++ (write (record { address = descriptorAt; block = describe (blockAt s descriptorAt) n es })
-    ∷ headerWrite (header N n h (n + length es) (sumOf h es))
-    ∷ flush
-    ∷ [])
+-- the descriptor blocks that list es behind n entries: one
+abbrev pub descriptors : List ℕ → ℕ → List Entry → List Entry
+descriptors s n es = record { address = descriptorAt; block = describe (blockAt s descriptorAt) n es } ∷ []
 
 -- "n home blocks in slot order, flush, an empty log's header, flush: n+3 orders"
 unfoldable pub checkpointOrders : ℕ → List Entry → List Order
@@ -49,15 +39,31 @@ checkpointOrders N es = map write es ++ (flush ∷ headerWrite (emptyHeader N) �
 unfoldable pub fallbackOrders : ℕ → ℕ → ℕ → List Order
 fallbackOrders N p sum = headerWrite (header N p sum p sum) ∷ flush ∷ []
 
--- apply: "n = 0: done, no orders"
-unfoldable pub applyOrders : ℕ → List ℕ → ℕ → List Order
-applyOrders N s n = cond (eqb n 0) [] (checkpointOrders N (entries s n))
+module _ (g : Geometry) where
+  -- "m log blocks in slot order", from slot n on
+  unfoldable pub slotWrites : ℕ → List Entry → List Order
+  slotWrites n [] = []
+  slotWrites n (e ∷ es) = write (record { address = slotAt g n; block = e .block }) ∷ slotWrites (suc n) es
 
--- sync of the group es: "m = 0: done, no orders. If n+m > 32, apply runs first and n is then 0." The slots that a checkpoint
--- leaves in the descriptor play no part at n = 0
-unfoldable pub syncOrders : ℕ → List ℕ → ℕ → ℕ → List Entry → List Order
-syncOrders N s n h es =
-    cond (eqb (length es) 0) []
-    (cond (leb (n + length es) slots)
-    (appendOrders N s n h es)
-    (checkpointOrders N (entries s n) ++ appendOrders N s 0 start es))
+  -- "m log blocks in slot order, the descriptor, a header with p = n and count n+m, one flush: m+3 orders. […] Sums continue from
+  -- the record's." The list es is appended to n entries whose sum is h
+  unfoldable pub appendOrders : ℕ → List ℕ → ℕ → ℕ → List Entry → List Order
+  appendOrders N s n h es =
+      slotWrites n es
+      ++ (map write (descriptors s n es)
+      ++ (headerWrite (header N n h (n + length es) (sumOf h es))
+      ∷ flush
+      ∷ []))
+
+  -- apply: "n = 0: done, no orders"
+  unfoldable pub applyOrders : ℕ → List ℕ → ℕ → List Order
+  applyOrders N s n = cond (eqb n 0) [] (checkpointOrders N (entries g s n))
+
+  -- sync of the group es: "m = 0: done, no orders. If n+m > 32, apply runs first and n is then 0." The slots that a checkpoint
+  -- leaves in the descriptor play no part at n = 0
+  unfoldable pub syncOrders : ℕ → List ℕ → ℕ → ℕ → List Entry → List Order
+  syncOrders N s n h es =
+      cond (eqb (length es) 0) []
+      (cond (leb (n + length es) (g .slots))
+      (appendOrders N s n h es)
+      (checkpointOrders N (entries g s n) ++ appendOrders N s 0 start es))

@@ -19,9 +19,10 @@ ghost use lib.Dec.{leb};
 ghost use lib.ListN.{length};
 ghost use lib.Seq.{sets};
 ghost use Rattle.cells.specs.Entry.{blockBytes, entryBytes};
-ghost use Rattle.card.specs.Card.{places, blocksIn, blockAt, run, write};
+ghost use Rattle.card.specs.Card.{mostPlaces, blocksIn, blockAt, run, write};
 ghost use Rattle.card.specs.CodeQueue.{cardOf, Below};
-ghost use Rattle.journal.specs.Layout.{descriptorAt, slots, firstData};
+ghost use Rattle.journal.specs.Geometry.{trap};
+ghost use Rattle.journal.specs.Layout.{descriptorAt, firstData};
 ghost use Rattle.journal.specs.Log.{entriesFrom, sumOf};
 ghost use Rattle.journal.specs.Orders as Orders;
 ghost use Rattle.journal.specs.Orders.{slotWrites, addressBytes, appendOrders};
@@ -85,7 +86,7 @@ fn list_addresses(block: &mut [u8], at: usize, work: &[u8], group: Group)
 fn describe(block: &mut [u8], old: &[u8], n: u32, work: &[u8], group: Group)
     requires { ⌜ length (now block) ≡ blockBytes ⌝ }
     requires { ⌜ length (now old) ≡ blockBytes ⌝ }
-    requires { ⌜ n + group .count ≤ slots ⌝ }
+    requires { ⌜ n + group .count ≤ trap .slots ⌝ }
     requires { ⌜ entryBytes * (group .from + group .count) ≤ length (now work) ⌝ }
     ensures { λ _. ⌜ now (block .exit) ≡ Orders.describe (now (old .entry)) n (entriesFrom (now (work .entry)) (group .from) (group .count)) ⌝ }
 {
@@ -97,12 +98,12 @@ fn describe(block: &mut [u8], old: &[u8], n: u32, work: &[u8], group: Group)
 
 // The writes of a group's blocks, to the slots from n on.
 fn write_slots(queue: Queue, waiting: &mut [u8], work: &[u8], group: Group, n: u32) -> Ordered
-    requires { ⌜ n + group .count ≤ slots ⌝ }
-    requires { ⌜ queue .waiting + group .count ≤ places ⌝ }
+    requires { ⌜ n + group .count ≤ trap .slots ⌝ }
+    requires { ⌜ queue .waiting + group .count ≤ mostPlaces ⌝ }
     requires { ⌜ entryBytes * (queue .waiting + group .count) ≤ length (now waiting) ⌝ }
     requires { ⌜ entryBytes * (group .from + group .count) ≤ length (now work) ⌝ }
     ensures { λ r. ⌜ r .happened ≡ leb (group .count) (queue .power) ⌝ }
-    ensures { λ r. ⌜ ((s : List ℕ) → cardOf s (now (waiting .exit)) (r .queue) ≡ run (slotWrites n (entriesFrom (now (work .entry)) (group .from) (group .count))) (cardOf s (now (waiting .entry)) queue)) ⌝ }
+    ensures { λ r. ⌜ ((s : List ℕ) → cardOf s (now (waiting .exit)) (r .queue) ≡ run (slotWrites trap n (entriesFrom (now (work .entry)) (group .from) (group .count))) (cardOf s (now (waiting .entry)) queue)) ⌝ }
     ensures { λ r. ⌜ r .queue .waiting ≤ queue .waiting + group .count ⌝ }
 {
     let from = group.from as usize;
@@ -132,13 +133,13 @@ fn write_list(
     group: Group,
     n: u32,
 ) -> Ordered
-    requires { ⌜ firstData < blocksIn (now settled) ⌝ }
-    requires { ⌜ n + group .count ≤ slots ⌝ }
-    requires { ⌜ queue .waiting + group .count + 1 ≤ places ⌝ }
+    requires { ⌜ firstData trap < blocksIn (now settled) ⌝ }
+    requires { ⌜ n + group .count ≤ trap .slots ⌝ }
+    requires { ⌜ queue .waiting + group .count + 1 ≤ mostPlaces ⌝ }
     requires { ⌜ entryBytes * (queue .waiting + group .count + 1) ≤ length (now waiting) ⌝ }
     requires { ⌜ entryBytes * (group .from + group .count) ≤ length (now work) ⌝ }
     ensures { λ r. ⌜ r .happened ≡ leb (group .count + 1) (queue .power) ⌝ }
-    ensures { λ r. ⌜ ((s : List ℕ) → cardOf s (now (waiting .exit)) (r .queue) ≡ run (slotWrites n (entriesFrom (now (work .entry)) (group .from) (group .count)) ++ (write (record { address = descriptorAt; block = Orders.describe (blockAt (now (settled .entry)) descriptorAt) n (entriesFrom (now (work .entry)) (group .from) (group .count)) }) ∷ [])) (cardOf s (now (waiting .entry)) queue)) ⌝ }
+    ensures { λ r. ⌜ ((s : List ℕ) → cardOf s (now (waiting .exit)) (r .queue) ≡ run (slotWrites trap n (entriesFrom (now (work .entry)) (group .from) (group .count)) ++ (write (record { address = descriptorAt; block = Orders.describe (blockAt (now (settled .entry)) descriptorAt) n (entriesFrom (now (work .entry)) (group .from) (group .count)) }) ∷ [])) (cardOf s (now (waiting .entry)) queue)) ⌝ }
     ensures { λ r. ⌜ r .queue .waiting ≤ queue .waiting + group .count + 1 ⌝ }
 {
     let w = write_slots(queue, waiting, work, group, n);
@@ -159,14 +160,14 @@ pub fn append(
     group: Group,
     log: Log,
 ) -> Appended
-    requires { ⌜ firstData < blocksIn (now settled) ⌝ }
-    requires { ⌜ log .count + group .count ≤ slots ⌝ }
-    requires { ⌜ queue .waiting + group .count + 2 ≤ places ⌝ }
+    requires { ⌜ firstData trap < blocksIn (now settled) ⌝ }
+    requires { ⌜ log .count + group .count ≤ trap .slots ⌝ }
+    requires { ⌜ queue .waiting + group .count + 2 ≤ mostPlaces ⌝ }
     requires { ⌜ entryBytes * (queue .waiting + group .count + 2) ≤ length (now waiting) ⌝ }
     requires { ⌜ Below (blocksIn (now settled)) (now waiting) (queue .waiting) ⌝ }
     requires { ⌜ entryBytes * (group .from + group .count) ≤ length (now work) ⌝ }
     ensures { λ r. ⌜ r .done ≡ leb (group .count + 3) (queue .power) ⌝ }
-    ensures { λ r. ⌜ cardOf (now (settled .exit)) (now (waiting .exit)) (r .queue) ≡ run (appendOrders (log .blocks) (now (settled .entry)) (log .count) (log .sum) (entriesFrom (now (work .entry)) (group .from) (group .count))) (cardOf (now (settled .entry)) (now (waiting .entry)) queue) ⌝ }
+    ensures { λ r. ⌜ cardOf (now (settled .exit)) (now (waiting .exit)) (r .queue) ≡ run (appendOrders trap (log .blocks) (now (settled .entry)) (log .count) (log .sum) (entriesFrom (now (work .entry)) (group .from) (group .count))) (cardOf (now (settled .entry)) (now (waiting .entry)) queue) ⌝ }
     ensures { λ r. ⌜ r .sum ≡ sumOf (log .sum) (entriesFrom (now (work .entry)) (group .from) (group .count)) ⌝ }
 {
     let sum = sum_group(log.sum, work, group);

@@ -10,20 +10,21 @@ ghost use Prim.Native.Nat.{ℕ, _+_, _*_, _≤_, _<_};
 ghost use lib.Dec.{leb};
 ghost use lib.ListN.{length};
 ghost use Rattle.cells.specs.Entry.{entryBytes};
-ghost use Rattle.card.specs.Card.{places, blocksIn, run, write};
+ghost use Rattle.card.specs.Card.{mostPlaces, blocksIn, run, write};
 ghost use Rattle.card.specs.CodeQueue.{cardOf, Below};
-ghost use Rattle.journal.specs.Layout.{slots, firstData};
+ghost use Rattle.journal.specs.Geometry.{trap};
+ghost use Rattle.journal.specs.Layout.{firstData};
 ghost use Rattle.journal.specs.Log.{slotAddress, entries};
 ghost use Rattle.journal.specs.Orders.{checkpointOrders, fallbackOrders};
 
 // The writes of the log's blocks to their home addresses, in slot order.
 fn write_homes(queue: Queue, settled: &[u8], waiting: &mut [u8], n: u32) -> Ordered
-    requires { ⌜ firstData < blocksIn (now settled) ⌝ }
-    requires { ⌜ n ≤ slots ⌝ }
-    requires { ⌜ queue .waiting + n ≤ places ⌝ }
+    requires { ⌜ firstData trap < blocksIn (now settled) ⌝ }
+    requires { ⌜ n ≤ trap .slots ⌝ }
+    requires { ⌜ queue .waiting + n ≤ mostPlaces ⌝ }
     requires { ⌜ entryBytes * (queue .waiting + n) ≤ length (now waiting) ⌝ }
     ensures { λ r. ⌜ r .happened ≡ leb n (queue .power) ⌝ }
-    ensures { λ r. ⌜ ((s : List ℕ) → cardOf s (now (waiting .exit)) (r .queue) ≡ run (map write (entries (now (settled .entry)) n)) (cardOf s (now (waiting .entry)) queue)) ⌝ }
+    ensures { λ r. ⌜ ((s : List ℕ) → cardOf s (now (waiting .exit)) (r .queue) ≡ run (map write (entries trap (now (settled .entry)) n)) (cardOf s (now (waiting .entry)) queue)) ⌝ }
     ensures { λ r. ⌜ r .queue .waiting ≤ queue .waiting + n ⌝ }
 {
     let mut q = queue;
@@ -50,15 +51,15 @@ pub fn checkpoint(
     blocks: u32,
     n: u32,
 ) -> Ordered
-    requires { ⌜ firstData < blocksIn (now settled) ⌝ }
-    requires { ⌜ n ≤ slots ⌝ }
+    requires { ⌜ firstData trap < blocksIn (now settled) ⌝ }
+    requires { ⌜ n ≤ trap .slots ⌝ }
     requires { ⌜ ((i : ℕ) → i < n → slotAddress (now settled) i < blocksIn (now settled)) ⌝ }
-    requires { ⌜ queue .waiting + n ≤ places ⌝ }
+    requires { ⌜ queue .waiting + n ≤ mostPlaces ⌝ }
     requires { ⌜ entryBytes * (queue .waiting + n) ≤ length (now waiting) ⌝ }
     requires { ⌜ entryBytes ≤ length (now waiting) ⌝ }
     requires { ⌜ Below (blocksIn (now settled)) (now waiting) (queue .waiting) ⌝ }
     ensures { λ r. ⌜ r .happened ≡ leb (n + 3) (queue .power) ⌝ }
-    ensures { λ r. ⌜ cardOf (now (settled .exit)) (now (waiting .exit)) (r .queue) ≡ run (checkpointOrders blocks (entries (now (settled .entry)) n)) (cardOf (now (settled .entry)) (now (waiting .entry)) queue) ⌝ }
+    ensures { λ r. ⌜ cardOf (now (settled .exit)) (now (waiting .exit)) (r .queue) ≡ run (checkpointOrders blocks (entries trap (now (settled .entry)) n)) (cardOf (now (settled .entry)) (now (waiting .entry)) queue) ⌝ }
 {
     let w = write_homes(queue, settled, waiting, n);
     if !w.happened {
@@ -81,7 +82,7 @@ pub fn fallback(
     sum: u64,
 ) -> Ordered
     requires { ⌜ 0 < blocksIn (now settled) ⌝ }
-    requires { ⌜ queue .waiting < places ⌝ }
+    requires { ⌜ queue .waiting < mostPlaces ⌝ }
     requires { ⌜ entryBytes * queue .waiting + entryBytes ≤ length (now waiting) ⌝ }
     requires { ⌜ Below (blocksIn (now settled)) (now waiting) (queue .waiting) ⌝ }
     ensures { λ r. ⌜ r .happened ≡ leb 2 (queue .power) ⌝ }

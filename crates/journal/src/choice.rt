@@ -8,6 +8,7 @@ use card::settled::read;
 ghost use mathlib.Core.Path.{_≡_};
 ghost use Prim.Native.Nat.{_<_};
 ghost use Rattle.card.specs.Card.{blocksIn};
+ghost use Rattle.journal.specs.Geometry.{trap};
 ghost use Rattle.journal.specs.Layout.{firstData};
 ghost use Rattle.journal.specs.Choice as Spec;
 
@@ -21,7 +22,7 @@ pub enum Choice {
 
 // Whether a header is of another format or another card, or its counts are out of bounds.
 pub fn is_foreign(h: Header, blocks: u32) -> bool
-    ensures { λ r. ⌜ r ≡ Spec.foreign blocks h ⌝ }
+    ensures { λ r. ⌜ r ≡ Spec.foreign trap blocks h ⌝ }
 {
     if h.format != FORMAT {
         return true;
@@ -37,8 +38,8 @@ pub fn is_foreign(h: Header, blocks: u32) -> bool
 
 // The first n entries if they are good, else the first p if they are. Each list is checked whole before it is taken.
 pub fn choose(settled: &[u8], blocks: u32) -> Choice
-    requires { ⌜ firstData < blocksIn (now settled) ⌝ }
-    ensures { λ r. ⌜ r ≡ Spec.choose blocks (now (settled .entry)) ⌝ }
+    requires { ⌜ firstData trap < blocksIn (now settled) ⌝ }
+    ensures { λ r. ⌜ r ≡ Spec.choose trap blocks (now (settled .entry)) ⌝ }
 {
     let h = Header::read(read(settled, HEADER_AT));
     if is_foreign(h, blocks) {

@@ -14,7 +14,7 @@ ghost use Prim.Native.Nat.{_+_, _*_, _≤_, _<_};
 ghost use lib.Dec.{leb};
 ghost use lib.ListN.{length};
 ghost use Rattle.cells.specs.Entry.{blockBytes, entryBytes};
-ghost use Rattle.card.specs.Card.{places, blocksIn, run, flush};
+ghost use Rattle.card.specs.Card.{mostPlaces, blocksIn, run, flush};
 ghost use Rattle.card.specs.CodeQueue.{cardOf, Below};
 ghost use Rattle.journal.specs.Header.{encode, decode, header, emptyHeader};
 ghost use Rattle.journal.specs.Orders.{headerWrite};
@@ -85,7 +85,7 @@ impl Header {
     // The orders that make this the card's header: one write of block 0, then a flush.
     pub fn order(self, q: Queue, settled: &mut [u8], waiting: &mut [u8]) -> Ordered
         requires { ⌜ 0 < blocksIn (now settled) ⌝ }
-        requires { ⌜ q .waiting < places ⌝ }
+        requires { ⌜ q .waiting < mostPlaces ⌝ }
         requires { ⌜ entryBytes * q .waiting + entryBytes ≤ length (now waiting) ⌝ }
         requires { ⌜ Below (blocksIn (now settled)) (now waiting) (q .waiting) ⌝ }
         ensures { λ r. ⌜ r .happened ≡ leb 2 (q .power) ⌝ }

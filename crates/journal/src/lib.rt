@@ -7,14 +7,19 @@ pub mod log;
 pub mod lookup;
 pub mod size;
 
-// Block 0 is the header, block 1 the descriptor, block 2 + i holds slot i's block.
+// The geometry of the trap, as `trap` of specs/Geometry.antt has it: slots, descriptor blocks, places of the queue.
+pub const SLOTS: u32 = 32;
+
+pub const DESCRIPTORS: u32 = 1;
+
+pub const PLACES: usize = 34;
+
+// Block 0 is the header, block 1 the descriptor, then block by block the slots.
 pub const HEADER_AT: u32 = 0;
 
 pub const DESCRIPTOR_AT: u32 = 1;
 
-pub const FIRST_SLOT: u32 = 2;
-
-pub const SLOTS: u32 = 32;
+pub const FIRST_SLOT: u32 = DESCRIPTOR_AT + DESCRIPTORS;
 
 // Data blocks start behind the slots.
 pub const FIRST_DATA: u32 = FIRST_SLOT + SLOTS;

@@ -13,21 +13,22 @@ ghost use Rattle.cells.specs.Entry.{blockBytes};
 ghost use Rattle.cells.specs.Part.{viewOf, partOf};
 ghost use Rattle.fnv.specs.Fnv.{start};
 ghost use Rattle.card.specs.Card.{blocksIn};
-ghost use Rattle.journal.specs.Layout.{slots, slotAt, firstData, isData};
+ghost use Rattle.journal.specs.Geometry.{trap};
+ghost use Rattle.journal.specs.Layout.{slotAt, firstData, isData};
 ghost use Rattle.journal.specs.Log as Log;
 ghost use Rattle.journal.specs.Log.{slotAddress, entries, sumOf, allData};
 
 // Whether an address is that of a data block.
 pub fn is_data(blocks: u32, a: u32) -> bool
-    ensures { λ r. ⌜ r ≡ isData blocks a ⌝ }
+    ensures { λ r. ⌜ r ≡ isData trap blocks a ⌝ }
 {
     FIRST_DATA <= a && a < blocks
 }
 
 // The address in slot i.
 pub fn slot_address(settled: &[u8], i: u32) -> u32
-    requires { ⌜ firstData < blocksIn (now settled) ⌝ }
-    requires { ⌜ i < slots ⌝ }
+    requires { ⌜ firstData trap < blocksIn (now settled) ⌝ }
+    requires { ⌜ i < trap .slots ⌝ }
     ensures { λ r. ⌜ r ≡ slotAddress (now (settled .entry)) i ⌝ }
 {
     read_u32(read(settled, DESCRIPTOR_AT), ADDRESS * (i as usize))
@@ -35,9 +36,9 @@ pub fn slot_address(settled: &[u8], i: u32) -> u32
 
 // The block of slot i, where it lies.
 pub fn slot_block<'a>(settled: &'a [u8], i: u32) -> &'a [u8]
-    requires { ⌜ firstData < blocksIn (now settled) ⌝ }
-    requires { ⌜ i < slots ⌝ }
-    ensures { λ r. ⌜ viewOf r ≡ partOf (settled .entry) (blockBytes * slotAt i) blockBytes ⌝ }
+    requires { ⌜ firstData trap < blocksIn (now settled) ⌝ }
+    requires { ⌜ i < trap .slots ⌝ }
+    ensures { λ r. ⌜ viewOf r ≡ partOf (settled .entry) (blockBytes * slotAt trap i) blockBytes ⌝ }
 {
     read(settled, FIRST_SLOT + i)
 }
@@ -53,9 +54,9 @@ pub fn sum_entry(h: u64, address: u32, block: &[u8]) -> u64
 
 // The sum of the first n entries.
 pub fn sum_entries(settled: &[u8], n: u32) -> u64
-    requires { ⌜ firstData < blocksIn (now settled) ⌝ }
-    requires { ⌜ n ≤ slots ⌝ }
-    ensures { λ r. ⌜ r ≡ sumOf start (entries (now (settled .entry)) n) ⌝ }
+    requires { ⌜ firstData trap < blocksIn (now settled) ⌝ }
+    requires { ⌜ n ≤ trap .slots ⌝ }
+    ensures { λ r. ⌜ r ≡ sumOf start (entries trap (now (settled .entry)) n) ⌝ }
 {
     let mut sum = fnv::START;
     let mut i = 0;
@@ -68,9 +69,9 @@ pub fn sum_entries(settled: &[u8], n: u32) -> u64
 
 // Whether each of the first n addresses is that of a data block.
 pub fn all_data(settled: &[u8], blocks: u32, n: u32) -> bool
-    requires { ⌜ firstData < blocksIn (now settled) ⌝ }
-    requires { ⌜ n ≤ slots ⌝ }
-    ensures { λ r. ⌜ r ≡ allData blocks (entries (now (settled .entry)) n) ⌝ }
+    requires { ⌜ firstData trap < blocksIn (now settled) ⌝ }
+    requires { ⌜ n ≤ trap .slots ⌝ }
+    ensures { λ r. ⌜ r ≡ allData trap blocks (entries trap (now (settled .entry)) n) ⌝ }
 {
     let mut i = n;
     while 0 < i {
@@ -84,9 +85,9 @@ pub fn all_data(settled: &[u8], blocks: u32, n: u32) -> bool
 
 // Whether the first n entries are good: they have this sum, and each address is that of a data block.
 pub fn good(settled: &[u8], blocks: u32, n: u32, sum: u64) -> bool
-    requires { ⌜ firstData < blocksIn (now settled) ⌝ }
-    requires { ⌜ n ≤ slots ⌝ }
-    ensures { λ r. ⌜ r ≡ Log.good blocks (entries (now (settled .entry)) n) sum ⌝ }
+    requires { ⌜ firstData trap < blocksIn (now settled) ⌝ }
+    requires { ⌜ n ≤ trap .slots ⌝ }
+    ensures { λ r. ⌜ r ≡ Log.good trap blocks (entries trap (now (settled .entry)) n) sum ⌝ }
 {
     sum_entries(settled, n) == sum && all_data(settled, blocks, n)
 }

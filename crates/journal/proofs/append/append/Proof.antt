@@ -10,6 +10,7 @@ use lib.ListN.{length, length-append}
 use Rattle.cells.specs.Entry.{blockBytes, Entry}
 use Rattle.card.specs.Card.{Order, write, flush, run, blockAt, blocksIn}
 use Rattle.card.specs.CodeQueue.{cardOf}
+use Rattle.journal.specs.Geometry.{trap}
 use Rattle.journal.specs.declared.append.Log.{Log}
 use Rattle.journal.specs.declared.header.Header.{Header}
 use Rattle.journal.specs.Layout.{descriptorAt}
@@ -25,13 +26,13 @@ use Rattle.journal.proofs.append.append.Tie as tie
 
 -- the two phases
 abbrev listed : List ℕ → ℕ → List Entry → List Order
-listed s n es = slotWrites n es ++ (write (descriptorEntry s n es) ∷ [])
+listed s n es = slotWrites trap n es ++ (write (descriptorEntry s n es) ∷ [])
 
 abbrev last : Log → List Entry → List Order
 last l es = headerWrite (header (l .blocks) (l .count) (l .sum) (l .count + length es) (sumOf (l .sum) es)) ∷ flush ∷ []
 
 size : (s : List ℕ) (n : ℕ) (es : List Entry) (m : ℕ) → length es ≡ m → length (listed s n es) ≡ m + 1
-size s n es m e = rw (length-append, length-slotWrites, e)
+size s n es m e = rw (length-append, length-slotWrites trap, e)
 
 sum-group-requires : tie.Need-sum-group-requires
 sum-group-requires c κs = search needs
@@ -51,12 +52,12 @@ returns c =
     let a = w .before .before .before .before .before .before .before .args in
     let es = entriesFrom (a .work .now) (a .group .from) (a .group .count) in
     let e = not-true _ (c .if1 .taken) in
-    let o = stopped _ (listed (a .settled .now) (a .log .count) es) (last (a .log) es) (append-split (a .log .blocks) (a .settled .now) (a .log .count) (a .log .sum) es) (a .group .count + 1) 2 (a .group .count + 3) (size (a .settled .now) (a .log .count) es (a .group .count) (length-from (a .work .now) (a .group .from) (a .group .count))) (omega arith)
+    let o = stopped _ (listed (a .settled .now) (a .log .count) es) (last (a .log) es) (append-split trap (a .log .blocks) (a .settled .now) (a .log .count) (a .log .sum) es) (a .group .count + 1) 2 (a .group .count + 3) (size (a .settled .now) (a .log .count) es (a .group .count) (length-from (a .work .now) (a .group .from) (a .group .count))) (omega arith)
     (cardOf (a .settled .now) (a .waiting .now) (a .queue)) _ (w .write-list .ensures .1 .0 (a .settled .now)) _ (w .write-list .ensures .0) e in
     (sym e ∙ o .0, (o .1, w .before .before .before .sum-group .ensures))
 
 add-new : tie.Need-add-new
-add-new c = search needs
+add-new c = omega (arith, trap .addressed)
 
 new-requires : tie.Need-new-requires
 new-requires c κs = search needs
@@ -74,10 +75,10 @@ order-requires c κs =
         omega arith,
         (
           omega arith,
-          list-below (blocksIn (a .settled .now)) (a .settled .now) (a .waiting .now) (a .queue) (w .write-list .last .1 .1 .0) (w .write-list .result .queue) (a .log .count) es (descriptorEntry (a .settled .now) (a .log .count) es)
+          list-below trap (blocksIn (a .settled .now)) (a .settled .now) (a .waiting .now) (a .queue) (w .write-list .last .1 .1 .0) (w .write-list .result .queue) (a .log .count) es (descriptorEntry (a .settled .now) (a .log .count) es)
               (w .write-list .ensures .1 .0 (a .settled .now)) (omega arith)
               (from-whole (a .work .now) (a .group .from) (a .group .count) (omega arith))
-              (length-describe (blockAt (a .settled .now) descriptorAt) (a .log .count) es (omega arith) (omega arith)) (lit< tt) (omega arith) (omega arith) (pre .1 .1 .1 .1 .0),
+              (length-describe (blockAt (a .settled .now) descriptorAt) (a .log .count) es (omega (arith, trap .described, trap .single)) (omega (arith, trap .described, trap .single))) (omega (arith, trap .single)) (omega arith) (omega arith) (pre .1 .1 .1 .1 .0),
         ),
       ),
     )
@@ -97,7 +98,7 @@ returns-2 c =
     let es = entriesFrom (a .work .now) (a .group .from) (a .group .count) in
     let new : h .new .result ≡ header (a .log .blocks) (a .log .count) (a .log .sum) (a .log .count + length es) (sumOf (a .log .sum) es) =
     h .new .ensures ∙ ap₂ (λ (k x : ℕ). header (a .log .blocks) (a .log .count) (a .log .sum) (a .log .count + k) x) (sym (length-from (a .work .now) (a .group .from) (a .group .count))) (w .before .before .before .sum-group .ensures) in
-    let p = resumed _ (listed (a .settled .now) (a .log .count) es) (last (a .log) es) (append-split (a .log .blocks) (a .settled .now) (a .log .count) (a .log .sum) es) (a .group .count + 1) 2 (a .group .count + 3) (size (a .settled .now) (a .log .count) es (a .group .count) (length-from (a .work .now) (a .group .from) (a .group .count))) (omega arith)
+    let p = resumed _ (listed (a .settled .now) (a .log .count) es) (last (a .log) es) (append-split trap (a .log .blocks) (a .settled .now) (a .log .count) (a .log .sum) es) (a .group .count + 1) 2 (a .group .count + 3) (size (a .settled .now) (a .log .count) es (a .group .count) (length-from (a .work .now) (a .group .from) (a .group .count))) (omega arith)
     (cardOf (a .settled .now) (a .waiting .now) (a .queue)) _ (w .write-list .ensures .1 .0 (a .settled .now)) _ (w .write-list .ensures .0) (not-false _ (h .before .before .before .if1 .left))
     _ _ (o .order .ensures .1 ∙ ap (λ (x : Header). run (headerWrite x ∷ flush ∷ []) (cardOf (a .settled .now) (w .write-list .last .1 .1 .0) (w .write-list .result .queue))) new) (o .order .ensures .0) in
     (p .0, (p .1, w .before .before .before .sum-group .ensures))

@@ -5,6 +5,7 @@ use native.Mathlib.Omega.{arith}
 use borrow.Author.Needs.{needs}
 use lib.ListN.{length, replicate, length-take}
 use Rattle.cells.specs.Entry.{blockBytes, Entry}
+use Rattle.journal.specs.Geometry.{trap}
 use Rattle.journal.specs.Log.{entriesFrom}
 use Rattle.journal.proofs.Logs.{length-from}
 use Rattle.journal.proofs.Descriptors.{described}
@@ -18,19 +19,19 @@ mul-at : tie.Need-mul-at
 mul-at c = search needs
 
 slice-relend-prefix-copy : tie.Need-slice-relend-prefix-copy
-slice-relend-prefix-copy c = search needs
+slice-relend-prefix-copy c = omega (arith, trap .described, trap .single)
 
 slice-aggregate-copy : tie.Need-slice-aggregate-copy
-slice-aggregate-copy c = simp length-take (omega arith)
+slice-aggregate-copy c = simp length-take (omega (arith, trap .described, trap .single))
 
 slice-aggregate-copy-2 : tie.Need-slice-aggregate-copy-2
-slice-aggregate-copy-2 c = simp length-take (omega arith)
+slice-aggregate-copy-2 c = simp length-take (omega (arith, trap .described, trap .single))
 
 copy-requires : tie.Need-copy-requires
-copy-requires c κs = simp length-take (omega arith)
+copy-requires c κs = simp length-take (omega (arith, trap .described, trap .single))
 
 list-addresses-requires : tie.Need-list-addresses-requires
-list-addresses-requires c κs = search needs
+list-addresses-requires c κs = omega (arith, trap .described, trap .single)
 
 same-length : tie.Need-same-length
 same-length c = search needs
@@ -46,7 +47,7 @@ returns c =
     let es : List Entry = entriesFrom (a .work .now) (a .group .from) (a .group .count) in
     let count : length es ≡ a .group .count = length-from (a .work .now) (a .group .from) (a .group .count) in
     l .list-addresses .ensures
-    ∙ rw (k .copy .ensures) (described (a .old .now) (z .zero .last .0) (a .n) es (omega arith) zeros (omega arith))
+    ∙ rw (k .copy .ensures) (described (a .old .now) (z .zero .last .0) (a .n) es (omega (arith, trap .described, trap .single)) zeros (omega (arith, trap .described, trap .single)))
 
 pub describe-spec : {M : Type 1} → statement M
 describe-spec =

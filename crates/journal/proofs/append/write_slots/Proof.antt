@@ -1,6 +1,6 @@
 -- `journal::append::write_slots` meets its contract. The invariant: the first i writes have been given, and have happened.
 use Prim.Native.Nat.{ℕ, _+_, _-_, _≤_}
-use mathlib.Core.Path.{_≡_, refl, ap, _∙_}
+use mathlib.Core.Path.{_≡_, ap, _∙_}
 use mathlib.Core.Bool.{true}
 use mathlib.Core.List.{List}
 use native.Mathlib.Omega.{arith}
@@ -9,6 +9,8 @@ use borrow.Author.Needs.{needs}
 use lib.ListN.{length}
 use Rattle.cells.specs.Entry.{Entry, entryAt}
 use Rattle.cells.specs.Entry.Laws.{entry-eq, length-block}
+use Rattle.journal.specs.Geometry.Laws.{trap-first}
+use Rattle.journal.specs.Geometry.{trap}
 use Rattle.journal.proofs.Logs.{listed-block}
 use Rattle.journal.proofs.OrderLists.{slotBlock, slotWrites-upTo}
 use Rattle.journal.proofs.Phases.{WrittenSoFar, rowed-orders, written-none, written-more, written-stop, written-all}
@@ -17,7 +19,7 @@ use Rattle.journal.proofs.append.write_slots.Tie as tie
 
 -- the k-th entry of the group, on its way to its slot
 abbrev row : List ℕ → ℕ → ℕ → ℕ → Entry
-row work n from k = slotBlock (n + k) (entryAt work (from + k))
+row work n from k = slotBlock trap (n + k) (entryAt work (from + k))
 
 abbrev Inv-loop : tie.InvT-loop
 Inv-loop waiting₀ work group n from q₀ i₀ waiting q i = (i ≤ group .count) × WrittenSoFar (row work n from) i waiting₀ q₀ waiting q
@@ -32,7 +34,7 @@ sent : (c : tie.After-write Inv-loop μ-loop)
 sent c =
     let l = c .before .before .before .before .before .loop in
     let a = c .before .before .before .before .before .before .before .before .before .args in
-    entry-eq refl (listed-block (c .before .before .block .result) (a .work) (a .group .from + l .i) (c .before .before .block .ensures))
+    entry-eq (ap (λ (k : ℕ). k + (a .n + l .i)) trap-first) (listed-block (c .before .before .block .result) (a .work) (a .group .from + l .i) (c .before .before .block .ensures))
 
 cast-from : tie.Need-cast-from Inv-loop μ-loop
 cast-from c = search needs
@@ -50,10 +52,10 @@ block-requires : tie.Need-block-requires Inv-loop μ-loop
 block-requires c κs = omega arith
 
 add-write : tie.Need-add-write Inv-loop μ-loop
-add-write c = omega arith
+add-write c = omega (arith, trap .addressed)
 
 add-write-2 : tie.Need-add-write-2 Inv-loop μ-loop
-add-write-2 c = omega arith
+add-write-2 c = omega (arith, trap .addressed)
 
 write-requires : tie.Need-write-requires Inv-loop μ-loop
 write-requires c κs =
@@ -70,7 +72,7 @@ returns c =
     let l = w .before .before .before .before .before .loop in
     let a = w .before .before .before .before .before .before .before .before .before .args in
     let f = row (a .work .now) (a .n) (a .group .from) in
-    rowed-orders f (a .group .count) (a .waiting .now) (a .queue) (w .write .last .1 .0) (w .write .result) _ (slotWrites-upTo (a .n) (λ k. entryAt (a .work .now) (a .group .from + k)) (a .group .count))
+    rowed-orders f (a .group .count) (a .waiting .now) (a .queue) (w .write .last .1 .0) (w .write .result) _ (slotWrites-upTo trap (a .n) (λ k. entryAt (a .work .now) (a .group .from + k)) (a .group .count))
     (written-stop f (l .i) (a .waiting .now) (a .queue) (l .waiting) (l .q) (l .inv .1) _ (sent w) (w .write .last .1 .0) (w .write .result) (w .write .ensures) (a .group .count) (omega arith) (not-true _ (c .if2 .taken)))
 
 add-i : tie.Need-add-i Inv-loop μ-loop
@@ -95,7 +97,7 @@ returns-2 c =
     let a = c .before .before .before .before .before .before .args in
     let f = row (a .work .now) (a .n) (a .group .from) in
     let all : l .i ≡ a .group .count = omega arith in
-    rowed-orders f (a .group .count) (a .waiting .now) (a .queue) (l .waiting) (record { happened = true; queue = l .q }) _ (slotWrites-upTo (a .n) (λ k. entryAt (a .work .now) (a .group .from + k)) (a .group .count))
+    rowed-orders f (a .group .count) (a .waiting .now) (a .queue) (l .waiting) (record { happened = true; queue = l .q }) _ (slotWrites-upTo trap (a .n) (λ k. entryAt (a .work .now) (a .group .from + k)) (a .group .count))
     (rw (← all) (written-all f (l .i) (a .waiting .now) (a .queue) (l .waiting) (l .q) (l .inv .1)))
 
 pub write-slots-spec : {M : Type 1} → statement M

@@ -11,6 +11,7 @@ use Rattle.cells.specs.Upto.Laws.{length-upTo}
 use Rattle.card.specs.Card.{Order, write, flush, run, blocksIn}
 use Rattle.card.specs.CodeQueue.{cardOf}
 use Rattle.card.proofs.Runs.{writes-below}
+use Rattle.journal.specs.Geometry.{trap}
 use Rattle.journal.specs.declared.header.Header.{Header}
 use Rattle.journal.specs.Header.{emptyHeader}
 use Rattle.journal.specs.Log.{slotEntry, entries}
@@ -21,25 +22,26 @@ use Rattle.journal.proofs.Phases.{stopped, resumed, below-card, flushed
 use Rattle.journal.proofs.checkpoint.checkpoint.Statement.{statement}
 use Rattle.journal.proofs.checkpoint.checkpoint.Tie as tie
 
+
 -- the last phase
 abbrev last : ℕ → List Order
 last N = headerWrite (emptyHeader N) ∷ flush ∷ []
 
-homes : (s : List ℕ) (n : ℕ) → length (map write (entries s n)) ≡ n
-homes s n = rw (length-map) (length-upTo (slotEntry s) n)
+homes : (s : List ℕ) (n : ℕ) → length (map write (entries trap s n)) ≡ n
+homes s n = rw (length-map) (length-upTo (slotEntry trap s) n)
 
-homes-flush : (s : List ℕ) (n : ℕ) → length (map write (entries s n) ++ (flush ∷ [])) ≡ n + 1
+homes-flush : (s : List ℕ) (n : ℕ) → length (map write (entries trap s n) ++ (flush ∷ [])) ≡ n + 1
 homes-flush s n = rw (length-append, homes s n)
 
 -- the blocks went home, and the flush was given
 flushed : (c : tie.After-flush)
     → (c .flush .result .happened ≡ leb (c .before .before .before .before .before .before .before .before .before .before .before .before .args .n + 1) (c .before .before .before .before .before .before .before .before .before .before .before .before .args .queue .power))
     × (cardOf (c .flush .last .1 .0) (c .before .before .before .before .before .before .before .write-homes .last .1 .1 .0) (c .flush .result .queue)
-    ≡ run (map write (entries (c .before .before .before .before .before .before .before .before .before .before .before .before .args .settled .now) (c .before .before .before .before .before .before .before .before .before .before .before .before .args .n)) ++ (flush ∷ [])) (cardOf (c .before .before .before .before .before .before .before .before .before .before .before .before .args .settled .now) (c .before .before .before .before .before .before .before .before .before .before .before .before .args .waiting .now) (c .before .before .before .before .before .before .before .before .before .before .before .before .args .queue)))
+    ≡ run (map write (entries trap (c .before .before .before .before .before .before .before .before .before .before .before .before .args .settled .now) (c .before .before .before .before .before .before .before .before .before .before .before .before .args .n)) ++ (flush ∷ [])) (cardOf (c .before .before .before .before .before .before .before .before .before .before .before .before .args .settled .now) (c .before .before .before .before .before .before .before .before .before .before .before .before .args .waiting .now) (c .before .before .before .before .before .before .before .before .before .before .before .before .args .queue)))
 flushed c =
     let w = c .before .before .before .before .before .before .before in
     let a = w .before .before .before .before .before .args in
-    resumed _ (map write (entries (a .settled .now) (a .n))) (flush ∷ []) refl (a .n) 1 _ (homes (a .settled .now) (a .n)) refl
+    resumed _ (map write (entries trap (a .settled .now) (a .n))) (flush ∷ []) refl (a .n) 1 _ (homes (a .settled .now) (a .n)) refl
     (cardOf (a .settled .now) (a .waiting .now) (a .queue)) _ (w .write-homes .ensures .1 .0 (a .settled .now)) _ (w .write-homes .ensures .0) (not-false _ (c .before .before .before .if1 .left))
     _ _ (c .flush .ensures .1 .0) (c .flush .ensures .0)
 
@@ -57,7 +59,7 @@ unfolding checkpointOrders
 returns c =
     let w = c .before .before .before .before in
     let a = w .before .before .before .before .before .args in
-    stopped _ (map write (entries (a .settled .now) (a .n))) (flush ∷ last (a .blocks)) refl (a .n) 3 _ (homes (a .settled .now) (a .n)) refl
+    stopped _ (map write (entries trap (a .settled .now) (a .n))) (flush ∷ last (a .blocks)) refl (a .n) 3 _ (homes (a .settled .now) (a .n)) refl
     (cardOf (a .settled .now) (a .waiting .now) (a .queue)) _ (w .write-homes .ensures .1 .0 (a .settled .now)) _ (w .write-homes .ensures .0) (not-true _ (c .if1 .taken))
 
 flush-requires : tie.Need-flush-requires
@@ -66,10 +68,10 @@ flush-requires c κs =
     let start = w .before .before .before .before .before in
     let a = start .args in
     let s = a .settled .now in
-    let m : length (entries s (a .n)) ≡ a .n = length-upTo (slotEntry s) (a .n) in
-    let below = writes-below (blocksIn s) (entries s (a .n)) (cardOf s (a .waiting .now) (a .queue)) (omega arith)
-    (entries-whole s (a .n) (omega arith) (omega arith)) (entries-short s (a .n) (λ i. w .before .before .before .before .slice-known .given i .fits) (omega arith) (omega arith))
-    (entries-below (blocksIn s) s (a .n) (start .pre .1 .1 .0)) (start .pre .1 .1 .1 .1 .1 .1) in
+    let m : length (entries trap s (a .n)) ≡ a .n = length-upTo (slotEntry trap s) (a .n) in
+    let below = writes-below (blocksIn s) (entries trap s (a .n)) (cardOf s (a .waiting .now) (a .queue)) (omega arith)
+    (entries-whole trap s (a .n) (omega arith) (omega arith)) (entries-short trap s (a .n) (λ i. w .before .before .before .before .slice-known .given i .fits) (omega arith) (omega arith))
+    (entries-below trap (blocksIn s) s (a .n) (start .pre .1 .1 .0)) (start .pre .1 .1 .1 .1 .1 .1) in
     (omega arith, below-card (blocksIn s) s (w .write-homes .last .1 .1 .0) (w .write-homes .result .queue) _ (w .write-homes .ensures .1 .0 s) below)
 
 same-length-3 : tie.Need-same-length-3
@@ -82,7 +84,7 @@ returns-2 : tie.Need-returns-2
 returns-2 c =
     let f = c .before .before .before .before in
     let a = f .before .before .before .before .before .before .before .before .before .before .before .before .args in
-    stopped _ (map write (entries (a .settled .now) (a .n)) ++ (flush ∷ [])) (last (a .blocks)) (checkpoint-writes (a .blocks) (entries (a .settled .now) (a .n))) (a .n + 1) 2 (a .n + 3) (homes-flush (a .settled .now) (a .n)) (omega arith)
+    stopped _ (map write (entries trap (a .settled .now) (a .n)) ++ (flush ∷ [])) (last (a .blocks)) (checkpoint-writes (a .blocks) (entries trap (a .settled .now) (a .n))) (a .n + 1) 2 (a .n + 3) (homes-flush (a .settled .now) (a .n)) (omega arith)
     (cardOf (a .settled .now) (a .waiting .now) (a .queue)) _ (flushed f .1) _ (flushed f .0) (not-true _ (c .if2 .taken))
 
 empty-requires : tie.Need-empty-requires
@@ -114,7 +116,7 @@ returns-3 c =
     let h = o .before .before .before in
     let f = h .before .before .before .before .before in
     let a = f .before .before .before .before .before .before .before .before .before .before .before .before .args in
-    resumed _ (map write (entries (a .settled .now) (a .n)) ++ (flush ∷ [])) (last (a .blocks)) (checkpoint-writes (a .blocks) (entries (a .settled .now) (a .n))) (a .n + 1) 2 (a .n + 3) (homes-flush (a .settled .now) (a .n)) (omega arith)
+    resumed _ (map write (entries trap (a .settled .now) (a .n)) ++ (flush ∷ [])) (last (a .blocks)) (checkpoint-writes (a .blocks) (entries trap (a .settled .now) (a .n))) (a .n + 1) 2 (a .n + 3) (homes-flush (a .settled .now) (a .n)) (omega arith)
     (cardOf (a .settled .now) (a .waiting .now) (a .queue)) _ (flushed f .1) _ (flushed f .0) (not-false _ (h .before .if2 .left))
     _ _ (o .order .ensures .1 ∙ ap (λ (x : Header). run (headerWrite x ∷ flush ∷ []) (cardOf (f .flush .last .1 .0) (f .before .before .before .before .before .before .before .write-homes .last .1 .1 .0) (f .flush .result .queue))) (h .empty .ensures)) (o .order .ensures .0)
 

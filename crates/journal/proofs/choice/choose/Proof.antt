@@ -4,6 +4,7 @@ use mathlib.Core.Bool.{false}
 use native.Mathlib.Omega.{arith}
 use borrow.Author.Needs.{needs}
 use lib.ListN.{length}
+use Rattle.journal.specs.Geometry.{trap}
 use Rattle.journal.specs.Choice.{foreign}
 use Rattle.journal.specs.Layout.{headerAt}
 use Rattle.journal.specs.Header.{decode}
@@ -13,12 +14,13 @@ use Rattle.journal.proofs.Choices.{ours, choose-foreign, choose-whole, 
 use Rattle.journal.proofs.choice.choose.Statement.{statement}
 use Rattle.journal.proofs.choice.choose.Tie as tie
 
+
 -- the header that was read is the card's
 header-read : (c : tie.After-read2) → c .read2 .result ≡ headerOf (c .before .before .before .args .settled .now)
 header-read c = c .read2 .ensures ∙ ap decode (block-read (c .before .read .result) (c .before .before .before .args .settled) headerAt (c .before .read .ensures))
 
 -- and is not foreign
-accepted : (c : tie.Else1) → foreign (c .before .before .before .before .before .args .blocks) (c .before .before .read2 .result) ≡ false
+accepted : (c : tie.Else1) → foreign trap (c .before .before .before .before .before .args .blocks) (c .before .before .read2 .result) ≡ false
 accepted c = sym (c .before .is-foreign .ensures) ∙ c .if1 .left
 
 read-requires : tie.Need-read-requires
@@ -36,23 +38,23 @@ returns : tie.Need-returns
 returns c =
     let r = c .before .before in
     let a = r .before .before .before .args in
-    sym (choose-foreign (a .blocks) (a .settled .now) (r .read2 .result) (header-read r) (sym (c .before .is-foreign .ensures) ∙ c .if1 .taken))
+    sym (choose-foreign trap (a .blocks) (a .settled .now) (r .read2 .result) (header-read r) (sym (c .before .is-foreign .ensures) ∙ c .if1 .taken))
 
 good-requires : tie.Need-good-requires
-good-requires c κs = (omega arith, ours (c .before .before .before .before .before .args .blocks) (c .before .before .read2 .result) (accepted c) .count)
+good-requires c κs = (omega arith, ours trap (c .before .before .before .before .before .args .blocks) (c .before .before .read2 .result) (accepted c) .count)
 
 returns-2 : tie.Need-returns-2
 returns-2 c =
     let e = c .before .before in
     let r = e .before .before in
     let a = r .before .before .before .args in
-    sym (choose-whole (a .blocks) (a .settled .now) (r .read2 .result) (header-read r) (accepted e) (sym (c .before .good2 .ensures) ∙ c .if2 .taken))
+    sym (choose-whole trap (a .blocks) (a .settled .now) (r .read2 .result) (header-read r) (accepted e) (sym (c .before .good2 .ensures) ∙ c .if2 .taken))
 
 good-requires-2 : tie.Need-good-requires-2
 good-requires-2 c κs =
     let e = c .before .before in
     let r = e .before .before in
-    let o = ours (r .before .before .before .args .blocks) (r .read2 .result) (accepted e) in
+    let o = ours trap (r .before .before .before .args .blocks) (r .read2 .result) (accepted e) in
     (omega arith, omega (arith, o .count, o .previous))
 
 returns-3 : tie.Need-returns-3
@@ -60,7 +62,7 @@ returns-3 c =
     let e = c .before .before .before .before in
     let r = e .before .before in
     let a = r .before .before .before .args in
-    sym (choose-fallback (a .blocks) (a .settled .now) (r .read2 .result) (header-read r) (accepted e)
+    sym (choose-fallback trap (a .blocks) (a .settled .now) (r .read2 .result) (header-read r) (accepted e)
     (sym (c .before .before .before .good2 .ensures) ∙ c .before .before .if2 .left) (sym (c .before .good3 .ensures) ∙ c .if3 .taken))
 
 returns-4 : tie.Need-returns-4
@@ -68,7 +70,7 @@ returns-4 c =
     let e = c .before .before .before .before in
     let r = e .before .before in
     let a = r .before .before .before .args in
-    sym (choose-neither (a .blocks) (a .settled .now) (r .read2 .result) (header-read r) (accepted e)
+    sym (choose-neither trap (a .blocks) (a .settled .now) (r .read2 .result) (header-read r) (accepted e)
     (sym (c .before .before .before .good2 .ensures) ∙ c .before .before .if2 .left) (sym (c .before .good3 .ensures) ∙ c .if3 .left))
 
 pub choose-spec : {M : Type 1} → statement M

@@ -1,9 +1,11 @@
 -- `journal::choice::is_foreign` meets its contract.
 use mathlib.Core.Path.{_≡_, sym}
-use mathlib.Core.Bool.{false}
+use mathlib.Core.Bool.{true, false}
+use native.Mathlib.Omega.{arith}
 use borrow.Author.Tests.{eq-eqb, ne-eqb, le-leb, lt-leb}
 use lib.Dec.{leb}
-use Rattle.journal.specs.Layout.{slots}
+use Rattle.journal.specs.Geometry.Laws.{trap-slots}
+use Rattle.journal.specs.Geometry.{trap}
 use Rattle.journal.proofs.Choices.{not-leb}
 use Rattle.journal.proofs.choice.is_foreign.Statement.{statement}
 use Rattle.journal.proofs.choice.is_foreign.Tie as tie
@@ -17,13 +19,14 @@ returns-2 c = rw (eq-eqb _ _ (c .before .before .if1 .left), ne-eqb _ _ (c .if2 
 returns-3 : tie.Need-returns-3
 returns-3 c =
     let h = c .before .before .before .before .before .before .args .h in
-    let many : leb (h .count) slots ≡ false = lt-leb _ _ (c .if3 .taken) in
+    let many : leb (h .count) (trap .slots) ≡ false = lt-leb (h .count) (trap .slots) (omega (arith, trap-slots, c .if3 .taken)) in
     rw (eq-eqb _ _ (c .before .before .before .before .if1 .left), eq-eqb _ _ (c .before .before .if2 .left), many)
 
 returns-4 : tie.Need-returns-4
 returns-4 c =
     let h = c .before .before .before .before .before .before .before .args .h in
-    rw (eq-eqb _ _ (c .before .before .before .before .before .if1 .left), eq-eqb _ _ (c .before .before .before .if2 .left), le-leb _ _ (c .before .if3 .left))
+    let few : leb (h .count) (trap .slots) ≡ true = le-leb (h .count) (trap .slots) (omega (arith, trap-slots, c .before .if3 .left)) in
+    rw (eq-eqb _ _ (c .before .before .before .before .before .if1 .left), eq-eqb _ _ (c .before .before .before .if2 .left), few)
     (sym (not-leb (h .previous) (h .count)))
 
 pub is-foreign-spec : {M : Type 1} → statement M

@@ -4,13 +4,15 @@ use mathlib.Core.Path.{_≡_, refl, sym, _∙_}
 use native.Mathlib.Omega.{arith}
 use borrow.Author.Tests.{not-true, not-false}
 use borrow.Author.Needs.{needs}
+use Rattle.journal.specs.Geometry.{trap}
 use Rattle.journal.specs.Log.{allData, entries}
 use Rattle.journal.proofs.Logs.{data-stop, data-on}
 use Rattle.journal.proofs.log.all_data.Statement.{statement}
 use Rattle.journal.proofs.log.all_data.Tie as tie
 
+
 abbrev Inv-loop : tie.InvT-loop
-Inv-loop settled blocks n i₀ i = (i ≤ n) × (allData blocks (entries settled i) ≡ allData blocks (entries settled n))
+Inv-loop settled blocks n i₀ i = (i ≤ n) × (allData trap blocks (entries trap settled i) ≡ allData trap blocks (entries trap settled n))
 
 abbrev μ-loop : tie.MeasureT-loop
 μ-loop settled blocks n i₀ i = i
@@ -32,7 +34,7 @@ returns c =
     let l = c .before .before .before .before .loop in
     let a = c .before .before .before .before .before .before .args in
     let d = not-true (c .before .is-data .result) (c .if1 .taken) in
-    sym (data-stop (a .blocks) (a .settled .now) (l .i) (omega arith) (rw (← c .before .before .slot-address .ensures, ← c .before .is-data .ensures) d)) ∙ l .inv .1
+    sym (data-stop trap (a .blocks) (a .settled .now) (l .i) (omega arith) (rw (← c .before .before .slot-address .ensures, ← c .before .is-data .ensures) d)) ∙ l .inv .1
 
 loop-less : tie.Need-loop-less Inv-loop μ-loop
 loop-less c = omega arith
@@ -42,7 +44,7 @@ loop-again c =
     let l = c .before .before .before .before .loop in
     let a = c .before .before .before .before .before .before .args in
     let d = not-false (c .before .is-data .result) (c .if1 .left) in
-    (omega arith, sym (data-on (a .blocks) (a .settled .now) (l .i) (omega arith) (rw (← c .before .before .slot-address .ensures, ← c .before .is-data .ensures) d)) ∙ l .inv .1)
+    (omega arith, sym (data-on trap (a .blocks) (a .settled .now) (l .i) (omega arith) (rw (← c .before .before .slot-address .ensures, ← c .before .is-data .ensures) d)) ∙ l .inv .1)
 
 returns-2 : tie.Need-returns-2 Inv-loop μ-loop
 unfolding allData

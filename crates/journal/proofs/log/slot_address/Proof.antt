@@ -4,6 +4,7 @@ use native.Mathlib.Omega.{arith}
 use borrow.Author.Needs.{needs}
 use Rattle.cells.specs.Cell.Laws.{cell-part}
 use Rattle.card.specs.Card.{blockAt}
+use Rattle.journal.specs.Geometry.{trap}
 use Rattle.journal.specs.Layout.{descriptorAt}
 use Rattle.journal.specs.Log.{slotAddress}
 use Rattle.journal.proofs.Logs.{length-blockAt, block-read}
@@ -19,7 +20,7 @@ mul-read-u32 c = search needs
 read-u32-requires : tie.Need-read-u32-requires
 read-u32-requires c κs =
     let start = c .before .before in
-    rw (block-read (c .read .result) (start .args .settled) descriptorAt (c .read .ensures), length-blockAt (start .args .settled .now) descriptorAt (omega arith)) (omega arith)
+    rw (block-read (c .read .result) (start .args .settled) descriptorAt (c .read .ensures), length-blockAt (start .args .settled .now) descriptorAt (omega arith)) (omega (arith, trap .described, trap .single))
 
 returns : tie.Need-returns
 unfolding slotAddress

@@ -5,14 +5,16 @@ use native.Mathlib.Omega.{arith}
 use borrow.Author.Needs.{needs}
 use Rattle.cells.specs.Entry.{Entry}
 use Rattle.fnv.specs.Fnv.{start}
+use Rattle.journal.specs.Geometry.{trap}
 use Rattle.journal.specs.Layout.{slotAt}
 use Rattle.journal.specs.Log.{slotEntry, entries, sumOf}
 use Rattle.journal.proofs.Logs.{block-read, sumOf-nil, slot-entry, sum-more}
 use Rattle.journal.proofs.log.sum_entries.Statement.{statement}
 use Rattle.journal.proofs.log.sum_entries.Tie as tie
 
+
 abbrev Inv-loop : tie.InvT-loop
-Inv-loop settled n sum₀ i₀ sum i = (i ≤ n) × (sum ≡ sumOf start (entries settled i))
+Inv-loop settled n sum₀ i₀ sum i = (i ≤ n) × (sum ≡ sumOf start (entries trap settled i))
 
 abbrev μ-loop : tie.MeasureT-loop
 μ-loop settled n sum₀ i₀ sum i = n - i
@@ -41,9 +43,9 @@ loop-again c =
     let s = c .before .before .before .before .before .before .args .settled in
     let b = c .before .slot-block .result .now in
     let e : Entry = record { address = c .before .before .slot-address .result; block = b } in
-    let same : e ≡ slotEntry (s .now) (l .i) =
-    slot-entry (s .now) (l .i) e (c .before .before .slot-address .ensures) (block-read (c .before .slot-block .result) s (slotAt (l .i)) (c .before .slot-block .ensures)) in
-    (omega arith, c .sum-entry .ensures ∙ sum-more (slotEntry (s .now)) start (l .i) (l .sum) e (l .inv .1) same)
+    let same : e ≡ slotEntry trap (s .now) (l .i) =
+    slot-entry trap (s .now) (l .i) e (c .before .before .slot-address .ensures) (block-read (c .before .slot-block .result) s (slotAt trap (l .i)) (c .before .slot-block .ensures)) in
+    (omega arith, c .sum-entry .ensures ∙ sum-more (slotEntry trap (s .now)) start (l .i) (l .sum) e (l .inv .1) same)
 
 returns : tie.Need-returns Inv-loop μ-loop
 returns c =

@@ -1,0 +1,47 @@
+-- The geometry of a card: how many slots and descriptor blocks its log has, how many places the queue, and what the laws know of
+-- these numbers. Definitions and laws take a geometry as their parameter; only `trap` has numbers in it.
+pub mod Laws
+use Prim.Native.Nat.{ℕ, _+_, _*_, _≤_, _<_}
+use mathlib.Core.Path.{_≡_}
+use Rattle.card.specs.Card.{mostPlaces}
+
+-- the addresses that a descriptor block holds
+abbrev pub perDescriptor : ℕ
+perDescriptor = 128
+
+-- "at most 65,536" blocks
+abbrev pub mostBlocks : ℕ
+mostBlocks = 65536
+
+pub record Geometry : Type 0 where
+  pub slots : ℕ
+  pub descriptors : ℕ
+  pub places : ℕ
+  -- the descriptor blocks have an address for each slot; there is one of them
+  pub described : slots ≤ perDescriptor * descriptors
+  pub single : descriptors ≡ 1
+  -- the longest list of orders: all slots, the descriptor blocks and the header wait
+  pub queued : slots + descriptors + 1 ≤ places
+  pub counted : places ≤ mostPlaces
+  -- header, descriptor blocks, slots and a data block lie below the largest N
+  pub addressed : 1 + descriptors + slots < mostBlocks
+
+-- the trap: "slot i (0 to 31)", "34 places of 516 bytes"
+abbrev pub trapSlots : ℕ
+trapSlots = 32
+
+abbrev pub trapPlaces : ℕ
+trapPlaces = 34
+
+-- "Block 1 is the descriptor". Shut: a proof that needs one of its numbers cites specs/Geometry/Laws.antt
+pub trap : Geometry
+trap = record {
+  slots = trapSlots;
+  descriptors = 1;
+  places = trapPlaces;
+  described = lib.Dec.lit≤ tt;
+  single = mathlib.Core.Path.refl;
+  queued = lib.Dec.lit≤ tt;
+  counted = lib.Dec.lit≤ tt;
+  addressed = lib.Dec.lit< tt;
+}
