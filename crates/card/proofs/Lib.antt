@@ -3,3 +3,4 @@ pub mod All
 pub mod Overlays
 pub mod Runs
 pub mod Cuts
+pub mod Leaves

@@ -1,4 +1,5 @@
 -- The card: settled bytes, a queue of waiting writes, the power count.
 pub mod Disk
 pub mod Card
+pub mod Marks
 pub mod CodeQueue
