@@ -7,15 +7,16 @@ use mathlib.Core.List.{List, [], _∷_, _++_}
 use native.Mathlib.Omega.{arith}
 use borrow.Author.Tests.{eqb-true, eqb-false, eq-eqb}
 use lib.Dec.{eqb}
-use lib.ListN.{length, getD, length-append}
+use lib.ListN.{length, getD, replicate, length-replicate}
+use Rattle.cells.specs.Cell.Laws.{length-cell}
 use Rattle.cells.specs.Upto.Laws.{length-upTo}
 use Rattle.cells.specs.Entry.{Entry, entryAt, blockBytes}
 use Rattle.card.specs.Disk.{Disk, overlay}
-use Rattle.card.specs.Card.{Card, queue, kept, cut, blockAt, blocksIn}
+use Rattle.card.specs.Card.{Card, queue, settle, kept, cut, blockAt, blocksIn}
 use Rattle.card.specs.Marks.{overOne, marksFit, keptAt, allKept}
 use Rattle.card.proofs.All.{All, all-append, all-map}
 use Rattle.card.proofs.Overlays.{overlay-other, overlay-keeps}
-use Rattle.card.proofs.Runs.{Whole}
+use Rattle.card.proofs.Runs.{Whole, settle-overlay}
 use Rattle.card.proofs.Cuts.{kept-nil, kept-step, kept-all, all-kept, all-marked, cut-block}
 
 -- what holds of some element of a list
@@ -100,40 +101,70 @@ kept-without a (m ∷ ms) (x ∷ es) fs e h p o =
     (λ y. (p .0, kept-without a ms es fs e h (p .1) o))
     (λ n. kept-without a ms es fs e h (p .1) o)
 
-abbrev pub cutDisk : List ℕ → Card → Disk
-cutDisk ms c = blockAt (cut ms c .settled)
-
-pub cut-leaves : (ms : List ℕ) (c : Card) → 0 < blocksIn (c .settled) → marksFit ms (c .count) ≡ true → All Whole (queue c)
-    → Leaves (blocksIn (c .settled)) ms (queue c) (blockAt (c .settled)) (cutDisk ms c)
-unfolding queue
-cut-leaves ms c some f w = record {
-  untouched = λ a h o. laid a h ∙ overlay-other (kept ms (queue c)) (blockAt (c .settled)) a (all-kept (λ e. a ≢ e .address) ms (queue c) o);
+-- kept writes laid over a disk of whole blocks obey the laws
+pub laid-leaves : (N : ℕ) (ms : List ℕ) (q : List Entry) (s t : Disk) → 0 < N → marksFit ms (length q) ≡ true → All Whole q
+    → ((a : ℕ) → a < N → length (s a) ≡ blockBytes) → ((a : ℕ) → a < N → t a ≡ overlay (kept ms q) s a)
+    → Leaves N ms q s t
+laid-leaves N ms q s t some f w size laid = record {
+  untouched = λ a h o. laid a h ∙ overlay-other (kept ms q) s a (all-kept (λ e. a ≢ e .address) ms q o);
   byte = λ a j h.
       rw (laid a h)
-      (overlay-keeps (λ b. (getD b j 0 ≡ getD (blockAt (c .settled) a) j 0) ⊎ Any (λ e. (e .address ≡ a) × (getD b j 0 ≡ getD (e .block) j 0)) (queue c)) (kept ms (queue c)) (blockAt (c .settled)) a (_⊎_.inl refl)
-      (all-kept (λ x. x .address ≡ a → (getD (x .block) j 0 ≡ getD (blockAt (c .settled) a) j 0) ⊎ Any (λ e. (e .address ≡ a) × (getD (x .block) j 0 ≡ getD (e .block) j 0)) (queue c)) ms (queue c)
-      (all-map (λ x. Any (λ e. (x .address ≡ a → e .address ≡ a) × (getD (x .block) j 0 ≡ getD (e .block) j 0)) (queue c)) _ (λ x p q. _⊎_.inr (strip x a j q (queue c) p)) (queue c)
-      (each-any (λ x e. (x .address ≡ a → e .address ≡ a) × (getD (x .block) j 0 ≡ getD (e .block) j 0)) (λ x. ((λ q. q), refl)) (queue c)))));
+      (overlay-keeps (λ b. (getD b j 0 ≡ getD (s a) j 0) ⊎ Any (λ e. (e .address ≡ a) × (getD b j 0 ≡ getD (e .block) j 0)) q) (kept ms q) s a (_⊎_.inl refl)
+      (all-kept (λ x. x .address ≡ a → (getD (x .block) j 0 ≡ getD (s a) j 0) ⊎ Any (λ e. (e .address ≡ a) × (getD (x .block) j 0 ≡ getD (e .block) j 0)) q) ms q
+      (all-map (λ x. Any (λ e. (x .address ≡ a → e .address ≡ a) × (getD (x .block) j 0 ≡ getD (e .block) j 0)) q) _ (λ x p z. _⊎_.inr (strip x a j z q p)) q
+      (each-any (λ x e. (x .address ≡ a → e .address ≡ a) × (getD (x .block) j 0 ≡ getD (e .block) j 0)) (λ x. ((λ z. z), refl)) q))));
   long = λ a h.
       rw (laid a h)
-      (overlay-keeps (λ b. length b ≡ blockBytes) (kept ms (queue c)) (blockAt (c .settled)) a (Rattle.cells.specs.Cell.Laws.length-cell blockBytes (c .settled) a (omega arith))
-      (all-map Whole (λ e. e .address ≡ a → Whole e) (λ e p q. p) (kept ms (queue c)) (all-kept Whole ms (queue c) w)));
-  kept-header = λ es fs e q z o k.
+      (overlay-keeps (λ b. length b ≡ blockBytes) (kept ms q) s a (size a h)
+      (all-map Whole (λ e. e .address ≡ a → Whole e) (λ e p z. p) (kept ms q) (all-kept Whole ms q w)));
+  kept-header = λ es fs e p z o k.
       laid 0 some
-      ∙ ap (λ (l : List Entry). overlay (kept ms l) (blockAt (c .settled)) 0) q
-      ∙ ap (overlay (kept ms (es ++ (e ∷ fs))) (blockAt (c .settled))) (sym z)
-      ∙ kept-newest ms es fs e (blockAt (c .settled)) k (rw z o);
-  lost-header = λ es fs e q p o k.
+      ∙ ap (λ (l : List Entry). overlay (kept ms l) s 0) p
+      ∙ ap (overlay (kept ms (es ++ (e ∷ fs))) s) (sym z)
+      ∙ kept-newest ms es fs e s k (rw z o);
+  lost-header = λ es fs e z p o k.
       laid 0 some
-      ∙ ap (λ (l : List Entry). overlay (kept ms l) (blockAt (c .settled)) 0) q
-      ∙ overlay-other (kept ms (es ++ (e ∷ fs))) (blockAt (c .settled)) 0 (kept-without 0 ms es fs e k p o);
-  whole = λ k a h. laid a h ∙ ap (λ (l : List Entry). overlay l (blockAt (c .settled)) a) (kept-all ms (queue c) (fits-length ms (c .count) f ∙ sym (length-upTo (entryAt (c .waiting)) (c .count))) (all-ones ms k));
+      ∙ ap (λ (l : List Entry). overlay (kept ms l) s 0) z
+      ∙ overlay-other (kept ms (es ++ (e ∷ fs))) s 0 (kept-without 0 ms es fs e k p o);
+  whole = λ k a h. laid a h ∙ ap (λ (l : List Entry). overlay l s a) (kept-all ms q (fits-length ms (length q) f) (all-ones ms k));
 }
   where
-    laid : (a : ℕ) → a < blocksIn (c .settled) → cutDisk ms c a ≡ overlay (kept ms (queue c)) (blockAt (c .settled)) a
-    laid a h = cut-block ms c a h w
-
     strip : (x : Entry) (a j : ℕ) → x .address ≡ a → (l : List Entry) → Any (λ e. (x .address ≡ a → e .address ≡ a) × (getD (x .block) j 0 ≡ getD (e .block) j 0)) l
         → Any (λ e. (e .address ≡ a) × (getD (x .block) j 0 ≡ getD (e .block) j 0)) l
-    strip x a j q (y ∷ l) (_⊎_.inl p) = _⊎_.inl (p .0 q, p .1)
-    strip x a j q (y ∷ l) (_⊎_.inr p) = _⊎_.inr (strip x a j q l p)
+    strip x a j z (y ∷ l) (_⊎_.inl p) = _⊎_.inl (p .0 z, p .1)
+    strip x a j z (y ∷ l) (_⊎_.inr p) = _⊎_.inr (strip x a j z l p)
+
+whole-blocks : (s : List ℕ) (a : ℕ) → a < blocksIn s → length (blockAt s a) ≡ blockBytes
+whole-blocks s a h = length-cell blockBytes s a (omega arith)
+
+-- a cut of this card
+pub cut-leaves : (ms : List ℕ) (c : Card) → 0 < blocksIn (c .settled) → marksFit ms (c .count) ≡ true → All Whole (queue c)
+    → Leaves (blocksIn (c .settled)) ms (queue c) (blockAt (c .settled)) (blockAt (cut ms c .settled))
+unfolding queue
+cut-leaves ms c some f w =
+    laid-leaves (blocksIn (c .settled)) ms (queue c) (blockAt (c .settled)) (blockAt (cut ms c .settled)) some
+    (ap (marksFit ms) (length-upTo (entryAt (c .waiting)) (c .count)) ∙ f) w (whole-blocks (c .settled)) (λ a h. cut-block ms c a h w)
+
+-- ---- a flush is a cut that keeps all
+
+abbrev pub ones : ℕ → List ℕ
+ones k = replicate k 1
+
+pub ones-kept : (k : ℕ) → allKept (ones k) ≡ true
+unfolding allKept
+ones-kept zero = refl
+ones-kept (suc k) = ones-kept k
+
+ones-low : (k : ℕ) → overOne (ones k) ≡ false
+unfolding overOne
+ones-low zero = refl
+ones-low (suc k) = ones-low k
+
+ones-fit : (k : ℕ) → marksFit (ones k) k ≡ true
+unfolding marksFit
+ones-fit k = rw (length-replicate, eq-eqb k k refl, ones-low k)
+
+pub settle-leaves : (es : List Entry) (s : List ℕ) → 0 < blocksIn s → All Whole es → Leaves (blocksIn s) (ones (length es)) es (blockAt s) (blockAt (settle es s))
+settle-leaves es s some w =
+    laid-leaves (blocksIn s) (ones (length es)) es (blockAt s) (blockAt (settle es s)) some (ones-fit (length es)) w (whole-blocks s)
+    (λ a h. settle-overlay es s a h w ∙ ap (λ (l : List Entry). overlay l (blockAt s) a) (sym (kept-all (ones (length es)) es (length-replicate (length es) 1) (all-ones (ones (length es)) (ones-kept (length es))))))

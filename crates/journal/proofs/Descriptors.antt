@@ -4,8 +4,8 @@ use mathlib.Core.Path.{_≡_, refl, ap, sym, _∙_}
 use mathlib.Core.List.{List, [], _∷_, _++_, append-assoc, append-nil}
 use native.Mathlib.Numerals.{add-one}
 use native.Mathlib.Omega.{arith}
-use lib.ListN.{length, getD, take, drop, replicate, length-append, length-drop, length-replicate}
-use lib.Seq.{sets, sets-eq, length-take-le, take-at, take-take, take-append-le, drop-drop, drop-append-le, drop-append-add}
+use lib.ListN.{length, getD, take, drop, replicate, length-append, length-drop, length-replicate, List·getD-append}
+use lib.Seq.{sets, sets-eq, length-take-le, take-at, take-take, take-append-le, drop-drop, drop-append-le, drop-append-add, getD-take}
 use Rattle.cells.specs.Cell.{cell}
 use Rattle.cells.specs.Cell.Laws.{cell-part, drop-take, sets-append}
 use Rattle.cells.specs.Little.{le}
@@ -75,21 +75,12 @@ described old z n es h zeros k =
 
 -- ---- read back
 
--- the addresses of the old list stand as they did
-pub describe-old : (old : List ℕ) (n : ℕ) (es : List Entry) (i : ℕ) → 4 * n ≤ length old → i < n → cell 4 (describe old n es) i ≡ cell 4 old i
+-- the bytes of the old list's addresses stand as they did
+pub describe-byte : (old : List ℕ) (n : ℕ) (es : List Entry) (j : ℕ) → 4 * n ≤ length old → j < 4 * n → getD (describe old n es) j 0 ≡ getD old j 0
 unfolding describe
-describe-old old n es i h k =
+describe-byte old n es j h k =
     let front : length (take (4 * n) old) ≡ 4 * n = length-take-le (4 * n) old h in
-    let split : 4 * i + (4 * n - 4 * i) ≡ 4 * n = omega arith in
-    let parts : drop (4 * i) (take (4 * n) old) ≡ take (4 * n - 4 * i) (drop (4 * i) old) =
-    ap (λ (x : ℕ). drop (4 * i) (take x old)) (sym split) ∙ drop-take (4 * i) (4 * n - 4 * i) old in
-    let room : 4 ≤ length (drop (4 * i) (take (4 * n) old)) = rw (length-drop) (omega arith) in
-    cell-part 4 (describe old n es) i
-    ∙ ap (take 4) (drop-append-le (4 * i) (take (4 * n) old) (addressBytes es ++ replicate (blockBytes - 4 * (n + length es)) 0) (omega arith))
-    ∙ take-append-le 4 (drop (4 * i) (take (4 * n) old)) (addressBytes es ++ replicate (blockBytes - 4 * (n + length es)) 0) room
-    ∙ ap (take 4) parts
-    ∙ take-take 4 (4 * n - 4 * i) (drop (4 * i) old) (omega arith)
-    ∙ sym (cell-part 4 old i)
+    List·getD-append (take (4 * n) old) (addressBytes es ++ replicate (blockBytes - 4 * (n + length es)) 0) 0 j (omega arith) ∙ getD-take (4 * n) old j 0 k
 
 address-at : (es : List Entry) (i : ℕ) (d : Entry) (rest : List ℕ) → i < length es
     → take 4 (drop (4 * i) (addressBytes es ++ rest)) ≡ le 4 (getD es i d .address)

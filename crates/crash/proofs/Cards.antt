@@ -1,0 +1,250 @@
+-- What a card holds when nothing waits: a header and its log, whole or with a fallback to come; and what writes make of it.
+use Prim.Native.Nat.{ℕ, _+_, _^_, _≤_, _<_}
+use mathlib.Core.Path.{_≡_, refl, ap, sym, _∙_}
+use mathlib.Core.Logic.{_≢_}
+use mathlib.Core.Bool.{Bool, true, false}
+use mathlib.Core.List.{List, [], _∷_, _++_}
+use native.Mathlib.Omega.{arith}
+use lib.Dec.{eqb}
+use lib.ListN.{length, take}
+use Rattle.cells.specs.Cell.{cell}
+use Rattle.cells.specs.Little.{num}
+use Rattle.cells.specs.Upto.{upTo}
+use Rattle.cells.specs.Upto.Laws.{ext-upTo, length-upTo}
+use Rattle.cells.specs.Entry.{Entry}
+use Rattle.cells.specs.Entry.Laws.{entry-eq}
+use Rattle.fnv.specs.Fnv.{start}
+use Rattle.card.specs.Disk.{Disk, lay, overlay}
+use Rattle.card.specs.Card.{blockAt}
+use Rattle.card.proofs.All.{All, all-map}
+use Rattle.card.proofs.Overlays.{lay-same, lay-other, overlay-append, overlay-other, overlay-agree, overlay-cover}
+use Rattle.journal.specs.Geometry.{Geometry}
+use Rattle.journal.specs.Layout.{headerAt, descriptorAt, slotAt, firstData, isData}
+use Rattle.journal.specs.Header.{encode, header, emptyHeader}
+use Rattle.journal.specs.Log.{slotAddress, slotEntry, entries, sumOf, allData, good}
+use Rattle.journal.proofs.Logs.{sumOf-nil, sumOf-append, sumOf-lt, allData-append, allData-all, data-bounds}
+use Rattle.journal.proofs.Choices.{both}
+use Rattle.crash.proofs.Logs.{sum-lt, slotE, logD, entries-disk, LogStands, same-log, same-agree, data-above, data-below}
+
+-- ---- what the card holds when nothing waits
+
+module _ (g : Geometry) where
+  -- block 0 is a header of ours
+  pub record HasHeader (d : Disk) (N p ps c ns : ℕ) : Type 0 where
+    pub block : d headerAt ≡ encode (header N p ps c ns)
+    pub ordered : p ≤ c
+    pub most : c ≤ g .slots
+    pub presum : ps < 2 ^ 64
+    pub sum : ns < 2 ^ 64
+
+  -- its first n entries are the log: their list is w, and S is the disk under it
+  pub record WholeCard (N : ℕ) (d : Disk) (w : List Entry) (S : Disk) (n : ℕ) : Type 0 where
+    pub p : ℕ
+    pub ps : ℕ
+    pub head : HasHeader d N p ps n (sumOf start (logD g d n))
+    pub all : allData g N (logD g d n) ≡ true
+    pub same : w ≡ logD g d n
+    pub disk : (a : ℕ) → isData g N a ≡ true → S a ≡ overlay (logD g d n) d a
+
+  -- its first c entries are not good, and its first n are the log: those of the list w from which the header took its sum
+  pub record FallCard (N : ℕ) (d : Disk) (w : List Entry) (S : Disk) (n : ℕ) : Type 0 where
+    pub c : ℕ
+    pub ns : ℕ
+    pub head : HasHeader d N n (sumOf start (logD g d n)) c ns
+    pub all : allData g N (logD g d n) ≡ true
+    pub bad : good g N (logD g d c) ns ≡ false
+    pub other : w ≢ logD g d c
+    pub size : length w ≡ c
+    pub total : sumOf start w ≡ ns
+    pub front : take n w ≡ logD g d n
+    pub disk : (a : ℕ) → isData g N a ≡ true → S a ≡ overlay (logD g d n) d a
+
+  abbrev pub ClosedCard : ℕ → Disk → List Entry → Disk → ℕ → Bool → Type 0
+  ClosedCard N d w S n false = WholeCard N d w S n
+  ClosedCard N d w S n true = FallCard N d w S n
+
+  -- a card that some list, as long as v and with its sum, some disk and some count belong to
+  pub record SafeCard (N : ℕ) (d : Disk) (v : List Entry) : Type 0 where
+    pub w : List Entry
+    pub S : Disk
+    pub n : ℕ
+    pub F : Bool
+    pub size : length w ≡ length v
+    pub total : sumOf start w ≡ sumOf start v
+    pub card : ClosedCard N d w S n F
+
+  -- ---- a disk that agrees below N
+
+  -- the same header and log, and the same disk under it
+  pub whole-frame : (N : ℕ) (d e : Disk) (w : List Entry) (S : Disk) (n : ℕ) → e headerAt ≡ d headerAt → logD g e n ≡ logD g d n
+      → ((a : ℕ) → isData g N a ≡ true → overlay (logD g d n) e a ≡ overlay (logD g d n) d a)
+      → WholeCard N d w S n → WholeCard N e w S n
+  whole-frame N d e w S n h l o r = record {
+    p = r .p;
+    ps = r .ps;
+    head = record {
+      block = h ∙ r .head .block ∙ ap (λ (x : List Entry). encode (header N (r .p) (r .ps) n (sumOf start x))) (sym l);
+      ordered = r .head .ordered;
+      most = r .head .most;
+      presum = r .head .presum;
+      sum = rw l (r .head .sum);
+    };
+    all = rw l (r .all);
+    same = r .same ∙ sym l;
+    disk = λ a q. rw l (r .disk a q ∙ sym (o a q));
+  }
+
+  pub whole-agree : (N : ℕ) (d e : Disk) (w : List Entry) (S : Disk) (n : ℕ) → firstData g < N → ((a : ℕ) → a < N → e a ≡ d a) → WholeCard N d w S n → WholeCard N e w S n
+  whole-agree N d e w S n b h r =
+      whole-frame N d e w S n (h headerAt (omega arith)) (same-log g n e d (same-agree g n e d (r .head .most) (λ a l. h a (omega arith))))
+      (λ a q. overlay-agree (logD g d n) e d a (h a (data-below g N a q))) r
+
+  pub fall-agree : (N : ℕ) (d e : Disk) (w : List Entry) (S : Disk) (n : ℕ) → firstData g < N → ((a : ℕ) → a < N → e a ≡ d a) → FallCard N d w S n → FallCard N e w S n
+  fall-agree N d e w S n b h r =
+      let k : n ≤ g .slots = omega (arith, r .head .ordered, r .head .most) in
+      let l : logD g e n ≡ logD g d n = same-log g n e d (same-agree g n e d k (λ a q. h a (omega arith))) in
+      let m : logD g e (r .c) ≡ logD g d (r .c) = same-log g (r .c) e d (same-agree g (r .c) e d (r .head .most) (λ a q. h a (omega arith))) in
+      record {
+        c = r .c;
+        ns = r .ns;
+        head = record {
+          block = h headerAt (omega arith) ∙ r .head .block ∙ ap (λ (x : List Entry). encode (header N n (sumOf start x) (r .c) (r .ns))) (sym l);
+          ordered = r .head .ordered;
+          most = r .head .most;
+          presum = rw l (r .head .presum);
+          sum = r .head .sum;
+        };
+        all = rw l (r .all);
+        bad = rw m (r .bad);
+        other = λ q. r .other (q ∙ m);
+        size = r .size;
+        total = r .total;
+        front = r .front ∙ sym l;
+        disk = λ a q. rw l (r .disk a q ∙ sym (overlay-agree (logD g d n) e d a (h a (data-below g N a q))));
+      }
+
+  pub closed-agree : (N : ℕ) (d e : Disk) (w : List Entry) (S : Disk) (n : ℕ) (F : Bool) → firstData g < N → ((a : ℕ) → a < N → e a ≡ d a) → ClosedCard N d w S n F → ClosedCard N e w S n F
+  closed-agree N d e w S n false b h r = whole-agree N d e w S n b h r
+  closed-agree N d e w S n true b h r = fall-agree N d e w S n b h r
+
+  -- ---- an append whose header was kept, on the disk e: the first n entries stand, the rest are those found
+
+  pub record Appended (N : ℕ) (d e : Disk) (n h : ℕ) (G : List Entry) : Type 0 where
+    pub head : e headerAt ≡ encode (header N n h (n + length G) (sumOf h G))
+    pub log : LogStands g n e d
+    pub homes : (a : ℕ) → isData g N a ≡ true → e a ≡ d a
+    pub sum : h ≡ sumOf start (logD g d n)
+    pub room : n + length G ≤ g .slots
+
+  module _ (N : ℕ) (d e : Disk) (w : List Entry) (S : Disk) (n h : ℕ) (G : List Entry) (r : WholeCard N d w S n) (t : Appended N d e n h G) where
+    -- the list from which that header took its sum
+    pub append-sum : sumOf start (logD g d n ++ G) ≡ sumOf h G
+    append-sum = sumOf-append start (logD g d n) G ∙ ap (λ (k : ℕ). sumOf k G) (sym (t .sum))
+
+    pub append-head : HasHeader e N n h (n + length G) (sumOf h G)
+    append-head = record {
+      block = t .head;
+      ordered = omega arith;
+      most = t .room;
+      presum = rw (t .sum) (sum-lt (logD g d n));
+      sum = rw (← append-sum) (sum-lt (logD g d n ++ G));
+    }
+
+    append-size : length (logD g d n ++ G) ≡ n + length G
+    append-size = lib.ListN.length-append (logD g d n) G ∙ ap (λ (k : ℕ). k + length G) (length-upTo (slotE g d) n)
+
+    append-log : logD g e n ≡ logD g d n
+    append-log = same-log g n e d (t .log)
+
+    -- the log found is the log written: G is laid over S
+    pub append-found : allData g N G ≡ true → logD g e (n + length G) ≡ logD g d n ++ G → WholeCard N e (logD g d n ++ G) (overlay G S) (n + length G)
+    append-found m q = record {
+      p = n;
+      ps = h;
+      head = rw (q, append-sum) append-head;
+      all = rw (q, allData-append g N (logD g d n) G, r .all) m;
+      same = sym q;
+      disk = λ a x.
+          rw q
+          (overlay-agree G S (overlay (logD g d n) d) a (r .disk a x)
+          ∙ overlay-agree G (overlay (logD g d n) d) (overlay (logD g d n) e) a (sym (overlay-agree (logD g d n) e d a (t .homes a x)))
+          ∙ ap (λ (f : Disk). f a) (sym (overlay-append (logD g d n) G e)));
+    }
+
+    -- it is not good: the log is the first n entries as before
+    pub append-bad : logD g d n ++ G ≢ logD g e (n + length G) → good g N (logD g e (n + length G)) (sumOf h G) ≡ false → FallCard N e (logD g d n ++ G) S n
+    append-bad z b = record {
+      c = n + length G;
+      ns = sumOf h G;
+      head = rw (append-log, ← t .sum) append-head;
+      all = rw append-log (r .all);
+      bad = b;
+      other = z;
+      size = append-size;
+      total = append-sum;
+      front = lib.Seq.take-at (logD g d n) G n (length-upTo (slotE g d) n) ∙ sym append-log;
+      disk = λ a x. rw append-log (r .disk a x ∙ sym (overlay-agree (logD g d n) e d a (t .homes a x)));
+    }
+
+    -- it has the sum by a collision: whatever is found then is a log all the same
+    pub append-safe : logD g d n ++ G ≢ logD g e (n + length G) → SafeCard N e (logD g d n ++ G)
+    append-safe z = go (good g N (logD g e (n + length G)) (sumOf h G)) refl
+      where
+        go : (t : Bool) → good g N (logD g e (n + length G)) (sumOf h G) ≡ t → SafeCard N e (logD g d n ++ G)
+        go true b =
+            let parts = both (eqb (sumOf start (logD g e (n + length G))) (sumOf h G)) (allData g N (logD g e (n + length G))) b in
+            let q : sumOf start (logD g e (n + length G)) ≡ sumOf h G = borrow.Author.Tests.eqb-true _ _ (parts .0) in
+            record {
+              w = logD g e (n + length G);
+              S = overlay (logD g e (n + length G)) e;
+              n = n + length G;
+              F = false;
+              size = length-upTo (slotE g e) (n + length G) ∙ sym append-size;
+              total = q ∙ sym append-sum;
+              card = record { p = n; ps = h; head = rw q append-head; all = parts .1; same = refl; disk = λ a x. refl };
+            }
+        go false b = record { w = logD g d n ++ G; S = S; n = n; F = true; size = refl; total = refl; card = append-bad z b }
+
+  -- ---- a checkpoint
+
+  -- then an empty log's header
+  pub emptied : (N : ℕ) (d e : Disk) (S : Disk) → e headerAt ≡ encode (emptyHeader N) → ((a : ℕ) → isData g N a ≡ true → e a ≡ d a)
+      → ((a : ℕ) → isData g N a ≡ true → S a ≡ d a) → WholeCard N e [] S 0
+  unfolding overlay allData
+  emptied N d e S h k s = record {
+    p = 0;
+    ps = start;
+    head = record {
+      block = h ∙ ap (λ (x : ℕ). encode (header N 0 start 0 x)) (sym (sumOf-nil start));
+      ordered = omega arith;
+      most = omega arith;
+      presum = lib.Dec.lit< tt;
+      sum = sum-lt [];
+    };
+    all = refl;
+    same = refl;
+    disk = λ a q. s a q ∙ sym (k a q);
+  }
+
+  -- ---- a fallback's header
+
+  pub fallen : (N : ℕ) (d e : Disk) (w : List Entry) (S : Disk) (n : ℕ)
+      → e headerAt ≡ encode (header N n (sumOf start (logD g d n)) n (sumOf start (logD g d n)))
+      → ((a : ℕ) → a ≢ headerAt → e a ≡ d a) → FallCard N d w S n → WholeCard N e (logD g d n) S n
+  fallen N d e w S n h k r =
+      let m : n ≤ g .slots = omega (arith, r .head .ordered, r .head .most) in
+      let l : logD g e n ≡ logD g d n = same-log g n e d (record { addresses = λ i q. ap (λ (b : List ℕ). cell 4 b i) (k descriptorAt (λ z. omega arith)); blocks = λ i q. k (slotAt g i) (λ z. omega arith) }) in
+      record {
+        p = n;
+        ps = sumOf start (logD g d n);
+        head = record {
+          block = h ∙ ap (λ (x : List Entry). encode (header N n (sumOf start (logD g d n)) n (sumOf start x))) (sym l);
+          ordered = omega arith;
+          most = m;
+          presum = sum-lt (logD g d n);
+          sum = sum-lt (logD g e n);
+        };
+        all = rw l (r .all);
+        same = sym l;
+        disk = λ a q. rw l (r .disk a q ∙ sym (overlay-agree (logD g d n) e d a (k a (λ z. let u = data-above g N a q in omega arith))));
+      }

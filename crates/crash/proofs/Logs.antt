@@ -1,0 +1,65 @@
+-- The log on a disk. A disk stands for the card's blocks.
+use Prim.Native.Nat.{ℕ, _+_, _^_, _≤_, _<_}
+use mathlib.Core.Path.{_≡_, refl, ap, sym, _∙_}
+use mathlib.Core.Logic.{_≢_}
+use mathlib.Core.Bool.{Bool, true, false}
+use mathlib.Core.List.{List, [], _∷_, _++_}
+use native.Mathlib.Omega.{arith}
+use lib.Dec.{eqb}
+use lib.ListN.{length, take}
+use Rattle.cells.specs.Cell.{cell}
+use Rattle.cells.specs.Little.{num}
+use Rattle.cells.specs.Upto.{upTo}
+use Rattle.cells.specs.Upto.Laws.{ext-upTo, length-upTo}
+use Rattle.cells.specs.Entry.{Entry}
+use Rattle.cells.specs.Entry.Laws.{entry-eq}
+use Rattle.fnv.specs.Fnv.{start}
+use Rattle.card.specs.Disk.{Disk, lay, overlay}
+use Rattle.card.specs.Card.{blockAt}
+use Rattle.card.proofs.All.{All, all-map}
+use Rattle.card.proofs.Overlays.{lay-same, lay-other, overlay-append, overlay-other, overlay-agree, overlay-cover}
+use Rattle.journal.specs.Geometry.{Geometry}
+use Rattle.journal.specs.Layout.{headerAt, descriptorAt, slotAt, firstData, isData}
+use Rattle.journal.specs.Header.{encode, header, emptyHeader}
+use Rattle.journal.specs.Log.{slotAddress, slotEntry, entries, sumOf, allData, good}
+use Rattle.journal.proofs.Logs.{sumOf-nil, sumOf-append, sumOf-lt, allData-append, allData-all, data-bounds}
+use Rattle.journal.proofs.Choices.{both}
+
+pub sum-lt : (es : List Entry) → sumOf start es < 2 ^ 64
+sum-lt es = sumOf-lt start es (lib.Dec.lit< tt)
+
+module _ (g : Geometry) where
+  unfoldable pub slotE : Disk → ℕ → Entry
+  slotE d i = record { address = num (cell 4 (d descriptorAt) i); block = d (slotAt g i) }
+
+  abbrev pub logD : Disk → ℕ → List Entry
+  logD d n = upTo (slotE d) n
+
+  pub entries-disk : (s : List ℕ) (n : ℕ) → entries g s n ≡ logD (blockAt s) n
+  unfolding slotEntry slotAddress slotE
+  entries-disk s n = ext-upTo (slotEntry g s) (slotE (blockAt s)) n (λ i h. refl)
+
+  -- the first n addresses and slots are as on another disk
+  pub record LogStands (n : ℕ) (d e : Disk) : Type 0 where
+    pub addresses : (i : ℕ) → i < n → cell 4 (d descriptorAt) i ≡ cell 4 (e descriptorAt) i
+    pub blocks : (i : ℕ) → i < n → d (slotAt g i) ≡ e (slotAt g i)
+
+  pub same-log : (n : ℕ) (d e : Disk) → LogStands n d e → logD d n ≡ logD e n
+  unfolding slotE
+  same-log n d e h = ext-upTo (slotE d) (slotE e) n (λ i l. entry-eq (ap num (h .addresses i l)) (h .blocks i l))
+
+  pub same-refl : (n : ℕ) (d : Disk) → LogStands n d d
+  same-refl n d = record { addresses = λ i h. refl; blocks = λ i h. refl }
+
+  pub same-agree : (n : ℕ) (d e : Disk) → n ≤ g .slots → ((a : ℕ) → a < firstData g → d a ≡ e a) → LogStands n d e
+  same-agree n d e m h = record {
+    addresses = λ i l. ap (λ (b : List ℕ). cell 4 b i) (h descriptorAt (omega (arith, g .single)));
+    blocks = λ i l. h (slotAt g i) (omega arith);
+  }
+
+  -- data blocks lie above all that
+  pub data-above : (N a : ℕ) → isData g N a ≡ true → firstData g ≤ a
+  data-above N a h = data-bounds g N a h .0
+
+  pub data-below : (N a : ℕ) → isData g N a ≡ true → a < N
+  data-below N a h = data-bounds g N a h .1
