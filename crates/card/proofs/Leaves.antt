@@ -38,6 +38,7 @@ each-any {A} R r (x ∷ l) = (_⊎_.inl (r x), all-map (λ (y : A). Any (R y) l)
 -- ---- the four laws: t is what a cut with the marks ms may leave of the disk s, of N blocks, on which the writes q wait
 
 pub record Leaves (N : ℕ) (ms : List ℕ) (q : List Entry) (s t : Disk) : Type 0 where
+  pub fits : marksFit ms (length q) ≡ true
   -- (i) a block with no waiting write is as settled
   pub untouched : (a : ℕ) → a < N → All (λ e. a ≢ e .address) q → t a ≡ s a
   -- (ii) each byte of a block is its settled byte or that of a waiting write to the block, and the block is as long
@@ -106,6 +107,7 @@ pub laid-leaves : (N : ℕ) (ms : List ℕ) (q : List Entry) (s t : Disk) → 0 
     → ((a : ℕ) → a < N → length (s a) ≡ blockBytes) → ((a : ℕ) → a < N → t a ≡ overlay (kept ms q) s a)
     → Leaves N ms q s t
 laid-leaves N ms q s t some f w size laid = record {
+  fits = f;
   untouched = λ a h o. laid a h ∙ overlay-other (kept ms q) s a (all-kept (λ e. a ≢ e .address) ms q o);
   byte = λ a j h.
       rw (laid a h)

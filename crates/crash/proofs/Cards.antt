@@ -228,12 +228,12 @@ module _ (g : Geometry) where
 
   -- ---- a fallback's header
 
-  pub fallen : (N : ℕ) (d e : Disk) (w : List Entry) (S : Disk) (n : ℕ)
+  pub fallen : (N : ℕ) (d e : Disk) (w : List Entry) (S : Disk) (n : ℕ) → firstData g < N
       → e headerAt ≡ encode (header N n (sumOf start (logD g d n)) n (sumOf start (logD g d n)))
-      → ((a : ℕ) → a ≢ headerAt → e a ≡ d a) → FallCard N d w S n → WholeCard N e (logD g d n) S n
-  fallen N d e w S n h k r =
+      → ((a : ℕ) → a < N → a ≢ headerAt → e a ≡ d a) → FallCard N d w S n → WholeCard N e (logD g d n) S n
+  fallen N d e w S n big h k r =
       let m : n ≤ g .slots = omega (arith, r .head .ordered, r .head .most) in
-      let l : logD g e n ≡ logD g d n = same-log g n e d (record { addresses = λ i q. ap (λ (b : List ℕ). cell 4 b i) (k descriptorAt (λ z. omega arith)); blocks = λ i q. k (slotAt g i) (λ z. omega arith) }) in
+      let l : logD g e n ≡ logD g d n = same-log g n e d (record { addresses = λ i q. ap (λ (b : List ℕ). cell 4 b i) (k descriptorAt (omega (arith, g .single)) (λ z. omega arith)); blocks = λ i q. k (slotAt g i) (omega arith) (λ z. omega arith) }) in
       record {
         p = n;
         ps = sumOf start (logD g d n);
@@ -246,5 +246,5 @@ module _ (g : Geometry) where
         };
         all = rw l (r .all);
         same = sym l;
-        disk = λ a q. rw l (r .disk a q ∙ sym (overlay-agree (logD g d n) e d a (k a (λ z. let u = data-above g N a q in omega arith))));
+        disk = λ a q. rw l (r .disk a q ∙ sym (overlay-agree (logD g d n) e d a (k a (data-below g N a q) (λ z. let u = data-above g N a q in omega arith))));
       }

@@ -3,3 +3,7 @@ pub mod Logs
 pub mod Cards
 pub mod Frames
 pub mod Batches
+pub mod Orders
+pub mod Appends
+pub mod Leads
+pub mod CallCuts
