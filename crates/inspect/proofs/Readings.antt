@@ -9,9 +9,10 @@ use lib.Dec.{eqb, ltb}
 use lib.ListN.{length}
 use Rattle.cells.specs.Entry.{blockBytes}
 use Rattle.card.specs.Card.{blocksIn, blockAt}
+use Rattle.journal.specs.Geometry.{Geometry}
 use Rattle.journal.specs.declared.choice.Choice.{Choice}
 use Rattle.journal.specs.declared.lookup.Found.the-variants.{At, Absent}
-use Rattle.journal.specs.Layout.{slots, firstData, slotAt, leastBlocks, mostBlocks, wrongSize}
+use Rattle.journal.specs.Layout.{firstData, slotAt, leastBlocks, mostBlocks, wrongSize}
 use Rattle.journal.specs.Lookup.{lastSlot}
 use Rattle.journal.specs.Choice.{choiceNumber, takenCount}
 use Rattle.journal.proofs.Lookups.{overlay-slots}
@@ -23,70 +24,71 @@ use Rattle.inspect.specs.CodeReading.{Read}
 
 -- ---- the size
 
--- a card whose N is within bounds
-pub record Sized (s : List ℕ) : Type 0 where
-  pub least : firstData < blocksIn s
-  pub most : blocksIn s ≤ mostBlocks
+module _ (g : Geometry) where
+  -- a card whose N is within bounds
+  pub record Sized (s : List ℕ) : Type 0 where
+    pub least : firstData g < blocksIn s
+    pub most : blocksIn s ≤ mostBlocks
 
-pub right-size : (s : List ℕ) → wrongSize s ≡ false → Sized s
-unfolding wrongSize
-right-size s e =
-    let a = neither (not (eqb (length s % blockBytes) 0) || ltb (blocksIn s) leastBlocks) (ltb mostBlocks (blocksIn s)) e in
-    let b = neither (not (eqb (length s % blockBytes) 0)) (ltb (blocksIn s) leastBlocks) (a .0) in
-    record { least = ltb-false _ _ (b .1); most = ltb-false _ _ (a .1) }
+  pub right-size : (s : List ℕ) → wrongSize g s ≡ false → Sized s
+  unfolding wrongSize
+  right-size s e =
+      let a = neither (not (eqb (length s % blockBytes) 0) || ltb (blocksIn s) (leastBlocks g)) (ltb mostBlocks (blocksIn s)) e in
+      let b = neither (not (eqb (length s % blockBytes) 0)) (ltb (blocksIn s) (leastBlocks g)) (a .0) in
+      record { least = (let l : leastBlocks g ≤ blocksIn s = ltb-false _ _ (b .1) in omega arith); most = ltb-false _ _ (a .1) }
 
--- ---- the refusal
+  -- ---- the refusal
 
-pub wrong-refused : (s : List ℕ) → wrongSize s ≡ true → inspection s ≡ 1
-unfolding inspection
-wrong-refused s e = rw e
+  pub wrong-refused : (s : List ℕ) → wrongSize g s ≡ true → inspection g s ≡ 1
+  unfolding inspection
+  wrong-refused s e = rw e
 
-pub right-chosen : (s : List ℕ) (t : Choice) → wrongSize s ≡ false → chosen s ≡ t → inspection s ≡ choiceNumber t
-unfolding inspection
-right-chosen s t e p = rw (e, p)
+  pub right-chosen : (s : List ℕ) (t : Choice) → wrongSize g s ≡ false → chosen g s ≡ t → inspection g s ≡ choiceNumber t
+  unfolding inspection
+  right-chosen s t e p = rw (e, p)
 
--- a card that is not refused has the right size
-pub accepted-size : (s : List ℕ) → inspection s ≡ 0 → Sized s
-unfolding inspection
-accepted-size s z = go (wrongSize s) refl z
-  where
-    go : (t : Bool) → wrongSize s ≡ t → cond t 1 (choiceNumber (chosen s)) ≡ 0 → Sized s
-    go true e p = absurd (omega arith)
-    go false e p = right-size s e
+  -- a card that is not refused has the right size
+  pub accepted-size : (s : List ℕ) → inspection g s ≡ 0 → Sized s
+  unfolding inspection
+  accepted-size s z = go (wrongSize g s) refl z
+    where
+      go : (t : Bool) → wrongSize g s ≡ t → cond t 1 (choiceNumber (chosen g s)) ≡ 0 → Sized s
+      go true e p = absurd (omega arith)
+      go false e p = right-size s e
 
--- ---- what the code has read
+  -- ---- what the code has read
 
-pub read-refused : (s : List ℕ) (k : ℕ) → 0 < k → inspection s ≡ k → Read s (record { number = k; blocks = 0; count = 0 })
-read-refused s k h e = record { number = sym e; blocks = λ z. absurd (omega arith); count = λ z. absurd (omega arith) }
+  pub read-refused : (s : List ℕ) (k : ℕ) → 0 < k → inspection g s ≡ k → Read g s (record { number = k; blocks = 0; count = 0 })
+  read-refused s k h e = record { number = sym e; blocks = λ z. absurd (omega arith); count = λ z. absurd (omega arith) }
 
-pub read-accepted : (s : List ℕ) (t : Choice) (n : ℕ) → wrongSize s ≡ false → chosen s ≡ t → choiceNumber t ≡ 0 → takenCount t ≡ n
-    → Read s (record { number = 0; blocks = blocksIn s; count = n })
-read-accepted s t n e p z k =
-    record { number = sym (right-chosen s t e p ∙ z); blocks = λ _. refl; count = λ _. sym (ap takenCount p ∙ k) }
+  pub read-accepted : (s : List ℕ) (t : Choice) (n : ℕ) → wrongSize g s ≡ false → chosen g s ≡ t → choiceNumber t ≡ 0 → takenCount t ≡ n
+      → Read g s (record { number = 0; blocks = blocksIn s; count = n })
+  read-accepted s t n e p z k =
+      record { number = sym (right-chosen s t e p ∙ z); blocks = λ _. refl; count = λ _. sym (ap takenCount p ∙ k) }
 
--- a reading with no refusal
-pub record TakenList (s : List ℕ) (r : Reading) : Type 0 where
-  pub none : inspection s ≡ 0
-  pub size : Sized s
-  pub blocks : r .blocks ≡ blocksIn s
-  pub count : r .count ≡ takenCount (chosen s)
-  pub fits : r .count ≤ slots
+  -- a reading with no refusal
+  pub record TakenList (s : List ℕ) (r : Reading) : Type 0 where
+    pub none : inspection g s ≡ 0
+    pub size : Sized s
+    pub blocks : r .blocks ≡ blocksIn s
+    pub count : r .count ≡ takenCount (chosen g s)
+    pub fits : r .count ≤ g .slots
 
-pub read-taken : (s : List ℕ) (r : Reading) → Read s r → r .number ≡ 0 → TakenList s r
-read-taken s r h z =
-    let none : inspection s ≡ 0 = sym (h .number) ∙ z in
-    record {
-      none = none;
-      size = accepted-size s none;
-      blocks = h .blocks z;
-      count = h .count z;
-      fits = rw (h .count z) (taken-count (blocksIn s) s);
-    }
+  pub read-taken : (s : List ℕ) (r : Reading) → Read g s r → r .number ≡ 0 → TakenList s r
+  read-taken s r h z =
+      let none : inspection g s ≡ 0 = sym (h .number) ∙ z in
+      record {
+        none = none;
+        size = accepted-size s none;
+        blocks = h .blocks z;
+        count = h .count z;
+        fits = rw (h .count z) (taken-count g (blocksIn s) s);
+      }
 
--- ---- a block as laid
+  -- ---- a block as laid
 
-pub laid-slot : (s : List ℕ) (n a i : ℕ) → lastSlot s a n ≡ At i → laid s n a ≡ blockAt s (slotAt i)
-laid-slot s n a i e = overlay-slots s n (blockAt s) a ∙ rw e
+  pub laid-slot : (s : List ℕ) (n a i : ℕ) → lastSlot s a n ≡ At i → laid g s n a ≡ blockAt s (slotAt g i)
+  laid-slot s n a i e = overlay-slots g s n (blockAt s) a ∙ rw e
 
-pub laid-home : (s : List ℕ) (n a : ℕ) → lastSlot s a n ≡ Absent → laid s n a ≡ blockAt s a
-laid-home s n a e = overlay-slots s n (blockAt s) a ∙ rw e
+  pub laid-home : (s : List ℕ) (n a : ℕ) → lastSlot s a n ≡ Absent → laid g s n a ≡ blockAt s a
+  laid-home s n a e = overlay-slots g s n (blockAt s) a ∙ rw e

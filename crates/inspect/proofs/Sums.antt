@@ -10,6 +10,7 @@ use borrow.Author.Tests.{ne-eqb}
 use lib.ListN.{length, take, getD}
 use lib.Seq.{take-suc}
 use Rattle.card.specs.Disk.{Disk}
+use Rattle.journal.specs.Geometry.{Geometry}
 use Rattle.journal.specs.Layout.{firstData}
 use Rattle.inspect.specs.declared.reading.Reading.{Reading}
 use Rattle.inspect.specs.Reading.{inspection, laid, dataBlocks}
@@ -30,24 +31,25 @@ pub bytes-next : (s : List ℕ) (i : ℕ) → i < length s → sumBytes (take (i
 unfolding sumBytes
 bytes-next s i h = rw (add-one, take-suc s i 0, bytes-append, add-zero)
 
-pub data-none : (d : Disk) → sumData d (dataBlocks firstData) ≡ 0
-unfolding sumData
-data-none d = refl
+module _ (g : Geometry) where
+  pub data-none : (d : Disk) (a : ℕ) → a ≡ firstData g → sumData g d (dataBlocks g a) ≡ 0
+  unfolding sumData
+  data-none d a h = let e : dataBlocks g a ≡ 0 = omega arith in rw e
 
--- one more data block
-pub data-next : (d : Disk) (a : ℕ) → firstData ≤ a → sumData d (dataBlocks (a + 1)) ≡ sumData d (dataBlocks a) + sumBytes (d a)
-unfolding sumData
-data-next d a h =
-    let more : dataBlocks (a + 1) ≡ suc (dataBlocks a) = omega arith in
-    let here : firstData + dataBlocks a ≡ a = omega arith in
-    rw (more, here)
+  -- one more data block
+  pub data-next : (d : Disk) (a : ℕ) → firstData g ≤ a → sumData g d (dataBlocks g (a + 1)) ≡ sumData g d (dataBlocks g a) + sumBytes (d a)
+  unfolding sumData
+  data-next d a h =
+      let more : dataBlocks g (a + 1) ≡ suc (dataBlocks g a) = omega arith in
+      let here : firstData g + dataBlocks g a ≡ a = omega arith in
+      rw (more, here)
 
--- ---- the answer of a tally
+  -- ---- the answer of a tally
 
-pub tally-refused : (s : List ℕ) (k : ℕ) → k ≡ inspection s → k ≢ 0 → record { number = k; sum = 0 } ≡ tallyOf s
-unfolding tallyOf
-tally-refused s k e h = rw (← e, ne-eqb k 0 h)
+  pub tally-refused : (s : List ℕ) (k : ℕ) → k ≡ inspection g s → k ≢ 0 → record { number = k; sum = 0 } ≡ tallyOf g s
+  unfolding tallyOf
+  tally-refused s k e h = rw (← e, ne-eqb k 0 h)
 
-pub tally-done : (s : List ℕ) (r : Reading) (v : ℕ) → TakenList s r → v ≡ sumData (laid s (r .count)) (dataBlocks (r .blocks)) → record { number = 0; sum = v } ≡ tallyOf s
-unfolding tallyOf
-tally-done s r v t e = rw (t .none, e, t .blocks, t .count)
+  pub tally-done : (s : List ℕ) (r : Reading) (v : ℕ) → TakenList g s r → v ≡ sumData g (laid g s (r .count)) (dataBlocks g (r .blocks)) → record { number = 0; sum = v } ≡ tallyOf g s
+  unfolding tallyOf
+  tally-done s r v t e = rw (t .none, e, t .blocks, t .count)

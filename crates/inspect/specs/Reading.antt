@@ -4,27 +4,29 @@ use mathlib.Core.Bool.{cond}
 use mathlib.Core.List.{List}
 use Rattle.card.specs.Disk.{Disk, overlay}
 use Rattle.card.specs.Card.{blocksIn, blockAt}
+use Rattle.journal.specs.Geometry.{Geometry}
 use Rattle.journal.specs.declared.choice.Choice.{Choice}
 use Rattle.journal.specs.Layout.{firstData, wrongSize}
 use Rattle.journal.specs.Log.{entries}
 use Rattle.journal.specs.Choice.{choose, choiceNumber, takenCount}
 
--- "choose the list as recover does": N is that of the settled bytes
-abbrev pub chosen : List ℕ → Choice
-chosen s = choose (blocksIn s) s
+module _ (g : Geometry) where
+  -- "choose the list as recover does": N is that of the settled bytes
+  abbrev pub chosen : List ℕ → Choice
+  chosen s = choose g (blocksIn s) s
 
--- "refuse 1, 8, 9": 0 for none of them
-unfoldable pub inspection : List ℕ → ℕ
-inspection s = cond (wrongSize s) 1 (choiceNumber (chosen s))
+  -- "refuse 1, 8, 9": 0 for none of them
+  unfoldable pub inspection : List ℕ → ℕ
+  inspection s = cond (wrongSize g s) 1 (choiceNumber (chosen s))
 
--- the first n entries of the log laid over the home blocks
-abbrev pub laid : List ℕ → ℕ → Disk
-laid s n = overlay (entries s n) (blockAt s)
+  -- the first n entries of the log laid over the home blocks
+  abbrev pub laid : List ℕ → ℕ → Disk
+  laid s n = overlay (entries g s n) (blockAt s)
 
--- "after the log is laid over": the list that was chosen
-abbrev pub laidOver : List ℕ → Disk
-laidOver s = laid s (takenCount (chosen s))
+  -- "after the log is laid over": the list that was chosen
+  abbrev pub laidOver : List ℕ → Disk
+  laidOver s = laid s (takenCount (chosen s))
 
--- "Data blocks are addresses 34 to N−1": how many
-abbrev pub dataBlocks : ℕ → ℕ
-dataBlocks N = N - firstData
+  -- "Data blocks are addresses 34 to N−1": how many
+  abbrev pub dataBlocks : ℕ → ℕ
+  dataBlocks N = N - firstData g

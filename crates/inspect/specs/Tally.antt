@@ -5,6 +5,7 @@ use mathlib.Core.List.{List, [], _∷_}
 use lib.Dec.{eqb}
 use Rattle.card.specs.Disk.{Disk}
 use Rattle.card.specs.Card.{blocksIn}
+use Rattle.journal.specs.Geometry.{Geometry}
 use Rattle.journal.specs.Layout.{firstData}
 use Rattle.inspect.specs.declared.answer.Tally.{Tally}
 use Rattle.inspect.specs.Reading.{inspection, laidOver, dataBlocks}
@@ -14,14 +15,15 @@ unfoldable pub sumBytes : List ℕ → ℕ
 sumBytes [] = 0
 sumBytes (b ∷ bs) = b + sumBytes bs
 
--- the sum of the bytes of a disk's first k data blocks
-unfoldable pub sumData : Disk → ℕ → ℕ
-sumData d zero = 0
-sumData d (suc k) = sumData d k + sumBytes (d (firstData + k))
+module _ (g : Geometry) where
+  -- the sum of the bytes of a disk's first k data blocks
+  unfoldable pub sumData : Disk → ℕ → ℕ
+  sumData d zero = 0
+  sumData d (suc k) = sumData d k + sumBytes (d (firstData g + k))
 
--- the refusal, or 0; and the sum, 0 for a card that is refused
-unfoldable pub tallyOf : List ℕ → Tally
-tallyOf s = record {
-  number = inspection s;
-  sum = cond (eqb (inspection s) 0) (sumData (laidOver s) (dataBlocks (blocksIn s))) 0;
-}
+  -- the refusal, or 0; and the sum, 0 for a card that is refused
+  unfoldable pub tallyOf : List ℕ → Tally
+  tallyOf s = record {
+    number = inspection g s;
+    sum = cond (eqb (inspection g s) 0) (sumData (laidOver g s) (dataBlocks g (blocksIn s))) 0;
+  }

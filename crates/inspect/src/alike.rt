@@ -7,18 +7,19 @@ use journal::FIRST_DATA;
 ghost use mathlib.Core.Path.{_≡_};
 ghost use Prim.Native.Nat.{_≤_, _<_};
 ghost use Rattle.card.specs.Card.{blocksIn};
-ghost use Rattle.journal.specs.Layout.{slots, firstData};
+ghost use Rattle.journal.specs.Geometry.{trap};
+ghost use Rattle.journal.specs.Layout.{firstData};
 ghost use Rattle.inspect.specs.Reading.{dataBlocks, laid};
 ghost use Rattle.inspect.specs.Alike.{sameData, alikeOf};
 
 // Whether all data blocks of two cards of the same N are equal, n entries laid over the first and m over the second.
 fn same_data(a: &[u8], n: u32, b: &[u8], m: u32, blocks: u32) -> bool
-    requires { ⌜ firstData < blocks ⌝ }
+    requires { ⌜ firstData trap < blocks ⌝ }
     requires { ⌜ blocks ≡ blocksIn (now a) ⌝ }
     requires { ⌜ blocks ≡ blocksIn (now b) ⌝ }
-    requires { ⌜ n ≤ slots ⌝ }
-    requires { ⌜ m ≤ slots ⌝ }
-    ensures { λ r. ⌜ r ≡ sameData (laid (now (a .entry)) n) (laid (now (b .entry)) m) (dataBlocks blocks) ⌝ }
+    requires { ⌜ n ≤ trap .slots ⌝ }
+    requires { ⌜ m ≤ trap .slots ⌝ }
+    ensures { λ r. ⌜ r ≡ sameData trap (laid trap (now (a .entry)) n) (laid trap (now (b .entry)) m) (dataBlocks trap blocks) ⌝ }
 {
     let mut i = blocks;
     while FIRST_DATA < i {
@@ -32,7 +33,7 @@ fn same_data(a: &[u8], n: u32, b: &[u8], m: u32, blocks: u32) -> bool
 
 // Whether two cards are alike, or the refusal of the first one, else of the second.
 pub fn alike(a: &[u8], b: &[u8]) -> Alike
-    ensures { λ r. ⌜ r ≡ alikeOf (now (a .entry)) (now (b .entry)) ⌝ }
+    ensures { λ r. ⌜ r ≡ alikeOf trap (now (a .entry)) (now (b .entry)) ⌝ }
 {
     let first = inspect(a);
     if first.number != 0 {

@@ -12,7 +12,8 @@ ghost use Prim.Native.Nat.{_≤_, _<_};
 ghost use lib.ListN.{length};
 ghost use Rattle.cells.specs.Entry.{blockBytes};
 ghost use Rattle.card.specs.Card.{blocksIn};
-ghost use Rattle.journal.specs.Layout.{slots, firstData};
+ghost use Rattle.journal.specs.Geometry.{trap};
+ghost use Rattle.journal.specs.Layout.{firstData};
 ghost use Rattle.inspect.specs.Reading.{laid};
 ghost use Rattle.inspect.specs.CodeReading.{Read};
 
@@ -47,7 +48,7 @@ fn accepted(blocks: u32, count: u32) -> Reading
 
 // Reads a card: 1 for its size, 8 or 9 where there is no list to take.
 pub(crate) fn inspect(settled: &[u8]) -> Reading
-    ensures { λ r. ⌜ Read (now (settled .entry)) r ⌝ }
+    ensures { λ r. ⌜ Read trap (now (settled .entry)) r ⌝ }
 {
     if wrong_size(settled) {
         return refused(1);
@@ -63,10 +64,10 @@ pub(crate) fn inspect(settled: &[u8]) -> Reading
 
 // The block at an address with the first n entries laid over: the log's last slot with that address, else the home block.
 pub(crate) fn laid_block<'a>(settled: &'a [u8], a: u32, n: u32) -> &'a [u8]
-    requires { ⌜ firstData < blocksIn (now settled) ⌝ }
+    requires { ⌜ firstData trap < blocksIn (now settled) ⌝ }
     requires { ⌜ a < blocksIn (now settled) ⌝ }
-    requires { ⌜ n ≤ slots ⌝ }
-    ensures { λ r. ⌜ now r ≡ laid (now (settled .entry)) n a ⌝ }
+    requires { ⌜ n ≤ trap .slots ⌝ }
+    ensures { λ r. ⌜ now r ≡ laid trap (now (settled .entry)) n a ⌝ }
     ensures { λ r. ⌜ length (now r) ≡ blockBytes ⌝ }
 {
     let Found::At(i) = last_slot(settled, a, n) else {

@@ -8,7 +8,8 @@ ghost use Prim.Native.Nat.{_*_, _≤_, _<_};
 ghost use lib.ListN.{length};
 ghost use Rattle.cells.specs.Entry.{blockBytes};
 ghost use Rattle.card.specs.Card.{blocksIn};
-ghost use Rattle.journal.specs.Layout.{slots, firstData, mostBlocks};
+ghost use Rattle.journal.specs.Geometry.{trap};
+ghost use Rattle.journal.specs.Layout.{firstData, mostBlocks};
 ghost use Rattle.inspect.specs.Reading.{dataBlocks, laid};
 ghost use Rattle.inspect.specs.Tally.{sumBytes, sumData, tallyOf};
 
@@ -29,11 +30,11 @@ fn sum_bytes(block: &[u8]) -> u64
 
 // The sum of all data bytes, the first n entries laid over.
 fn sum_data(settled: &[u8], blocks: u32, n: u32) -> u64
-    requires { ⌜ firstData < blocksIn (now settled) ⌝ }
+    requires { ⌜ firstData trap < blocksIn (now settled) ⌝ }
     requires { ⌜ blocks ≡ blocksIn (now settled) ⌝ }
     requires { ⌜ blocks ≤ mostBlocks ⌝ }
-    requires { ⌜ n ≤ slots ⌝ }
-    ensures { λ r. ⌜ r ≡ sumData (laid (now (settled .entry)) n) (dataBlocks blocks) ⌝ }
+    requires { ⌜ n ≤ trap .slots ⌝ }
+    ensures { λ r. ⌜ r ≡ sumData trap (laid trap (now (settled .entry)) n) (dataBlocks trap blocks) ⌝ }
 {
     let mut sum: u64 = 0;
     let mut a = FIRST_DATA;
@@ -46,7 +47,7 @@ fn sum_data(settled: &[u8], blocks: u32, n: u32) -> u64
 
 // The sum of all data bytes of a card, or its refusal.
 pub fn tally(settled: &[u8]) -> Tally
-    ensures { λ r. ⌜ r ≡ tallyOf (now (settled .entry)) ⌝ }
+    ensures { λ r. ⌜ r ≡ tallyOf trap (now (settled .entry)) ⌝ }
 {
     let card = inspect(settled);
     if card.number != 0 {

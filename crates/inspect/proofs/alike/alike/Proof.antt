@@ -1,34 +1,36 @@
 -- `inspect::alike::alike` meets its contract.
 use native.Mathlib.Omega.{arith}
 use borrow.Author.Needs.{needs}
+use Rattle.journal.specs.Geometry.{trap}
 use Rattle.inspect.proofs.Readings.{TakenList, read-taken}
 use Rattle.inspect.proofs.Comparisons.{alike-first, alike-second, alike-blocks, alike-data}
 use Rattle.inspect.proofs.alike.alike.Statement.{statement}
 use Rattle.inspect.proofs.alike.alike.Tie as tie
 
--- the first card is taken, and the second
-taken-a : (c : tie.Else1) → TakenList (c .before .before .before .before .before .args .a .now) (c .before .before .inspect .result)
-taken-a c = read-taken _ _ (c .before .before .inspect .ensures) (c .if1 .left)
 
-taken-b : (c : tie.Else2) → TakenList (c .before .before .before .before .before .before .before .before .args .b .now) (c .before .before .inspect2 .result)
-taken-b c = read-taken _ _ (c .before .before .inspect2 .ensures) (c .if2 .left)
+-- the first card is taken, and the second
+taken-a : (c : tie.Else1) → TakenList trap (c .before .before .before .before .before .args .a .now) (c .before .before .inspect .result)
+taken-a c = read-taken trap _ _ (c .before .before .inspect .ensures) (c .if1 .left)
+
+taken-b : (c : tie.Else2) → TakenList trap (c .before .before .before .before .before .before .before .before .args .b .now) (c .before .before .inspect2 .result)
+taken-b c = read-taken trap _ _ (c .before .before .inspect2 .ensures) (c .if2 .left)
 
 inspect-requires : tie.Need-inspect-requires
 inspect-requires c κs = search needs
 
 returns : tie.Need-returns
-returns c = alike-first _ _ _ (c .before .before .inspect .ensures .number) (c .if1 .taken)
+returns c = alike-first trap _ _ _ (c .before .before .inspect .ensures .number) (c .if1 .taken)
 
 inspect-requires-2 : tie.Need-inspect-requires-2
 inspect-requires-2 c κs = search needs
 
 returns-2 : tie.Need-returns-2
-returns-2 c = alike-second _ _ _ (taken-a (c .before .before .before) .none) (c .before .before .inspect2 .ensures .number) (c .if2 .taken)
+returns-2 c = alike-second trap _ _ _ (taken-a (c .before .before .before) .none) (c .before .before .inspect2 .ensures .number) (c .if2 .taken)
 
 returns-3 : tie.Need-returns-3
 returns-3 c =
     let second = c .before .before .before in
-    alike-blocks _ _ _ _ (taken-a (second .before .before .before)) (taken-b second) (c .if3 .taken)
+    alike-blocks trap _ _ _ _ (taken-a (second .before .before .before)) (taken-b second) (c .if3 .taken)
 
 same-data-requires : tie.Need-same-data-requires
 same-data-requires c κs =
@@ -40,7 +42,7 @@ same-data-requires c κs =
 returns-4 : tie.Need-returns-4
 returns-4 c =
     let second = c .before .before .before .before in
-    alike-data _ _ _ _ _ (taken-a (second .before .before .before)) (taken-b second) (c .before .if3 .left) (c .same-data .ensures)
+    alike-data trap _ _ _ _ _ (taken-a (second .before .before .before)) (taken-b second) (c .before .if3 .left) (c .same-data .ensures)
 
 pub alike-spec : {M : Type 1} → statement M
 alike-spec =

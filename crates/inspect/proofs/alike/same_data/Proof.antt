@@ -5,6 +5,8 @@ use native.Mathlib.Omega.{arith}
 use borrow.Author.Needs.{needs}
 use borrow.Author.Tests.{not-true, not-false}
 use Rattle.cells.specs.Same.{same}
+use Rattle.journal.specs.Geometry.Laws.{trap-slots, trap-descriptors}
+use Rattle.journal.specs.Geometry.{trap}
 use Rattle.journal.specs.Layout.{firstData}
 use Rattle.inspect.specs.Reading.{dataBlocks, laid}
 use Rattle.inspect.specs.Alike.{sameData}
@@ -12,29 +14,30 @@ use Rattle.inspect.proofs.Comparisons.{data-stop, data-on, data-over}
 use Rattle.inspect.proofs.alike.same_data.Statement.{statement}
 use Rattle.inspect.proofs.alike.same_data.Tie as tie
 
+
 abbrev Inv-loop : tie.InvT-loop
 Inv-loop a n b m blocks i₀ i =
-    (firstData ≤ i) × (i ≤ blocks) × (sameData (laid a n) (laid b m) (dataBlocks i) ≡ sameData (laid a n) (laid b m) (dataBlocks blocks))
+    (firstData trap ≤ i) × (i ≤ blocks) × (sameData trap (laid trap a n) (laid trap b m) (dataBlocks trap i) ≡ sameData trap (laid trap a n) (laid trap b m) (dataBlocks trap blocks))
 
 abbrev μ-loop : tie.MeasureT-loop
 μ-loop a n b m blocks i₀ i = i
 
 -- the two blocks that were compared
 compared : (c : tie.After-same Inv-loop μ-loop) → let l = c .before .before .before .before in let g = l .before .before .before .args in
-    c .same .result ≡ same (laid (g .a .now) (g .n) (l .loop .i - 1)) (laid (g .b .now) (g .m) (l .loop .i - 1))
+    c .same .result ≡ same (laid trap (g .a .now) (g .n) (l .loop .i - 1)) (laid trap (g .b .now) (g .m) (l .loop .i - 1))
 compared c = c .same .ensures ∙ ap₂ same (c .before .before .laid-block .ensures .0) (c .before .laid-block2 .ensures .0)
 
 loop-holds : tie.Need-loop-holds Inv-loop μ-loop
-loop-holds c = (omega arith, omega arith, refl)
+loop-holds c = (omega (arith, trap-slots, trap-descriptors), omega (arith, trap-slots, trap-descriptors), refl)
 
 sub-i : tie.Need-sub-i Inv-loop μ-loop
-sub-i c = omega arith
+sub-i c = omega (arith, trap-slots, trap-descriptors)
 
 laid-block-requires : tie.Need-laid-block-requires Inv-loop μ-loop
-laid-block-requires c κs = omega arith
+laid-block-requires c κs = omega (arith, trap-slots, trap-descriptors)
 
 laid-block-requires-2 : tie.Need-laid-block-requires-2 Inv-loop μ-loop
-laid-block-requires-2 c κs = omega arith
+laid-block-requires-2 c κs = omega (arith, trap-slots, trap-descriptors)
 
 same-requires : tie.Need-same-requires Inv-loop μ-loop
 same-requires c κs = search needs
@@ -44,23 +47,23 @@ returns c =
     let l = c .before .before .before .before .before in
     let g = l .before .before .before .args in
     let unlike = sym (compared (c .before)) ∙ not-true _ (c .if1 .taken) in
-    sym (data-stop (laid (g .a .now) (g .n)) (laid (g .b .now) (g .m)) (l .loop .i) (omega arith) unlike) ∙ l .loop .inv .2
+    sym (data-stop trap (laid trap (g .a .now) (g .n)) (laid trap (g .b .now) (g .m)) (l .loop .i) (omega (arith, trap-slots, trap-descriptors)) unlike) ∙ l .loop .inv .2
 
 loop-less : tie.Need-loop-less Inv-loop μ-loop
-loop-less c = omega arith
+loop-less c = omega (arith, trap-slots, trap-descriptors)
 
 loop-again : tie.Need-loop-again Inv-loop μ-loop
 loop-again c =
     let l = c .before .before .before .before .before in
     let g = l .before .before .before .args in
     let like = sym (compared (c .before)) ∙ not-false _ (c .if1 .left) in
-    (omega arith, omega arith, sym (data-on (laid (g .a .now) (g .n)) (laid (g .b .now) (g .m)) (l .loop .i) (omega arith) like) ∙ l .loop .inv .2)
+    (omega (arith, trap-slots, trap-descriptors), omega (arith, trap-slots, trap-descriptors), sym (data-on trap (laid trap (g .a .now) (g .n)) (laid trap (g .b .now) (g .m)) (l .loop .i) (omega (arith, trap-slots, trap-descriptors)) like) ∙ l .loop .inv .2)
 
 returns-2 : tie.Need-returns-2 Inv-loop μ-loop
 returns-2 c =
     let l = c .before in
     let g = l .before .before .before .args in
-    sym (data-over (laid (g .a .now) (g .n)) (laid (g .b .now) (g .m)) (l .loop .i) (omega arith)) ∙ l .loop .inv .2
+    sym (data-over trap (laid trap (g .a .now) (g .n)) (laid trap (g .b .now) (g .m)) (l .loop .i) (omega (arith, trap-slots, trap-descriptors))) ∙ l .loop .inv .2
 
 pub same-data-spec : {M : Type 1} → statement M
 same-data-spec =

@@ -3,6 +3,7 @@ use mathlib.Core.Path.{_≡_, ap, sym, _∙_}
 use native.Mathlib.Omega.{arith}
 use borrow.Author.Needs.{needs}
 use lib.ListN.{length}
+use Rattle.journal.specs.Geometry.{trap}
 use Rattle.journal.specs.declared.lookup.Found.the-variants.{At, Absent}
 use Rattle.journal.specs.Layout.{slotAt}
 use Rattle.journal.specs.Log.{slotAddress}
@@ -12,6 +13,7 @@ use Rattle.journal.proofs.Lookups.{last-at}
 use Rattle.inspect.proofs.Readings.{laid-slot, laid-home}
 use Rattle.inspect.proofs.reading.laid_block.Statement.{statement}
 use Rattle.inspect.proofs.reading.laid_block.Tie as tie
+
 
 -- what the lookup found
 in-slot : (c : tie.After-i) → let a = c .before .before .before .before .args in lastSlot (a .settled .now) (a .a) (a .n) ≡ At (c .i .given .0 .0)
@@ -36,7 +38,7 @@ returns : tie.Need-returns
 returns c =
     let a = c .before .before .before .before .before .args in
     let block = block-read (c .read .result) (a .settled) (a .a) (c .read .ensures) in
-    (block ∙ sym (laid-home (a .settled .now) (a .n) (a .a) (at-home (c .before))), ap length block ∙ length-blockAt (a .settled .now) (a .a) (omega arith))
+    (block ∙ sym (laid-home trap (a .settled .now) (a .n) (a .a) (at-home (c .before))), ap length block ∙ length-blockAt (a .settled .now) (a .a) (omega arith))
 
 slot-block-requires : tie.Need-slot-block-requires
 slot-block-requires c κs =
@@ -49,8 +51,8 @@ returns-2 c =
     let a = c .before .before .before .before .before .before .args in
     let i = c .before .before .i .given .0 .0 in
     let found = last-at (slotAddress (a .settled .now)) (a .a) (a .n) i (in-slot (c .before .before)) in
-    let block = block-read (c .slot-block .result) (a .settled) (slotAt i) (c .slot-block .ensures) in
-    (block ∙ sym (laid-slot (a .settled .now) (a .n) (a .a) i (in-slot (c .before .before))), ap length block ∙ length-blockAt (a .settled .now) (slotAt i) (omega (arith, found .inside)))
+    let block = block-read (c .slot-block .result) (a .settled) (slotAt trap i) (c .slot-block .ensures) in
+    (block ∙ sym (laid-slot trap (a .settled .now) (a .n) (a .a) i (in-slot (c .before .before))), ap length block ∙ length-blockAt (a .settled .now) (slotAt trap i) (omega (arith, found .inside)))
 
 pub laid-block-spec : {M : Type 1} → statement M
 laid-block-spec =
