@@ -42,8 +42,8 @@ CLAUSES = {
     "TRAPCARD_IN_WORK": ("firmware", "Face", "bufferNumber", "Work"),
 }
 
-# Constants that are offsets in the record: the field as the encoder writes it. These are all fields.
-ENCODER = ("firmware", "Face", "encodeRecord")
+# Constants that are offsets in the record: the field as it stands in the row. These are all fields.
+ROW = ("firmware", "Face", "recordFields")
 FIELDS = {
     "TRAPCARD_RECORD_MODE": "mode",
     "TRAPCARD_RECORD_BLOCKS": "blocks",
@@ -175,15 +175,15 @@ def atom(tokens, meaning):
 def offsets():
     """Each field of the record with the byte where it starts."""
     at, found = 0, {}
-    (rec,), right = equation(*ENCODER, 1)
-    for part in right.split("++"):
-        piece = re.fullmatch(r"\(?le (\d+) \(%s \.(\w+)\)\)*" % re.escape(rec), part.strip())
+    _, right = equation(*ROW, 0)
+    for part in right.removesuffix("∷ []").split("∷"):
+        piece = re.fullmatch(r"\((\d+), λ (\w+)\. \2 \.(\w+)\)", part.strip())
         if not piece:
-            unread("`%s` of %s" % (part.strip(), ENCODER[2]))
-        found[piece[2]] = at
+            unread("`%s` of %s" % (part.strip(), ROW[2]))
+        found[piece[3]] = at
         at += int(piece[1])
     if at != number(*NUMBERS["TRAPCARD_RECORD"]) or sorted(found) != sorted(FIELDS.values()):
-        unread("%s: it writes %d bytes, %s" % (ENCODER[2], at, ", ".join(found)))
+        unread("%s: it has %d bytes, %s" % (ROW[2], at, ", ".join(found)))
     return found
 
 

@@ -2,10 +2,10 @@
 -- length is 1."
 use Prim.Native.Nat.{ℕ}
 use mathlib.Core.Bool.{cond}
-use mathlib.Core.List.{List, _++_}
+use mathlib.Core.List.{List, [], _∷_}
 use lib.Dec.{eqb}
-use lib.ListN.{length, take, drop}
-use Rattle.cells.specs.Little.{le, num}
+use lib.ListN.{length, getD}
+use Rattle.cells.specs.Row.{Field, row, valuesFrom}
 use Rattle.store.specs.declared.place.Place.{Place}
 use Rattle.store.specs.declared.place.Place.the-variants.{Settled, Work, Nowhere}
 use Rattle.store.specs.declared.record.Record.{Record}
@@ -21,29 +21,38 @@ use Rattle.inspect.specs.Alike.{alikeOf}
 abbrev pub recordBytes : ℕ
 recordBytes = 36
 
--- "mode (0 closed, 1 open, 2 down), N, open count, group count, log count n, waiting count, power count, the log's sum"
+-- "seven 4-byte numbers in the order above, then the sum", the order being "mode (0 closed, 1 open, 2 down), N, open count, group
+-- count, log count n, waiting count, power count, the log's sum"
+abbrev pub recordFields : List (Field Record)
+recordFields =
+    (4, λ r. r .mode)
+    ∷ (4, λ r. r .blocks)
+    ∷ (4, λ r. r .opened)
+    ∷ (4, λ r. r .grouped)
+    ∷ (4, λ r. r .logged)
+    ∷ (4, λ r. r .waiting)
+    ∷ (4, λ r. r .power)
+    ∷ (8, λ r. r .sum)
+    ∷ []
+
+-- the record of these numbers, in that order
+abbrev pub recordOfValues : List ℕ → Record
+recordOfValues v = record {
+  mode = getD v 0 0;
+  blocks = getD v 1 0;
+  opened = getD v 2 0;
+  grouped = getD v 3 0;
+  logged = getD v 4 0;
+  waiting = getD v 5 0;
+  power = getD v 6 0;
+  sum = getD v 7 0;
+}
+
 unfoldable pub encodeRecord : Record → List ℕ
-encodeRecord r =
-    le 4 (r .mode)
-    ++ (le 4 (r .blocks)
-    ++ (le 4 (r .opened)
-    ++ (le 4 (r .grouped)
-    ++ (le 4 (r .logged)
-    ++ (le 4 (r .waiting)
-    ++ (le 4 (r .power)
-    ++ le 8 (r .sum)))))))
+encodeRecord r = row recordFields r
 
 unfoldable pub decodeRecord : List ℕ → Record
-decodeRecord b = record {
-  mode = num (take 4 b);
-  blocks = num (take 4 (drop 4 b));
-  opened = num (take 4 (drop 8 b));
-  grouped = num (take 4 (drop 12 b));
-  logged = num (take 4 (drop 16 b));
-  waiting = num (take 4 (drop 20 b));
-  power = num (take 4 (drop 24 b));
-  sum = num (take 8 (drop 28 b));
-}
+decodeRecord b = recordOfValues (valuesFrom recordFields 0 b)
 
 -- what C sees after a call: the number, the orders (0 for a call that gives none), the record's bytes and every other lent byte
 pub record Face : Type 0 where

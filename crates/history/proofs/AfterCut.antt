@@ -59,7 +59,7 @@ pub read-head : (s : List ℕ) (N p ps c ns : ℕ) → N < 2 ^ 32 → HasHeader 
 read-head s N p ps c ns l h =
     ap decode (h .block)
     ∙ decode-encode (header N p ps c ns)
-    (record { format = lib.Dec.lit< tt; blocks = l; previous = omega (arith, h .ordered, h .most); count = omega (arith, h .most); presum = h .presum; sum = h .sum })
+    (omega (arith, l, h .ordered, h .most, h .presum, h .sum))
 
 -- ---- what a cut leads to
 

@@ -190,16 +190,7 @@ fits : (st : State) (l : Ledger) → Safe st l → Bounded st → Fitting (st .r
 fits st l s b =
     let r = record-facts st (s .sim .basics .counts) in
     let z = sizes-facts st (s .sim .basics .sizes) in
-    record {
-      mode = omega (arith, r .mode);
-      blocks = omega (arith, r .blocks, z .most);
-      opened = omega (arith, r .open-count);
-      grouped = omega (arith, r .group-count);
-      logged = omega (arith, r .log-count);
-      waiting = omega (arith, r .waiting-count);
-      power = b .power;
-      sum = b .sum;
-    }
+    omega (arith, r .mode, r .blocks, z .most, r .open-count, r .group-count, r .log-count, r .waiting-count, b .power, b .sum)
 
 -- ---- C passes on the state
 

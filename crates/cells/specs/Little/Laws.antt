@@ -8,7 +8,7 @@ use native.Mathlib.Nat.{pow-suc, zero-add, suc-add, mul-add, mul-assoc, mul-comm
 use lib.Arith.{mod-mul}
 use lib.Dec.{lit<}
 use lib.ListN.{length, getD, take, drop, length-drop}
-use lib.Seq.{take-add, take-at, drop-drop, drop-cons, drop-append-add, length-take-le}
+use lib.Seq.{take-add, drop-drop, drop-cons, length-take-le}
 use Rattle.cells.specs.Little.{le, num, Bytes}
 
 pub le-zero : (n : ℕ) → le 0 n ≡ []
@@ -112,16 +112,3 @@ pub num-parts : (a b : ℕ) (s : List ℕ) (at : ℕ) → at + a ≤ length s
 num-parts a b s at h =
     let size : length (take a (drop at s)) ≡ a = length-take-le a (drop at s) (rw (length-drop) (omega arith)) in
     rw (take-add a b (drop at s), num-append, size, drop-drop)
-
--- ---- numbers one behind the other
-
--- the number that stands in front
-pub front : (w v : ℕ) (rest : List ℕ) → v < 256 ^ w → num (take w (le w v ++ rest)) ≡ v
-front w v rest h = ap num (take-at (le w v) rest w (length-le w v)) ∙ num-le w v h
-
--- the number of w bytes behind one of u bytes
-pub next : (u v at w : ℕ) (rest : List ℕ) {x : ℕ} → num (take w (drop at rest)) ≡ x → num (take w (drop (u + at) (le u v ++ rest))) ≡ x
-next u v at w rest e = ap (λ (l : List ℕ). num (take w l)) behind ∙ e
-  where
-    behind : drop (u + at) (le u v ++ rest) ≡ drop at rest
-    behind = ap (λ (k : ℕ). drop (k + at) (le u v ++ rest)) (sym (length-le u v)) ∙ drop-append-add (le u v) rest at

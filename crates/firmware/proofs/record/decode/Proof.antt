@@ -1,56 +1,43 @@
 -- `firmware::record::decode` meets its contract.
-use Rattle.firmware.specs.Face.{decodeRecord}
+use mathlib.Core.Path.{ap}
+use mathlib.Core.List.{[], _∷_}
 use borrow.Author.Needs.{needs}
+use Rattle.firmware.specs.Face.{recordOfValues, decodeRecord}
 use Rattle.firmware.proofs.record.decode.Statement.{statement}
 use Rattle.firmware.proofs.record.decode.Tie as tie
 
-read-u32-requires : tie.Need-read-u32-requires
-read-u32-requires c κs = search needs
-
-read-u32-requires-2 : tie.Need-read-u32-requires-2
-read-u32-requires-2 c κs = search needs
-
-read-u32-requires-3 : tie.Need-read-u32-requires-3
-read-u32-requires-3 c κs = search needs
-
-read-u32-requires-4 : tie.Need-read-u32-requires-4
-read-u32-requires-4 c κs = search needs
-
-read-u32-requires-5 : tie.Need-read-u32-requires-5
-read-u32-requires-5 c κs = search needs
-
-read-u32-requires-6 : tie.Need-read-u32-requires-6
-read-u32-requires-6 c κs = search needs
-
-read-u32-requires-7 : tie.Need-read-u32-requires-7
-read-u32-requires-7 c κs = search needs
-
-read-u64-requires : tie.Need-read-u64-requires
-read-u64-requires c κs = search needs
-
 returns : tie.Need-returns
 unfolding decodeRecord
-returns c = λ j. record {
-  mode = c .before .before .before .before .before .before .before .read-u32 .ensures j;
-  blocks = c .before .before .before .before .before .before .read-u322 .ensures j;
-  opened = c .before .before .before .before .before .read-u323 .ensures j;
-  grouped = c .before .before .before .before .read-u324 .ensures j;
-  logged = c .before .before .before .read-u325 .ensures j;
-  waiting = c .before .before .read-u326 .ensures j;
-  power = c .before .read-u327 .ensures j;
-  sum = c .read-u64 .ensures j;
-}
+returns sum =
+    let power = sum .before in
+    let waiting = power .before in
+    let logged = waiting .before in
+    let grouped = logged .before in
+    let opened = grouped .before in
+    let blocks = opened .before in
+    let mode = blocks .before in
+    ap recordOfValues
+    (λ j.
+    mode .read-u32 .ensures j
+    ∷ blocks .read-u322 .ensures j
+    ∷ opened .read-u323 .ensures j
+    ∷ grouped .read-u324 .ensures j
+    ∷ logged .read-u325 .ensures j
+    ∷ waiting .read-u326 .ensures j
+    ∷ power .read-u327 .ensures j
+    ∷ sum .read-u64 .ensures j
+    ∷ [])
 
 pub decode-spec : {M : Type 1} → statement M
 decode-spec =
     tie.close
     (tie.spec
-    read-u32-requires
-    read-u32-requires-2
-    read-u32-requires-3
-    read-u32-requires-4
-    read-u32-requires-5
-    read-u32-requires-6
-    read-u32-requires-7
-    read-u64-requires
+    (λ c κs. search needs)
+    (λ c κs. search needs)
+    (λ c κs. search needs)
+    (λ c κs. search needs)
+    (λ c κs. search needs)
+    (λ c κs. search needs)
+    (λ c κs. search needs)
+    (λ c κs. search needs)
     returns)
