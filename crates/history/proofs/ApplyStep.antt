@@ -32,7 +32,7 @@ use Rattle.history.proofs.SimpleSteps.{is-open}
 use Rattle.history.proofs.Notes.{note-past, noted-end}
 use Rattle.history.proofs.GivesStep.{openPlain, countable, open-listed, group-listed, CutsAt, Gives, gives-step}
 use Rattle.history.proofs.OpenFacts.{none-waits}
-use Rattle.history.proofs.OpenWorlds.{settledLedger, plainNow, openWorld, Opened, opened-sim, open-world, opened}
+use Rattle.history.proofs.Worlds.{settledLedger, plainNow, openWorld, Opened, opened-sim, open-world, opened}
 use Rattle.history.proofs.Checkpoints.{checkpoint, checkpoint-orders, checkpoint-takes, checkpoint-fits, CheckpointCuts, checkpoint-cuts, emptied-card}
 
 -- a call that changes nothing

@@ -18,7 +18,7 @@ pub mod CallEnds
 pub mod Notes
 pub mod GivesStep
 pub mod OpenFacts
-pub mod OpenWorlds
+pub mod Worlds
 pub mod Checkpoints
 pub mod ApplyStep
 pub mod RecoverStep
