@@ -112,10 +112,9 @@ module _ (st : State) (v : List Entry) (S : Disk) (x : Bool) (f : Opened st v S)
         })
         (checkpoint-cuts st (settledLedger v) (plainNow st S) b o [])
 
-    gives : Gives apply w
+    gives : Gives apply w plan
     unfolding entered applyHeaders
     gives = record {
-      plan = plan;
       done = withLog 0 start (st .rec);
       gone = st .rec;
       call = call;
@@ -148,7 +147,7 @@ module _ (st : State) (v : List Entry) (S : Disk) (x : Bool) (f : Opened st v S)
     where
       go : Dec (st .rec .logged ≡ 0) → StepOK apply w
       go (yes z) = none-logged z
-      go (no z) = gives-step apply w b (gives z)
+      go (no z) = gives-step apply w (plan z) b (gives z)
 
 pub apply-step : (w : World) → WorldSim w → StepOK apply w
 apply-step w m = go (ℕ-discrete (refusal apply (w .plain)) 0)

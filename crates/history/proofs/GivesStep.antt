@@ -29,7 +29,7 @@ use Rattle.history.specs.History.{World, ledgerNext, foundWritten}
 use Rattle.history.proofs.Disks.{logD, entries-disk, WholeCard}
 use Rattle.journal.proofs.Logs.{allData-all}
 use Rattle.history.proofs.Batches.{Left, no-queue}
-use Rattle.history.proofs.Plans.{Plan, planned, takes, settles, Fits, Throughout, length-planned, length-settles, plan-done, Stopped, plan-short}
+use Rattle.history.proofs.Plans.{Plan, planned, takes, settles, Fits, Asked, Throughout, length-planned, length-settles, plan-done, Stopped, plan-short}
 use Rattle.history.proofs.Lists.{Data, Distinct}
 use Rattle.history.proofs.CauseLaws.{RecordFacts, facts-sizes, record-facts, facts-record}
 use Rattle.history.proofs.Relation.{Basics, Sim, CutLeads}
@@ -102,9 +102,8 @@ pub record CutsAt (w : World) (headers : List PlannedHeader) (short : ℕ → Sh
 
 -- ---- the call
 
-pub record Gives (c : Call) (w : World) : Type 0 where
+pub record Gives (c : Call) (w : World) (plan : Plan) : Type 0 where
   -- the store: the record that it leaves, and the one it leaves cut short
-  pub plan : Plan
   pub done : Record
   pub gone : Record
   pub call : dispatch c (w .store) ≡ carried (planned plan) done gone (w .store)
@@ -134,15 +133,18 @@ pub record Gives (c : Call) (w : World) : Type 0 where
   pub card : WholeCard (w .store .rec .blocks) (blockAt (settles plan (w .store .settled))) list S (done .logged)
   pub no-get : (a : ℕ) → c ≡ get a → ⊥
 
-module _ (c : Call) (w : World) (b : Basics (w .store) (w .plain)) (f : Gives c w) where
+module _ (c : Call) (w : World) (plan : Plan) (b : Basics (w .store) (w .plain)) (f : Gives c w plan) where
   abbrev st : State
   st = w .store
 
   abbrev r : Card
-  r = run (planned (f .plan)) (cardIn (w .store))
+  r = run (planned plan) (cardIn (w .store))
 
-  size : length (planned (f .plan)) ≡ takes (f .plan)
-  size = length-planned (f .plan)
+  abbrev N : ℕ
+  N = w .store .rec .blocks
+
+  abbrev P : ℕ
+  P = w .store .rec .power
 
   sz : SizeFacts st
   sz = sizes-facts st (b .sizes)
@@ -152,6 +154,23 @@ module _ (c : Call) (w : World) (b : Basics (w .store) (w .plain)) (f : Gives c 
 
   begins : Left (cardIn st) (cardIn st) (st .settled) [] (st .rec .power)
   begins = record { settled = refl; waits = no-queue (cardIn st) (f .none-waits); count = f .none-waits; power = refl; room = refl }
+
+  -- its two ends on the store
+  done-call : takes plan ≤ P → dispatch c st ≡ record { answer = 0; orders = takes plan; state = withCard r (withRecord (f .done) st) }
+  done-call p =
+      let e : length (planned plan) ≡ takes plan = length-planned plan in
+      f .call ∙ carried-done (planned plan) (f .done) (f .gone) st (omega arith) ∙ ap (λ (k : ℕ). record { answer = 0; orders = k; state = withCard r (withRecord (f .done) st) }) e
+
+  done-left : takes plan ≤ P → Left (cardIn st) r (settles plan (st .settled)) [] (P - takes plan)
+  done-left p = plan-done N (cardIn st) (small-N st (w .plain) b) (sz .waiting) plan (cardIn st) (st .settled) P begins (f .fits) p
+
+  pub short-call : P < takes plan → dispatch c st ≡ record { answer = 4; orders = P; state = withCard r (withRecord (withMode down (f .gone)) st) }
+  short-call p =
+      let e : length (planned plan) ≡ takes plan = length-planned plan in
+      f .call ∙ carried-short (planned plan) (f .done) (f .gone) st (omega arith)
+
+  pub stopped : (X : Asked) (k : ℕ) → k ≡ P → P < takes plan → Throughout X plan (st .settled) 0 → Stopped N (cardIn st) r X (st .settled) k
+  stopped X k e p x = plan-short N (cardIn st) (small-N st (w .plain) b) (sz .waiting) X plan (cardIn st) (st .settled) P 0 k (omega arith) begins (f .fits) p x
 
   shows : (k : ℕ) (o : Outcome) (d : Done) → dispatch c st ≡ o → plainStep c (foundWritten c w) (w .plain) ≡ d → o .answer ≡ d .answer → o .orders ≡ k → d .orders ≡ k
       → Sim (o .state) (noted (f .headers) k (w .ledger)) (d .plain) → StepOK c w
@@ -165,23 +184,22 @@ module _ (c : Call) (w : World) (b : Basics (w .store) (w .plain)) (f : Gives c 
       })
 
   -- with power for all of it
-  done-step : takes (f .plan) ≤ st .rec .power → StepOK c w
+  done-step : takes plan ≤ P → StepOK c w
   done-step p =
-      let e : length (planned (f .plan)) ≡ takes (f .plan) = size in
-      shows (takes (f .plan)) _ _ (f .call ∙ carried-done (planned (f .plan)) (f .done) (f .gone) st (omega arith)) (f .plain-done (omega (arith, b .power))) refl size refl
-      (sim-at refl (f .noted-all) (ap (λ (k : ℕ). openPlain st (f .done) (f .S) (k - takes (f .plan))) (b .power) ) now)
+      shows (takes plan) _ _ (done-call p) (f .plain-done (omega (arith, b .power))) refl refl refl
+      (sim-at refl (f .noted-all) (ap (λ (k : ℕ). openPlain st (f .done) (f .S) (k - takes plan)) (b .power)) now)
     where
-      left : Left (cardIn st) r (settles (f .plan) (st .settled)) [] (st .rec .power - takes (f .plan))
-      left = plan-done (st .rec .blocks) (cardIn st) (small-N st (w .plain) b) (sz .waiting) (f .plan) (cardIn st) (st .settled) (st .rec .power) begins (f .fits) p
+      left : Left (cardIn st) r (settles plan (st .settled)) [] (P - takes plan)
+      left = done-left p
 
       settled-size : length (r .settled) ≡ length (st .settled)
-      settled-size = ap length (left .settled) ∙ length-settles (f .plan) (st .settled)
+      settled-size = ap length (left .settled) ∙ length-settles plan (st .settled)
 
-      log : entries (r .settled) (f .done .logged) ≡ logD (blockAt (settles (f .plan) (st .settled))) (f .done .logged)
+      log : entries (r .settled) (f .done .logged) ≡ logD (blockAt (settles plan (st .settled))) (f .done .logged)
       log = entries-disk _ (f .done .logged) ∙ ap (λ (x : List ℕ). logD (blockAt x) (f .done .logged)) (left .settled)
 
       now : Sim (withCard r (withRecord (f .done) st)) (record { written = f .list; pending = nothing })
-          (openPlain st (f .done) (f .S) (st .rec .power - takes (f .plan)))
+          (openPlain st (f .done) (f .S) (P - takes plan))
       now = record {
         basics = record {
           sizes = facts-sizes _ (sizes-kept st _ settled-size (left .room) refl sz);
@@ -198,7 +216,7 @@ module _ (c : Call) (w : World) (b : Basics (w .store) (w .plain)) (f : Gives c 
                 lists = λ z. record {
                   open-data = rw (f .blocks) (f .opened .homes);
                   group-data = rw (f .blocks) (f .grouped .homes);
-                  log-data = rw (f .blocks, log) (allData-all (st .rec .blocks) _ (f .card .all));
+                  log-data = rw (f .blocks, log) (allData-all N _ (f .card .all));
                   open-distinct = f .opened .distinct;
                   group-distinct = f .grouped .distinct;
                 };
@@ -218,20 +236,17 @@ module _ (c : Call) (w : World) (b : Basics (w .store) (w .plain)) (f : Gives c 
       }
 
   -- with less
-  short-step : st .rec .power < takes (f .plan) → StepOK c w
-  short-step p =
-      let e : length (planned (f .plan)) ≡ takes (f .plan) = size in
-      shows (w .plain .power) _ _ (f .call ∙ carried-short (planned (f .plan)) (f .done) (f .gone) st (omega arith)) (f .plain-short (omega (arith, b .power))) refl (sym (b .power)) refl now
+  short-step : P < takes plan → StepOK c w
+  short-step p = shows (w .plain .power) _ _ (short-call p) (f .plain-short (omega (arith, b .power))) refl (sym (b .power)) refl now
     where
-      x : Stopped (st .rec .blocks) (cardIn st) (small-N st (w .plain) b) (sz .waiting) (CutsAt w (f .headers) (f .short) (f .waits)) r (st .settled) (w .plain .power)
-      x = plan-short (st .rec .blocks) (cardIn st) (small-N st (w .plain) b) (sz .waiting) (CutsAt w (f .headers) (f .short) (f .waits)) (f .plan) (cardIn st) (st .settled) (st .rec .power) 0 (w .plain .power)
-          (omega (arith, b .power)) begins (f .fits) p (f .cuts)
+      x : Stopped N (cardIn st) r (CutsAt w (f .headers) (f .short) (f .waits)) (st .settled) (w .plain .power)
+      x = stopped (CutsAt w (f .headers) (f .short) (f .waits)) (w .plain .power) (b .power) p (f .cuts)
 
       settled-size : length (r .settled) ≡ length (st .settled)
       settled-size = ap length (x .left .settled) ∙ x .long
 
-      below : Below (st .rec .blocks) (run (planned (f .plan)) (cardIn st) .waiting) (run (planned (f .plan)) (cardIn st) .count)
-      below = queue-below (st .rec .blocks) r (rw (x .left .waits) (x .low))
+      below : Below N (r .waiting) (r .count)
+      below = queue-below N r (rw (x .left .waits) (x .low))
 
       now : Sim (withCard r (withRecord (withMode down (f .gone)) st)) (noted (f .headers) (w .plain .power) (w .ledger))
           (cutFrom (f .short) (f .waits) (w .plain .power) (w .plain))
@@ -257,8 +272,27 @@ module _ (c : Call) (w : World) (b : Basics (w .store) (w .plain)) (f : Gives c 
       }
 
   pub gives-step : StepOK c w
-  gives-step = go (decLe (takes (f .plan)) (st .rec .power))
+  gives-step = go (decLe (takes plan) (P))
     where
-      go : Dec (takes (f .plan) ≤ st .rec .power) → StepOK c w
+      go : Dec (takes plan ≤ P) → StepOK c w
       go (yes p) = done-step p
       go (no p) = short-step (omega arith)
+
+  -- ---- what it leaves on the card, by its answer
+
+  pub gives-enough : dispatch c st .answer ≡ 0 → takes plan ≤ P
+  gives-enough e = go (decLe (takes plan) P)
+    where
+      go : Dec (takes plan ≤ P) → takes plan ≤ P
+      go (yes p) = p
+      go (no p) = absurd (let z : _≡_ {A = ℕ} 4 0 = sym (ap (λ (o : Outcome). o .answer) (short-call (omega arith))) ∙ e in omega arith)
+
+  pub gives-less : dispatch c st .answer ≡ 4 → P < takes plan
+  gives-less e = go (decLe (takes plan) P)
+    where
+      go : Dec (takes plan ≤ P) → P < takes plan
+      go (yes p) = absurd (let z : _≡_ {A = ℕ} 0 4 = sym (ap (λ (o : Outcome). o .answer) (done-call p)) ∙ e in omega arith)
+      go (no p) = omega arith
+
+  pub gives-settled : takes plan ≤ P → dispatch c st .state .settled ≡ settles plan (st .settled)
+  gives-settled p = ap (λ (o : Outcome). o .state .settled) (done-call p) ∙ done-left p .settled

@@ -23,6 +23,7 @@ pub mod Checkpoints
 pub mod ApplyStep
 pub mod RecoverStep
 pub mod AppendEnds
+pub mod SyncMeets
 pub mod SyncStep
 pub mod ListInduction
 pub mod PlainAnswers

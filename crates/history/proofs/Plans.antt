@@ -1,7 +1,7 @@
 -- A plan: batches given one after the other. What stands on the card for any power; and what is asked wherever power can end.
 use Prim.Native.Nat.{ℕ, _+_, _*_, _-_, _^_, _≤_, _<_}
-use mathlib.Core.Path.{_≡_, refl, ap, ap₂, subst, _∙_}
-use mathlib.Core.List.{List, [], _∷_, _++_, map}
+use mathlib.Core.Path.{_≡_, refl, ap, ap₂, sym, subst, _∙_}
+use mathlib.Core.List.{List, [], _∷_, _++_, map, append-assoc}
 use native.Mathlib.Omega.{arith}
 use native.Mathlib.Decide.{decLe}
 use lib.ListN.{length, take, length-append, length-map, length-take}
@@ -35,6 +35,10 @@ length-planned (W ∷ Ws) =
     let size : length (map write W) ≡ length W = rw (length-map) in
     length-append (batch W) (planned Ws)
     ∙ ap₂ (λ (a b : ℕ). a + b) (length-append (map write W) (flush ∷ []) ∙ ap (λ (k : ℕ). k + 1) size) (length-planned Ws)
+
+pub planned-append : (a b : Plan) → planned (a ++ b) ≡ planned a ++ planned b
+planned-append [] b = refl
+planned-append (W ∷ a) b = ap (λ (os : List Order). batch W ++ os) (planned-append a b) ∙ sym (append-assoc (batch W) (planned a) (planned b))
 
 pub length-settles : (Ws : Plan) (s : List ℕ) → length (settles Ws s) ≡ length s
 length-settles [] s = refl
@@ -82,6 +86,16 @@ throughout-all X (W ∷ Ws) s k f = (λ j i h e. f s (take j W) i (omega arith),
 
 -- ---- for any power
 
+-- with less: the batches before one are settled, and of that one the first writes wait
+pub record Stopped (N : ℕ) (c r : Card) (X : Asked) (s₀ : List ℕ) (i : ℕ) : Type 0 where
+  pub s : List ℕ
+  pub q : List Entry
+  pub left : Left c r s q 0
+  pub long : length s ≡ length s₀
+  pub few : length q ≤ places
+  pub low : All (λ e. e .address < N) q
+  pub met : X s q i
+
 module _ (N : ℕ) (c₀ : Card) (small : N < 2 ^ 32) (room : length (c₀ .waiting) ≡ entryBytes * places) where
   fit : (c : Card) (s : List ℕ) (p : ℕ) (W : List Entry) → Left c₀ c s [] p → Fits N W → Fit c W
   fit c s p W l f = record {
@@ -101,18 +115,8 @@ module _ (N : ℕ) (c₀ : Card) (small : N < 2 ^ 32) (room : length (c₀ .wait
       (left-power e
       (plan-done Ws (run (batch W) c) (settle W s) (p - (length W + 1)) (left-then l b (ap (settle W) (l .settled)) refl (ap (λ (k : ℕ). k - (length W + 1)) (l .power))) (f .1) (omega arith)))
 
-  -- with less: the batches before one are settled, and of that one the first writes wait
-  pub record Stopped (X : Asked) (r : Card) (s₀ : List ℕ) (i : ℕ) : Type 0 where
-    pub s : List ℕ
-    pub q : List Entry
-    pub left : Left c₀ r s q 0
-    pub long : length s ≡ length s₀
-    pub few : length q ≤ places
-    pub low : All (λ e. e .address < N) q
-    pub met : X s q i
-
   pub plan-short : (X : Asked) (Ws : Plan) (c : Card) (s : List ℕ) (p k i : ℕ) → i ≡ k + p → Left c₀ c s [] p → All (Fits N) Ws → p < takes Ws → Throughout X Ws s k
-      → Stopped X (run (planned Ws) c) s i
+      → Stopped N c₀ (run (planned Ws) c) X s i
   plan-short X [] c s p k i z l f h x = absurd (omega arith)
   plan-short X (W ∷ Ws) c s p k i z l f h x =
       go (decLe p (length W))
@@ -121,7 +125,7 @@ module _ (N : ℕ) (c₀ : Card) (small : N < 2 ^ 32) (room : length (c₀ .wait
       plan-short X Ws (run (batch W) c) (settle W s) (p - (length W + 1)) (k + (length W + 1)) i (omega arith)
       (left-then l b (ap (settle W) (l .settled)) refl (ap (λ (n : ℕ). n - (length W + 1)) (l .power))) (f .1) (omega arith) (x .1))
     where
-      go : Dec (p ≤ length W) → (length W < p → Stopped X (run (planned Ws) (run (batch W) c)) (settle W s) i) → Stopped X (run (batch W ++ planned Ws) c) s i
+      go : Dec (p ≤ length W) → (length W < p → Stopped N c₀ (run (planned Ws) (run (batch W) c)) X (settle W s) i) → Stopped N c₀ (run (batch W ++ planned Ws) c) X s i
       go (yes m) more =
           let b = batch-short c W (fit c s p W l (f .0)) (omega (arith, l .power)) in
           record {

@@ -97,10 +97,9 @@ module _ (st : State) (v : List Entry) (S : Disk) (n : ℕ) (F x : Bool) (f : Cl
   plain = plain-served recover (foundWritten recover w) d served
 
   -- no header is to be written
-  whole : F ≡ false → WholeCard N (blockAt s) v S n → Gives recover w
+  whole : F ≡ false → WholeCard N (blockAt s) v S n → Gives recover w []
   unfolding entered
   whole e r = record {
-    plan = [];
     done = reopened n sum (st .rec);
     gone = st .rec;
     call = call _ (choose-whole N s small v S n r);
@@ -181,10 +180,9 @@ module _ (st : State) (v : List Entry) (S : Disk) (n : ℕ) (F x : Bool) (f : Cl
     fallen : WholeCard N (blockAt (settle (top ∷ []) s)) (logD (blockAt s) n) S n
     fallen = fallen-card N s v S n (settle (top ∷ []) s) big r (λ a q. settled-laid (top ∷ []) s (settle (top ∷ []) s) a refl (omega (arith, rc .blocks)) (top-whole, tt))
 
-    fallback : Gives recover w
+    fallback : Gives recover w plan
     unfolding entered recoverHeaders noted
     fallback = record {
-      plan = plan;
       done = reopened n (sumOf start (logD (blockAt s) n)) (st .rec);
       gone = st .rec;
       call = call _ chosen ∙ rw (fallback-writes N n (sumOf start (logD (blockAt s) n)));
@@ -211,8 +209,8 @@ module _ (st : State) (v : List Entry) (S : Disk) (n : ℕ) (F x : Bool) (f : Cl
     }
 
 recover-closed : (st : State) (v : List Entry) (S : Disk) (n : ℕ) (F x : Bool) → Closed st v S n F → StepOK recover (closedWorld st v S n F x)
-recover-closed st v S n false x f = gives-step recover _ (f .basics) (whole st v S n false x f refl (f .sim .card))
-recover-closed st v S n true x f = gives-step recover _ (f .basics) (fallback st v S n true x f refl (f .sim .card))
+recover-closed st v S n false x f = gives-step recover _ _ (f .basics) (whole st v S n false x f refl (f .sim .card))
+recover-closed st v S n true x f = gives-step recover _ _ (f .basics) (fallback st v S n true x f refl (f .sim .card))
 
 pub recover-step : (w : World) → WorldSim w → StepOK recover w
 recover-step w m = go (ℕ-discrete (refusal recover (w .plain)) 0)
