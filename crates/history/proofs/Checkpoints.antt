@@ -4,7 +4,6 @@ use mathlib.Core.Path.{_≡_, refl, ap, sym, _∙_}
 use mathlib.Core.Bool.{true, false}
 use mathlib.Core.List.{List, [], _∷_}
 use native.Mathlib.Omega.{arith}
-use native.Mathlib.Decide.{ℕ-discrete}
 use lib.Dec.{eqb}
 use lib.ListN.{length, getD, take, length-take}
 use Rattle.cells.specs.Entry.{blockBytes, Entry}
@@ -19,7 +18,7 @@ use Rattle.journal.proofs.Headers.{length-encode}
 use Rattle.journal.proofs.OrderLists.{headerEntry, checkpoint-writes}
 use Rattle.store.specs.State.{State, cardIn}
 use Rattle.history.specs.Plain.{Plain, applyVerdict, applyWaits, headerKept}
-use Rattle.history.specs.Ledger.{Ledger, PlannedHeader, waits, noted, applyHeader, resolved}
+use Rattle.history.specs.Ledger.{Ledger, PlannedHeader, noted, applyHeader, resolved}
 use Rattle.history.proofs.Disks.{WholeCard, data-below}
 use Rattle.history.proofs.Batches.{Left}
 use Rattle.history.proofs.Plans.{Plan, planned, takes, settles, Fits, Throughout, length-settles}

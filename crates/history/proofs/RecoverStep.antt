@@ -15,31 +15,31 @@ use Rattle.card.specs.Disk.{Disk}
 use Rattle.card.specs.Card.{settle, blockAt}
 use Rattle.card.proofs.Runs.{Whole}
 use Rattle.journal.specs.declared.choice.Choice.{Choice}
-use Rattle.journal.specs.declared.choice.Choice.the-variants.{Whole as Taken, Fallback}
+use Rattle.journal.specs.declared.choice.Choice.the-variants.{Fallback}
 use Rattle.journal.specs.Layout.{firstData}
 use Rattle.journal.specs.Header.{header}
 use Rattle.journal.specs.Log.{entries, sumOf}
-use Rattle.journal.specs.Choice.{choose, takenCount, takenSum, recoverOrders}
+use Rattle.journal.specs.Choice.{choose, takenCount}
 use Rattle.journal.proofs.Headers.{length-encode}
 use Rattle.journal.proofs.OrderLists.{fallback-writes}
 use Rattle.store.specs.Request as Request
 use Rattle.store.specs.State.{State}
 use Rattle.store.specs.Causes.{cause}
-use Rattle.store.specs.Saves.{carried, reopened, recovering, recoverCall}
+use Rattle.store.specs.Saves.{reopened, recovering, recoverCall}
 use Rattle.store.proofs.Causes.{Passes}
 use Rattle.history.specs.Call.{get, recover}
 use Rattle.history.specs.Plain.{Plain, ofRecover, refusal, plainStep, plainRecover, headerKept, unchanged}
-use Rattle.history.specs.Ledger.{Ledger, nothing, waits, recoverHeaders, noted, entered, taken, resolved}
+use Rattle.history.specs.Ledger.{Ledger, waits, recoverHeaders, noted, entered, taken, resolved}
 use Rattle.history.specs.History.{World, foundWritten}
 use Rattle.history.proofs.Disks.{logD, entries-disk, WholeCard, FallCard}
 use Rattle.history.proofs.AfterCut.{fallen-card}
 use Rattle.history.proofs.CallCuts.{settled-laid, fallHeader, fall-still, fall-cuts}
 use Rattle.history.proofs.CauseLaws.{RecordFacts, record-facts, cause-passes}
-use Rattle.history.proofs.Plans.{Plan, planned, Throughout}
-use Rattle.history.proofs.Relation.{Basics, OpenSim, ClosedSim, DownSim, Sim, leads-still}
+use Rattle.history.proofs.Plans.{Plan}
+use Rattle.history.proofs.Relation.{OpenSim, ClosedSim, DownSim, Sim, leads-still}
 use Rattle.history.proofs.PlainLaws.{recover-whole, recover-fallback, recover-short, choose-recover-none, choose-recover, kept-mark}
 use Rattle.history.proofs.Steps.{WorldSim, StepOK, same-cause, refused-step, plain-served, noted-none, small-N, big-N, choose-whole, choose-fallback}
-use Rattle.history.proofs.GivesStep.{openPlain, none-listed, countable, CutsAt, Gives, gives-step}
+use Rattle.history.proofs.GivesStep.{none-listed, countable, CutsAt, Gives, gives-step}
 use Rattle.history.proofs.Worlds.{settledLedger, plainShut, closedWorld, Closed, closed-sim, idle-closed, closed-world, shut}
 
 recover-no-get : (a : ℕ) → recover ≡ get a → ⊥

@@ -1,6 +1,6 @@
 -- What the append of a sync meets: the state itself; or what the apply inside left.
 use Prim.Native.Nat.{ℕ, _+_, _-_, _≤_, _<_}
-use mathlib.Core.Path.{_≡_, refl, ap, ap₂, sym, _∙_}
+use mathlib.Core.Path.{_≡_, ap, ap₂, sym, _∙_}
 use mathlib.Core.Logic.{_≢_}
 use mathlib.Core.Bool.{Bool, true, false, cond}
 use mathlib.Core.List.{List, [], _∷_, _++_, append-nil}
@@ -14,7 +14,7 @@ use Rattle.card.specs.Disk.{Disk}
 use Rattle.card.specs.Card.{Order, blockAt}
 use Rattle.card.proofs.All.{All}
 use Rattle.journal.specs.Layout.{slots}
-use Rattle.journal.specs.Orders.{appendOrders, checkpointOrders, syncOrders}
+use Rattle.journal.specs.Orders.{syncOrders}
 use Rattle.journal.proofs.Logs.{sumOf-nil}
 use Rattle.journal.proofs.OrderLists.{appendWrites, append-writes, append-afresh}
 use Rattle.store.specs.State.{State, withLog}
@@ -24,7 +24,6 @@ use Rattle.history.specs.Plain.{Plain, ofSync, syncTakes, syncWaits, app
 use Rattle.history.specs.Ledger.{PlannedHeader, syncHeaders, noted, applyHeader, ownHeader, standing, inner}
 use Rattle.history.specs.History.{World}
 use Rattle.history.proofs.Disks.{logD}
-use Rattle.history.proofs.Batches.{batch}
 use Rattle.history.proofs.Plans.{Plan, planned, takes, settles, Fits, Throughout, planned-append, throughout-map}
 use Rattle.history.proofs.AppendEnds.{Appends}
 use Rattle.history.proofs.CauseLaws.{RecordFacts, record-facts}

@@ -29,8 +29,7 @@ use Rattle.store.specs.Lists.{groupFrom, listOf}
 use Rattle.store.specs.Causes.{cause}
 use Rattle.store.specs.Saves.{carried, syncCall, groupOf, applies, metByAppend, innerOrders}
 use Rattle.history.specs.Call.{get, sync}
-use Rattle.history.specs.Plain as Plain
-use Rattle.history.specs.Plain.{Plain, ofSync, refusal, plainStep, plainSync, syncTakes, syncWaits, ownVerdict, unchanged}
+use Rattle.history.specs.Plain.{Plain, ofSync, refusal, plainStep, plainSync, syncWaits, ownVerdict, unchanged}
 use Rattle.history.specs.Ledger.{Ledger, waits, syncHeaders, noted, entered, ownHeader, standing, inner, resolved, sameLog}
 use Rattle.history.specs.History.{World, ledgerNext, foundWritten}
 use Rattle.history.specs.Statements.{Logged, allOnes}
