@@ -1,30 +1,31 @@
--- An append from a card on which nothing waits, by the power there is: what it leaves done, and what every cut of it leads to.
-use Prim.Native.Nat.{ℕ, _+_, _*_, _-_, _^_, _≤_, _<_}
+-- An append: the writes of its one batch, what they leave, and what every cut of them leads to.
+use Prim.Native.Nat.{ℕ, _+_, _*_, _^_, _≤_, _<_}
 use mathlib.Core.Path.{_≡_, refl, ap, sym, _∙_}
 use mathlib.Core.Bool.{Bool, true, false, cond}
 use mathlib.Core.List.{List, [], _++_}
 use native.Mathlib.Omega.{arith}
 use lib.Dec.{eqb}
-use lib.ListN.{length, getD, take, length-take, length-append}
+use lib.ListN.{length, getD, take, length-append}
 use lib.Seq.{take-all}
 use Rattle.cells.specs.Upto.Laws.{length-upTo}
 use Rattle.cells.specs.Entry.{Entry}
 use Rattle.fnv.specs.Fnv.{start}
 use Rattle.card.specs.Disk.{Disk, overlay}
-use Rattle.card.specs.Card.{Card, run, kept, cut, settle, blockAt, blocksIn}
+use Rattle.card.specs.Card.{Card, kept, cut, settle, blockAt, blocksIn}
 use Rattle.card.proofs.All.{All, all-append, all-take}
 use Rattle.card.proofs.Runs.{Whole, NarrowAddress}
 use Rattle.card.proofs.Cuts.{kept-all}
 use Rattle.journal.specs.Layout.{slots, firstData, headerAt, descriptorAt}
 use Rattle.journal.specs.Header.{encode, header}
 use Rattle.journal.specs.Log.{entries, sumOf, allData}
-use Rattle.journal.specs.Orders.{appendOrders}
+use Rattle.journal.proofs.Headers.{length-encode}
 use Rattle.journal.proofs.Logs.{sumOf-append, length-blockAt}
-use Rattle.journal.proofs.OrderLists.{appendWrites, slotBlocks, slots-below}
+use Rattle.journal.proofs.OrderLists.{appendWrites, slotBlocks, slots-whole, slots-below, length-describe}
 use Rattle.history.specs.Plain.{ownVerdict}
 use Rattle.history.specs.Ledger.{sameLog}
 use Rattle.history.proofs.Disks.{slotE, logD, entries-disk, WholeCard, append-head}
-use Rattle.history.proofs.Batches.{Left, left-then, append-fit, append-short, append-done, length-append-writes, Fit}
+use Rattle.history.proofs.Batches.{Left, length-append-writes}
+use Rattle.history.proofs.Plans.{Fits}
 use Rattle.history.proofs.AfterCut.{Leads, foundIn, on-card, append-all, append-whole}
 use Rattle.history.proofs.Crashes.{all-appended}
 use Rattle.history.proofs.CallCuts.{cut-laid, settled-laid, append-cuts, append-cuts-top}
@@ -34,8 +35,8 @@ writes-low : (N : ℕ) (s : List ℕ) (n h : ℕ) (G : List Entry) → firstData
 writes-low N s n h G big room =
     all-append (λ e. e .address < N) (slotBlocks n G) _ (slots-below N n G (omega arith)) (omega arith, (omega arith, tt))
 
--- the group G is appended to n entries with the sum h on s; v is their list, S the disk; the card c has power p left of what c₀ had
-pub record AppendBase (N : ℕ) (s : List ℕ) (n h : ℕ) (G v : List Entry) (S : Disk) (c₀ c : Card) (p : ℕ) : Type 0 where
+-- the group G is appended to n entries with the sum h on s; v is their list, S the disk
+pub record Appends (N : ℕ) (s : List ℕ) (n h : ℕ) (G v : List Entry) (S : Disk) : Type 0 where
   pub big : firstData < N
   pub small : N < 2 ^ 32
   pub size : N ≡ blocksIn s
@@ -45,47 +46,46 @@ pub record AppendBase (N : ℕ) (s : List ℕ) (n h : ℕ) (G v : List Entry) (S
   pub whole : All Whole G
   pub low : All NarrowAddress G
   pub all-data : allData N G ≡ true
-  pub left : Left c₀ c s [] p
-  pub places : length (c₀ .waiting) ≡ 17544
 
-module _ {N : ℕ} {s : List ℕ} {n h : ℕ} {G v : List Entry} {S : Disk} {c₀ c : Card} {p : ℕ} (x : AppendBase N s n h G v S c₀ c p) where
+module _ {N : ℕ} {s : List ℕ} {n h : ℕ} {G v : List Entry} {S : Disk} (x : Appends N s n h G v S) where
   abbrev W : List Entry
   W = appendWrites N s n h G
 
   pub wide : 4 * n ≤ length (blockAt s descriptorAt)
   wide = rw (length-blockAt s descriptorAt (omega (arith, x .big, x .size))) (omega (arith, x .room))
 
-  fit : Fit c W
-  fit = append-fit c N s n h G wide (x .left .count, rw (x .left .room) (omega (arith, x .places, x .room)), x .room, x .whole)
-
   pub writes-whole : All Whole W
-  writes-whole = fit .whole
+  writes-whole = all-append Whole (slotBlocks n G) _ (slots-whole n G (x .whole)) (length-describe _ n G wide (omega (arith, x .room)), (length-encode (header N n h (n + length G) (sumOf h G)), tt))
 
-  -- cut short
-  pub short-left : p ≤ length G + 2 → Left c₀ (run (appendOrders N s n h G) c) s (take p W) 0
-  short-left l =
-      let f = append-short c N s n h G fit (rw (x .left .power) l) in
-      left-then (x .left) f (x .left .settled) (ap (λ (k : ℕ). take k W) (x .left .power)) refl
+  pub writes-fit : Fits N W
+  writes-fit = record {
+    few = let e : length W ≡ length G + 2 = length-append-writes N s n h G in omega (arith, x .room);
+    whole = writes-whole;
+    low = writes-low N s n h G (x .big) (x .room);
+  }
 
-  pub short-before : (r : Card) → Left c₀ r s (take p W) 0 → p ≤ length G + 1 → (ms : List ℕ) → Leads N (cut ms r .settled) v S n false
-  short-before r f l ms = append-cuts N s n h G v S (x .big) (x .small) (x .size) (x .room) (x .sum) (x .card) writes-whole (x .all-data) c₀ r p f ms l
+  -- ---- cut short after j of its orders
 
-  pub short-top : (r : Card) → Left c₀ r s (take p W) 0 → p ≡ length G + 2 → (ms : List ℕ) → length ms ≡ length G + 2
+  pub short-before : (c r : Card) (j : ℕ) → Left c r s (take j W) 0 → j ≤ length G + 1 → (ms : List ℕ) → Leads N (cut ms r .settled) v S n false
+  short-before c r j f l ms = append-cuts N s n h G v S (x .big) (x .small) (x .size) (x .room) (x .sum) (x .card) writes-whole (x .all-data) c r j f ms l
+
+  pub short-top : (c r : Card) (j : ℕ) → Left c r s (take j W) 0 → j ≡ length G + 2 → (ms : List ℕ) → length ms ≡ length G + 2
       → (t u : Bool) → eqb (getD ms (length G + 1) 0) 1 ≡ t → sameLog (foundIn (cut ms r .settled)) (cond t (logD (blockAt s) n ++ G) v) ≡ u
       → Leads N (cut ms r .settled) (cond t (logD (blockAt s) n ++ G) v) (cond (ownVerdict n (length G) t u .laid) (overlay G S) S) (ownVerdict n (length G) t u .n) (ownVerdict n (length G) t u .F)
-  short-top r f e ms l = append-cuts-top N s n h G v S (x .big) (x .small) (x .size) (x .room) (x .sum) (x .card) writes-whole (x .all-data) c₀ r p f ms e (length-append-writes N s n h G) l
+  short-top c r j f e ms l = append-cuts-top N s n h G v S (x .big) (x .small) (x .size) (x .room) (x .sum) (x .card) writes-whole (x .all-data) c r j f ms e (length-append-writes N s n h G) l
 
-  pub short-few : p ≤ length G + 2 → length (take p W) ≡ p
-  short-few l = let e : length W ≡ length G + 2 = length-append-writes N s n h G in length-take p W ∙ (omega arith)
+  -- with every write kept the log found is the log written
+  pub whole-found : (c r : Card) (j : ℕ) → Left c r s (take j W) 0 → j ≡ length G + 2 → (ms : List ℕ) → length ms ≡ length G + 2 → All (λ k. k ≡ 1) ms
+      → sameLog (foundIn (cut ms r .settled)) (logD (blockAt s) n ++ G) ≡ true
+  whole-found c r j f e ms l ones =
+      append-whole N s n h G v S (x .big) (x .small) (x .size) (x .room) (x .sum) (x .card) (cut ms r .settled) (x .low)
+      (λ a q.
+      let z : length W ≡ length G + 2 = length-append-writes N s n h G in
+      cut-laid c r s (take j W) 0 ms a f (omega (arith, x .size)) (all-take Whole j W writes-whole)
+      ∙ ap (λ (y : List Entry). overlay (kept ms y) (blockAt s) a) (take-all j W (omega arith))
+      ∙ ap (λ (y : List Entry). overlay y (blockAt s) a) (kept-all ms W (omega arith) ones))
 
-  pub short-low : All (λ e. e .address < N) (take p W)
-  short-low = all-take (λ e. e .address < N) p W (writes-low N s n h G (x .big) (x .room))
-
-  -- done
-  pub done-left : length G + 3 ≤ p → Left c₀ (run (appendOrders N s n h G) c) (settle W s) [] (p - (length G + 3))
-  done-left l =
-      let f = append-done c N s n h G fit (rw (x .left .power) l) in
-      left-then (x .left) f (ap (settle W) (x .left .settled)) refl (ap (λ (k : ℕ). k - (length G + 3)) (x .left .power))
+  -- ---- done
 
   pub done-card : WholeCard N (blockAt (settle W s)) (logD (blockAt s) n ++ G) (overlay G S) (n + length G)
   done-card =
@@ -118,14 +118,3 @@ module _ {N : ℕ} {s : List ℕ} {n h : ℕ} {G v : List Entry} {S : Disk} {c�
             ∙ (λ i. encode (header N (sym size-log i) (x .sum i) (sym size-list i) ((ap (λ (k : ℕ). sumOf k G) (x .sum) ∙ sym (sumOf-append start (logD (blockAt s) n) G)) i))),
         ap (entries (settle W s)) size-list ∙ entries-disk (settle W s) (n + length G) ∙ sym (done-card .same),
       )
-
-  -- cut short behind its header, with every write kept: the log found is the log written
-  pub whole-found : (r : Card) → Left c₀ r s (take p W) 0 → p ≡ length G + 2 → (ms : List ℕ) → length ms ≡ length G + 2 → All (λ k. k ≡ 1) ms
-      → sameLog (foundIn (cut ms r .settled)) (logD (blockAt s) n ++ G) ≡ true
-  whole-found r f e ms l ones =
-      append-whole N s n h G v S (x .big) (x .small) (x .size) (x .room) (x .sum) (x .card) (cut ms r .settled) (x .low)
-      (λ a q.
-      let z : length W ≡ length G + 2 = length-append-writes N s n h G in
-      cut-laid c₀ r s (take p W) 0 ms a f (omega (arith, x .size)) (all-take Whole p W writes-whole)
-      ∙ ap (λ (y : List Entry). overlay (kept ms y) (blockAt s) a) (take-all p W (omega arith))
-      ∙ ap (λ (y : List Entry). overlay y (blockAt s) a) (kept-all ms W (omega arith) ones))

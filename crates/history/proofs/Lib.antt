@@ -1,6 +1,7 @@
 -- The proofs of the statements about histories.
 pub mod Disks
 pub mod Batches
+pub mod Plans
 pub mod Crashes
 pub mod AfterCut
 pub mod Lists
@@ -14,10 +15,15 @@ pub mod SimpleSteps
 pub mod CutStep
 pub mod CallCuts
 pub mod CallEnds
+pub mod Notes
+pub mod GivesStep
 pub mod OpenFacts
+pub mod Worlds
+pub mod Checkpoints
 pub mod ApplyStep
 pub mod RecoverStep
 pub mod AppendEnds
+pub mod SyncMeets
 pub mod SyncStep
 pub mod ListInduction
 pub mod PlainAnswers

@@ -1,46 +1,46 @@
 -- The step of a recover.
-use Prim.Native.Nat.{ℕ, _-_, _^_, _≤_, _<_}
-use mathlib.Core.Path.{_≡_, refl, ap, sym, _∙_}
+use Prim.Native.Nat.{ℕ, zero, suc, _+_, _^_, _≤_, _<_}
+use mathlib.Core.Path.{_≡_, refl, ap, sym, subst, _∙_}
 use mathlib.Core.Logic.{_⊎_}
 use mathlib.Core.Bool.{Bool, true, false, not, true≢false}
 use mathlib.Core.List.{List, [], _∷_}
 use native.Mathlib.Omega.{arith}
-use native.Mathlib.Decide.{ℕ-discrete, decLt}
+use native.Mathlib.Decide.{ℕ-discrete}
 use borrow.Author.Tests.{eq-eqb}
 use lib.Dec.{eqb}
-use lib.ListN.{length, getD, take}
-use Rattle.cells.specs.Entry.{entryBytes, Entry}
+use lib.ListN.{getD, take}
+use Rattle.cells.specs.Entry.{Entry}
 use Rattle.fnv.specs.Fnv.{start}
-use Rattle.card.specs.Card.{run, settle, blockAt, blocksIn}
-use Rattle.card.proofs.Runs.{Whole, run-nil, length-settle}
+use Rattle.card.specs.Disk.{Disk}
+use Rattle.card.specs.Card.{settle, blockAt}
+use Rattle.card.proofs.Runs.{Whole}
 use Rattle.journal.specs.declared.choice.Choice.{Choice}
 use Rattle.journal.specs.declared.choice.Choice.the-variants.{Fallback}
 use Rattle.journal.specs.Layout.{firstData}
 use Rattle.journal.specs.Header.{header}
 use Rattle.journal.specs.Log.{entries, sumOf}
-use Rattle.journal.specs.Orders.{fallbackOrders}
-use Rattle.journal.specs.Choice.{choose, takenCount, takenSum, recoverOrders}
+use Rattle.journal.specs.Choice.{choose, takenCount}
 use Rattle.journal.proofs.Headers.{length-encode}
-use Rattle.journal.proofs.OrderLists.{length-fallback}
+use Rattle.journal.proofs.OrderLists.{fallback-writes}
 use Rattle.store.specs.Request as Request
-use Rattle.store.specs.declared.record.Record.{Record}
-use Rattle.store.specs.State.{State, Outcome, openMode, withMode, withOpened, withGrouped, withLog, withCard, withRecord, cardIn}
+use Rattle.store.specs.State.{State}
 use Rattle.store.specs.Causes.{cause}
-use Rattle.store.specs.Saves.{carried, recoverCall}
-use Rattle.store.proofs.Causes.{SizeFacts, sizes-facts, Passes}
+use Rattle.store.specs.Saves.{reopened, recovering, recoverCall}
+use Rattle.store.proofs.Causes.{Passes}
 use Rattle.history.specs.Call.{get, recover}
 use Rattle.history.specs.Plain.{Plain, ofRecover, refusal, plainStep, plainRecover, headerKept, unchanged}
-use Rattle.history.specs.Ledger.{Ledger, nothing, waits, recoverHeaders, noted, entered, taken, resolved}
+use Rattle.history.specs.Ledger.{Ledger, waits, recoverHeaders, noted, entered, taken, resolved}
 use Rattle.history.specs.History.{World, foundWritten}
 use Rattle.history.proofs.Disks.{logD, entries-disk, WholeCard, FallCard}
-use Rattle.history.proofs.Batches.{Left, no-queue, fallback-short, fallback-done}
 use Rattle.history.proofs.AfterCut.{fallen-card}
 use Rattle.history.proofs.CallCuts.{settled-laid, fallHeader, fall-still, fall-cuts}
-use Rattle.history.proofs.CauseLaws.{RecordFacts, record-facts, idle, cause-passes}
-use Rattle.history.proofs.Relation.{Basics, OpenSim, ClosedSim, DownSim, Sim, CutLeads, leads-still}
+use Rattle.history.proofs.CauseLaws.{RecordFacts, record-facts, cause-passes}
+use Rattle.history.proofs.Plans.{Plan}
+use Rattle.history.proofs.Relation.{OpenSim, ClosedSim, DownSim, Sim, leads-still}
 use Rattle.history.proofs.PlainLaws.{recover-whole, recover-fallback, recover-short, choose-recover-none, choose-recover, kept-mark}
 use Rattle.history.proofs.Steps.{WorldSim, StepOK, same-cause, refused-step, plain-served, noted-none, small-N, big-N, choose-whole, choose-fallback}
-use Rattle.history.proofs.CallEnds.{carried-done, carried-short, downState, cut-short-step, finish-step}
+use Rattle.history.proofs.GivesStep.{none-listed, countable, CutsAt, Gives, gives-step}
+use Rattle.history.proofs.Worlds.{settledLedger, plainShut, closedWorld, Closed, closed-sim, idle-closed, closed-world, shut}
 
 recover-no-get : (a : ℕ) → recover ≡ get a → ⊥
 recover-no-get a e = let z : _≡_ {A = ℕ} 0 1 = cc in omega arith
@@ -54,240 +54,169 @@ is-closed st l d m p = go (m .phase)
     go (_⊎_.inr (_⊎_.inl o)) = o
     go (_⊎_.inr (_⊎_.inr o)) = absurd (true≢false (rw (eq-eqb _ _ (o .mode)) at (p .not-down)))
 
--- the record that a finished recover leaves
-abbrev found : ℕ → ℕ → Record → Record
-found n sum r = withMode openMode (withOpened 0 (withGrouped 0 (withLog n sum r)))
+module _ (st : State) (v : List Entry) (S : Disk) (n : ℕ) (F x : Bool) (f : Closed st v S n F) where
+  abbrev w : World
+  w = closedWorld st v S n F x
 
--- the plain disk after a finished recover of k orders
-abbrev reopened : ℕ → Plain → Plain
-reopened k d = record { N = d .N; S = d .S; G = d .G; T = d .T; n = d .n; mode = 1; power = d .power - k; waiting = d .waiting; short = d .short; F = false }
+  abbrev d : Plain
+  d = plainShut st S n F
 
-module _ (w : World) (m : WorldSim w) (h : refusal recover (w .plain) ≡ 0) (o : ClosedSim (w .store) (w .ledger) (w .plain)) where
-  b : Basics (w .store) (w .plain)
-  b = m .basics
+  abbrev N : ℕ
+  N = st .rec .blocks
 
-  sz : SizeFacts (w .store)
-  sz = sizes-facts (w .store) (b .sizes)
+  abbrev s : List ℕ
+  s = st .settled
 
-  rc : RecordFacts (w .store)
-  rc = record-facts (w .store) (b .counts)
+  abbrev sum : ℕ
+  sum = sumOf start (entries (st .settled) n)
 
-  none-waits : w .store .rec .waiting ≡ 0
-  none-waits = idle (w .store) rc (λ z. omega (arith, o .mode))
+  rc : RecordFacts st
+  rc = record-facts st (f .basics .counts)
 
-  small : w .store .rec .blocks < 2 ^ 32
-  small = small-N (w .store) (w .plain) b
+  small : N < 2 ^ 32
+  small = small-N st d (f .basics)
 
-  big : firstData < w .store .rec .blocks
-  big = big-N (w .store) (w .plain) b
+  big : firstData < N
+  big = big-N st d (f .basics)
 
-  accepted : cause Request.recover (w .store) ≡ 0
-  accepted = same-cause (w .store) (w .ledger) (w .plain) m recover ∙ h
+  idle : st .rec .waiting ≡ 0
+  idle = idle-closed w (f .basics) (f .sim)
 
-  call : (c : Choice) → choose (w .store .rec .blocks) (w .store .settled) ≡ c
-      → recoverCall (w .store) ≡ carried (recoverOrders (w .store .rec .blocks) c) (found (takenCount c) (takenSum c) (w .store .rec)) (w .store .rec) (w .store)
+  served : refusal recover d ≡ 0
+  unfolding refusal
+  served = refl
+
+  accepted : cause Request.recover st ≡ 0
+  accepted = same-cause st (settledLedger v) d (closed-sim f) recover ∙ served
+
+  call : (c : Choice) → choose N s ≡ c → recoverCall st ≡ recovering c st
   unfolding recoverCall
-  call c e =
-      rw (eq-eqb _ 0 accepted)
-      (ap (λ (x : Choice). carried (recoverOrders (w .store .rec .blocks) x) (found (takenCount x) (takenSum x) (w .store .rec)) (w .store .rec) (w .store)) e)
+  call c e = rw (eq-eqb _ 0 accepted) (ap (λ (y : Choice). recovering y st) e)
 
-  plain : plainStep recover (foundWritten recover w) (w .plain) ≡ plainRecover (w .plain)
-  plain = plain-served recover (foundWritten recover w) (w .plain) h
-
-  log-is : (n : ℕ) → entries (w .store .settled) n ≡ logD (blockAt (w .store .settled)) n
-  log-is n = entries-disk (w .store .settled) n
+  plain : plainStep recover (foundWritten recover w) d ≡ plainRecover d
+  plain = plain-served recover (foundWritten recover w) d served
 
   -- no header is to be written
-  whole : w .plain .F ≡ false → WholeCard (w .store .rec .blocks) (blockAt (w .store .settled)) (w .ledger .written) (w .plain .S) (w .plain .n) → StepOK recover w
+  whole : F ≡ false → WholeCard N (blockAt s) v S n → Gives recover w []
   unfolding entered
-  whole f r =
-      let n = w .plain .n in
-      let sum = sumOf start (entries (w .store .settled) n) in
-      let D : recoverCall (w .store) ≡ record { answer = 0; orders = 0; state = withCard (cardIn (w .store)) (withRecord (found n sum (w .store .rec)) (w .store)) } =
-      call _ (choose-whole (w .store .rec .blocks) (w .store .settled) small (w .ledger .written) (w .plain .S) n r)
-      ∙ carried-done [] (found n sum (w .store .rec)) (w .store .rec) (w .store) (omega arith)
-      ∙ rw (run-nil (cardIn (w .store))) in
-      finish-step recover w (cardIn (w .store)) (found n sum (w .store .rec)) (w .store .settled) (w .store .rec .power) 0 (w .ledger) (reopened 0 (w .plain)) b
-      (record {
-        call = D;
-        plain = plain ∙ recover-whole (w .plain) f;
-        ledger = ap (λ (x : Outcome). noted (recoverHeaders (w .store)) (x .orders) (w .ledger)) D ∙ noted-none (recoverHeaders (w .store)) (w .ledger);
-        left = record { settled = refl; waits = no-queue (cardIn (w .store)) none-waits; count = none-waits; power = refl; room = refl };
-        size = refl;
-        mode = refl;
-        blocks = refl;
-        open-count = omega arith;
-        group-count = omega arith;
-        open-data = tt;
-        group-data = tt;
-        open-distinct = tt;
-        group-distinct = tt;
-        sum = ap (sumOf start) (log-is n);
-        card = r;
-        pending = o .pending;
-        plain-mode = refl;
-        plain-N = b .mirrors .N;
-        plain-waiting = b .mirrors .waiting ∙ none-waits;
-        plain-power = (omega arith) ∙ b .power;
-        plain-T = o .T;
-        plain-G = o .G;
-        plain-n = refl;
-        plain-F = refl;
-        plain-short = o .short;
-        no-get = recover-no-get;
-      })
+  whole e r = record {
+    done = reopened n sum (st .rec);
+    gone = st .rec;
+    call = call _ (choose-whole N s small v S n r);
+    none-waits = idle;
+    fits = tt;
+    counts = countable st rc (st .rec .logged) (st .rec .sum) (rc .log-count);
+    headers = recoverHeaders st;
+    notes = refl;
+    short = ofRecover;
+    waits = λ k. k;
+    S = S;
+    plain-done = λ p. plain ∙ recover-whole d e;
+    plain-short = λ p. absurd (omega arith);
+    cuts = tt;
+    list = v;
+    noted-all = noted-none (recoverHeaders st) (settledLedger v);
+    mode = refl;
+    blocks = refl;
+    opened = none-listed _ _ _;
+    grouped = none-listed _ _ _;
+    sum = ap (sumOf start) (entries-disk s n);
+    card = r;
+    no-get = recover-no-get;
+  }
 
-  module _ (f : w .plain .F ≡ true) (r : FallCard (w .store .rec .blocks) (blockAt (w .store .settled)) (w .ledger .written) (w .plain .S) (w .plain .n)) where
-    abbrev s : List ℕ
-    s = w .store .settled
+  -- one is: the fallback's
+  module _ (e : F ≡ true) (r : FallCard N (blockAt s) v S n) where
+    abbrev top : Entry
+    top = fallHeader N s n
 
-    abbrev n : ℕ
-    n = w .plain .n
+    abbrev plan : Plan
+    plan = (top ∷ []) ∷ []
 
-    abbrev sum : ℕ
-    sum = sumOf start (logD (blockAt s) n)
+    log-is : entries s n ≡ logD (blockAt s) n
+    log-is = entries-disk s n
 
-    chosen : choose (w .store .rec .blocks) (w .store .settled) ≡ Fallback n sum
-    chosen =
-        choose-fallback (w .store .rec .blocks) (w .store .settled) small (w .ledger .written) (w .plain .S) n r
-        ∙ ap (λ (x : List Entry). Fallback n (sumOf start x)) (log-is n)
+    chosen : choose N s ≡ Fallback n (sumOf start (logD (blockAt s) n))
+    chosen = choose-fallback N s small v S n r ∙ ap (λ (y : List Entry). Fallback n (sumOf start y)) log-is
 
-    list : taken (w .store) ≡ logD (blockAt s) n
-    list = ap (λ (c : Choice). entries s (takenCount c)) chosen ∙ log-is n
+    list : taken st ≡ logD (blockAt s) n
+    list = ap (λ (c : Choice). entries s (takenCount c)) chosen ∙ log-is
 
-    header-whole : Whole (fallHeader (w .store .rec .blocks) s n)
-    header-whole = length-encode (header (w .store .rec .blocks) n sum n sum)
+    top-whole : Whole top
+    top-whole = length-encode (header N n (sumOf start (logD (blockAt s) n)) n (sumOf start (logD (blockAt s) n)))
 
-    room : entryBytes ≤ length (cardIn (w .store) .waiting)
-    room = omega (arith, sz .waiting)
-
-    note-done : noted (recoverHeaders (w .store)) 2 (w .ledger) ≡ record { written = logD (blockAt s) n; pending = nothing }
-    unfolding recoverHeaders noted
-    note-done = ap (λ (x : List Entry). record { written = x; pending = nothing }) list
-
-    note-written : noted (recoverHeaders (w .store)) 1 (w .ledger) ≡ record { written = w .ledger .written; pending = waits 0 (logD (blockAt s) n) }
-    unfolding recoverHeaders noted
-    note-written = ap (λ (x : List Entry). record { written = w .ledger .written; pending = waits 0 x }) list
-
-    -- with power for the header and the flush
-    fallback : 2 ≤ w .store .rec .power → StepOK recover w
-    unfolding entered
-    fallback p =
-        let N = w .store .rec .blocks in
-        let e : length (fallbackOrders N n sum) ≡ 2 = length-fallback N n sum in
-        let c = run (fallbackOrders N n sum) (cardIn (w .store)) in
-        let D : recoverCall (w .store) ≡ record { answer = 0; orders = 2; state = withCard (run (fallbackOrders N n sum) (cardIn (w .store))) (withRecord (found n sum (w .store .rec)) (w .store)) } =
-        call _ chosen
-        ∙ carried-done (fallbackOrders N n sum) (found n sum (w .store .rec)) (w .store .rec) (w .store) (omega arith)
-        ∙ ap (λ (k : ℕ). record { answer = 0; orders = k; state = withCard (run (fallbackOrders N n sum) (cardIn (w .store))) (withRecord (found n sum (w .store .rec)) (w .store)) }) e in
-        let l = fallback-done (cardIn (w .store)) N n sum none-waits room p in
-        let z : N ≡ blocksIn s = rc .blocks in
-        let card : WholeCard N (blockAt (settle (fallHeader N s n ∷ []) s)) (logD (blockAt s) n) (w .plain .S) n =
-        fallen-card N s (w .ledger .written) (w .plain .S) n (settle (fallHeader N s n ∷ []) s) big r
-        (λ a q. settled-laid (fallHeader N s n ∷ []) s (settle (fallHeader N s n ∷ []) s) a refl (omega arith) (header-whole, tt)) in
-        finish-step recover w (run (fallbackOrders N n sum) (cardIn (w .store))) (found n sum (w .store .rec)) (settle (fallHeader N s n ∷ []) s) (w .store .rec .power - 2) 2
-        (record { written = logD (blockAt s) n; pending = nothing }) (reopened 2 (w .plain)) b
-        (record {
-          call = D;
-          plain = plain ∙ recover-fallback (w .plain) f (omega (arith, b .power));
-          ledger = ap (λ (x : Outcome). noted (recoverHeaders (w .store)) (x .orders) (w .ledger)) D ∙ note-done;
-          left = l;
-          size = length-settle (fallHeader N s n ∷ []) s;
-          mode = refl;
-          blocks = refl;
-          open-count = omega arith;
-          group-count = omega arith;
-          open-data = tt;
-          group-data = tt;
-          open-distinct = tt;
-          group-distinct = tt;
-          sum = ap (sumOf start) (card .same);
-          card = card;
-          pending = refl;
-          plain-mode = refl;
-          plain-N = b .mirrors .N;
-          plain-waiting = b .mirrors .waiting ∙ none-waits;
-          plain-power = ap (λ (k : ℕ). k - 2) (b .power);
-          plain-T = o .T;
-          plain-G = o .G;
-          plain-n = refl;
-          plain-F = refl;
-          plain-short = o .short;
-          no-get = recover-no-get;
-        })
-
-    -- with less: k orders, q waiting
-    short : (k : ℕ) (q : List Entry) (l : Ledger) → w .store .rec .power ≡ k → k < 2
-        → Left (cardIn (w .store)) (run (fallbackOrders (w .store .rec .blocks) n sum) (cardIn (w .store))) s q 0 → length q ≡ k
-        → Rattle.card.proofs.All.All (λ e. e .address < w .store .rec .blocks) q
-        → noted (recoverHeaders (w .store)) k (w .ledger) ≡ l
-        → ((ms : List ℕ) → length ms ≡ k → CutLeads ms (downState (run (fallbackOrders (w .store .rec .blocks) n sum) (cardIn (w .store))) (w .store .rec) (w .store)) l
-        (record { N = w .plain .N; S = w .plain .S; G = w .plain .G; T = w .plain .T; n = w .plain .n; mode = 2; power = 0; waiting = k; short = ofRecover k; F = w .plain .F }))
-        → StepOK recover w
-    unfolding entered
-    short k q l p z left size low note cuts =
-        let N = w .store .rec .blocks in
-        let e : length (fallbackOrders N n sum) ≡ 2 = length-fallback N n sum in
-        let D : recoverCall (w .store) ≡ record { answer = 4; orders = w .store .rec .power; state = downState (run (fallbackOrders N n sum) (cardIn (w .store))) (w .store .rec) (w .store) } =
-        call _ chosen ∙ carried-short (fallbackOrders N n sum) (found n sum (w .store .rec)) (w .store .rec) (w .store) (omega arith) in
-        let P : w .plain .power ≡ k = b .power ∙ p in
-        cut-short-step recover w (run (fallbackOrders N n sum) (cardIn (w .store))) (w .store .rec) q s (ofRecover k) k l b
-        (record {
-          call = D;
-          plain = plain ∙ recover-short (w .plain) f (omega arith)
-              ∙ (λ i. record { answer = 4; orders = w .plain .power; plain = record { N = w .plain .N; S = w .plain .S; G = w .plain .G; T = w .plain .T; n = w .plain .n; mode = 2; power = 0; waiting = P i; short = ofRecover (P i); F = w .plain .F } });
-          ledger = ap (λ (x : Outcome). noted (recoverHeaders (w .store)) (x .orders) (w .ledger)) D ∙ ap (λ (x : ℕ). noted (recoverHeaders (w .store)) x (w .ledger)) p ∙ note;
-          left = left;
-          size = refl;
-          few = omega arith;
-          low = low;
-          blocks = refl;
-          open-count = rc .open-count;
-          group-count = rc .group-count;
-          log-count = rc .log-count;
-          waiting = sym size;
-          cuts = λ ms y. cuts ms (y ∙ size);
-          no-get = recover-no-get;
-        })
-
-    gone : w .store .rec .power < 2 → StepOK recover w
+    -- before the header
+    still : CutsAt w (recoverHeaders st) ofRecover (λ k. k) s [] 0
     unfolding resolved
-    gone p = go (ℕ-discrete (w .store .rec .power) 0)
-      where
-        N : ℕ
-        N = w .store .rec .blocks
+    still = record {
+      waiting = refl;
+      leads = λ c l ms y.
+          rw (noted-none (recoverHeaders st) (settledLedger v))
+          (leads-still _ _ (unchanged n F) (choose-recover-none n 0 F (headerKept ms 0) _) refl
+          (rw e (fall-still N s n v S _ c 0 ms big (rc .blocks) r l y)));
+    }
 
-        go : Dec (w .store .rec .power ≡ 0) → StepOK recover w
-        go (yes z) =
-            let l = fallback-short (cardIn (w .store)) (w .store .rec .blocks) n sum none-waits room (omega arith) in
-            let left : Left (cardIn (w .store)) (run (fallbackOrders (w .store .rec .blocks) n sum) (cardIn (w .store))) s [] 0 =
-            record { settled = l .settled; waits = l .waits ∙ ap (λ (k : ℕ). take k (fallHeader (w .store .rec .blocks) s n ∷ [])) z; count = l .count ∙ ap (λ (k : ℕ). length (take k (fallHeader (w .store .rec .blocks) s n ∷ []))) z; power = l .power; room = l .room } in
-            short 0 [] (w .ledger) z (omega arith) left refl tt (noted-none (recoverHeaders (w .store)) (w .ledger))
-            (λ ms y.
-            rw (o .pending)
-            (leads-still _ _ (unchanged n (w .plain .F)) (choose-recover-none n (length (w .plain .G)) (w .plain .F) (headerKept ms 0) _) refl
-            (rw f (fall-still (w .store .rec .blocks) s n (w .ledger .written) (w .plain .S) (cardIn (w .store)) _ 0 ms big (rc .blocks) r left y))))
-        go (no z) =
-            let l = fallback-short (cardIn (w .store)) (w .store .rec .blocks) n sum none-waits room (omega arith) in
-            let one : w .store .rec .power ≡ 1 = omega arith in
-            let left : Left (cardIn (w .store)) (run (fallbackOrders (w .store .rec .blocks) n sum) (cardIn (w .store))) s (fallHeader (w .store .rec .blocks) s n ∷ []) 0 =
-            record { settled = l .settled; waits = l .waits ∙ ap (λ (k : ℕ). take k (fallHeader (w .store .rec .blocks) s n ∷ [])) one; count = l .count ∙ ap (λ (k : ℕ). length (take k (fallHeader (w .store .rec .blocks) s n ∷ []))) one; power = l .power; room = l .room } in
-            short 1 (fallHeader (w .store .rec .blocks) s n ∷ []) (record { written = w .ledger .written; pending = waits 0 (logD (blockAt s) n) }) one (omega arith) left refl (omega (arith, big), tt) note-written
-            (λ ms y.
-            leads-still _ _ (unchanged n (not (eqb (getD ms 0 0) 1)))
-            (choose-recover n (length (w .plain .G)) (w .plain .F) (headerKept ms 1) _ ∙ ap (λ (t : Bool). unchanged n (not t)) (kept-mark ms 1 0 refl)) refl
-            (fall-cuts (w .store .rec .blocks) s n (w .ledger .written) (w .plain .S) (cardIn (w .store)) _ ms big (rc .blocks) r header-whole left y (eqb (getD ms 0 0) 1) refl))
+    -- behind it
+    note-top : noted (recoverHeaders st) 1 (settledLedger v) ≡ record { written = v; pending = waits 0 (logD (blockAt s) n) }
+    unfolding recoverHeaders noted
+    note-top = ap (λ (y : List Entry). record { written = v; pending = waits 0 y }) list
+
+    headed : CutsAt w (recoverHeaders st) ofRecover (λ k. k) s (top ∷ []) 1
+    unfolding resolved
+    headed = record {
+      waiting = refl;
+      leads = λ c l ms y.
+          rw note-top
+          (leads-still _ _ (unchanged n (not (eqb (getD ms 0 0) 1)))
+          (choose-recover n 0 F (headerKept ms 1) _ ∙ ap (λ (t : Bool). unchanged n (not t)) (kept-mark ms 1 0 refl)) refl
+          (fall-cuts N s n v S _ c ms big (rc .blocks) r top-whole l y (eqb (getD ms 0 0) 1) refl));
+    }
+
+    cuts : (j k : ℕ) → j ≤ 1 → k ≡ 0 + j → CutsAt w (recoverHeaders st) ofRecover (λ k. k) s (take j (top ∷ [])) k
+    cuts zero k h y = subst (CutsAt w (recoverHeaders st) ofRecover (λ k. k) s []) (let z : 0 ≡ k = omega arith in z) still
+    cuts (suc zero) k h y = subst (CutsAt w (recoverHeaders st) ofRecover (λ k. k) s (top ∷ [])) (let z : 1 ≡ k = omega arith in z) headed
+    cuts (suc (suc j)) k h y = absurd (omega arith)
+
+    fallen : WholeCard N (blockAt (settle (top ∷ []) s)) (logD (blockAt s) n) S n
+    fallen = fallen-card N s v S n (settle (top ∷ []) s) big r (λ a q. settled-laid (top ∷ []) s (settle (top ∷ []) s) a refl (omega (arith, rc .blocks)) (top-whole, tt))
+
+    fallback : Gives recover w plan
+    unfolding entered recoverHeaders noted
+    fallback = record {
+      done = reopened n (sumOf start (logD (blockAt s) n)) (st .rec);
+      gone = st .rec;
+      call = call _ chosen ∙ rw (fallback-writes N n (sumOf start (logD (blockAt s) n)));
+      none-waits = idle;
+      fits = (record { few = omega arith; whole = (top-whole, tt); low = (omega (arith, big), tt) }, tt);
+      counts = countable st rc (st .rec .logged) (st .rec .sum) (rc .log-count);
+      headers = recoverHeaders st;
+      notes = refl;
+      short = ofRecover;
+      waits = λ k. k;
+      S = S;
+      plain-done = λ p. plain ∙ recover-fallback d e p;
+      plain-short = λ p. plain ∙ recover-short d e p;
+      cuts = (cuts, tt);
+      list = logD (blockAt s) n;
+      noted-all = ap settledLedger list;
+      mode = refl;
+      blocks = refl;
+      opened = none-listed _ _ _;
+      grouped = none-listed _ _ _;
+      sum = ap (sumOf start) (fallen .same);
+      card = fallen;
+      no-get = recover-no-get;
+    }
+
+recover-closed : (st : State) (v : List Entry) (S : Disk) (n : ℕ) (F x : Bool) → Closed st v S n F → StepOK recover (closedWorld st v S n F x)
+recover-closed st v S n false x f = gives-step recover _ _ (f .basics) (whole st v S n false x f refl (f .sim .card))
+recover-closed st v S n true x f = gives-step recover _ _ (f .basics) (fallback st v S n true x f refl (f .sim .card))
 
 pub recover-step : (w : World) → WorldSim w → StepOK recover w
 recover-step w m = go (ℕ-discrete (refusal recover (w .plain)) 0)
   where
-    by : (F : Bool) → w .plain .F ≡ F → Dec (w .store .rec .power < 2) → refusal recover (w .plain) ≡ 0 → ClosedSim (w .store) (w .ledger) (w .plain) → StepOK recover w
-    by false f p h o = whole w m h o f (rw f at (o .card))
-    by true f (yes p) h o = gone w m h o f (rw f at (o .card)) p
-    by true f (no p) h o = fallback w m h o f (rw f at (o .card)) (omega arith)
-
     go : Dec (refusal recover (w .plain) ≡ 0) → StepOK recover w
     go (no h) = refused-step recover w m h
     go (yes h) =
-        by (w .plain .F) refl (decLt (w .store .rec .power) 2) h
-        (is-closed (w .store) (w .ledger) (w .plain) m (cause-passes Request.recover (w .store) (same-cause (w .store) (w .ledger) (w .plain) m recover ∙ h)))
+        let o : ClosedSim (w .store) (w .ledger) (w .plain) = is-closed (w .store) (w .ledger) (w .plain) m (cause-passes Request.recover (w .store) (same-cause (w .store) (w .ledger) (w .plain) m recover ∙ h)) in
+        subst (StepOK recover) (sym (closed-world w (m .basics) o)) (recover-closed (w .store) (w .ledger .written) (w .plain .S) (w .plain .n) (w .plain .F) (w .excepted) (shut w (m .basics) o))

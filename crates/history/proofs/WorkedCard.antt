@@ -24,7 +24,7 @@ use Rattle.history.proofs.Batches.{Left}
 use Rattle.history.proofs.AfterCut.{foundIn, found-log}
 use Rattle.history.proofs.Crashes.{header-kept}
 use Rattle.history.proofs.CallCuts.{cut-laid, settled-laid}
-use Rattle.history.proofs.AppendEnds.{AppendBase, wide, writes-whole}
+use Rattle.history.proofs.AppendEnds.{Appends, wide, writes-whole}
 
 -- "a sync writes the slots from its new count on […] as zero"
 describe-beyond : (old : List ℕ) (n : ℕ) (es : List Entry) (i : ℕ) → 4 * n ≤ length old → n + length es ≤ i → 4 * i + 4 ≤ blockBytes
@@ -48,7 +48,7 @@ no-number : num (replicate 4 0) ≡ 0
 no-number = rw (num-cons, num-cons, num-cons, num-cons, num-nil)
 
 -- after a first append of one entry the descriptor has 0 in its second place
-pub second-zero : {N : ℕ} {s : List ℕ} {h : ℕ} {e : Entry} {v : List Entry} {S : Disk} {c₀ c : Card} {p : ℕ} → AppendBase N s 0 h (e ∷ []) v S c₀ c p
+pub second-zero : {N : ℕ} {s : List ℕ} {h : ℕ} {e : Entry} {v : List Entry} {S : Disk} → Appends N s 0 h (e ∷ []) v S
     → num (cell 4 (blockAt (settle (appendWrites N s 0 h (e ∷ [])) s) descriptorAt) 1) ≡ 0
 unfolding overlay lay slotBlocks
 second-zero {N} {s} {h} {e} x =
@@ -59,14 +59,14 @@ second-zero {N} {s} {h} {e} x =
     ∙ no-number
 
 -- a second one, whose descriptor alone is lost: the new block is found under the address that stood there
-pub torn-found : {N : ℕ} {s : List ℕ} {h : ℕ} {e : Entry} {v : List Entry} {S : Disk} {c₀ c : Card} → AppendBase N s 1 h (e ∷ []) v S c₀ c 3
-    → (r : Card) → Left c₀ r s (take 3 (appendWrites N s 1 h (e ∷ []))) 0
+pub torn-found : {N : ℕ} {s : List ℕ} {h : ℕ} {e : Entry} {v : List Entry} {S : Disk} → Appends N s 1 h (e ∷ []) v S
+    → (c r : Card) → Left c r s (take 3 (appendWrites N s 1 h (e ∷ []))) 0
     → foundIn (cut (1 ∷ 0 ∷ 1 ∷ []) r .settled) ≡ slotE (blockAt s) 0 ∷ record { address = num (cell 4 (blockAt s descriptorAt) 1); block = e .block } ∷ []
 unfolding overlay lay slotBlocks kept slotE
-torn-found {N} {s} {h} {e} {v} {S} {c₀} x r f =
+torn-found {N} {s} {h} {e} {v} {S} x c r f =
     let ms : List ℕ = 1 ∷ 0 ∷ 1 ∷ [] in
     let laid : (a : ℕ) → a < N → blockAt (cut ms r .settled) a ≡ overlay (kept ms (appendWrites N s 1 h (e ∷ []))) (blockAt s) a =
-    λ a l. cut-laid c₀ r s (take 3 (appendWrites N s 1 h (e ∷ []))) 0 ms a f (omega (arith, x .size)) (all-take Whole 3 (appendWrites N s 1 h (e ∷ [])) (writes-whole x)) in
+    λ a l. cut-laid c r s (take 3 (appendWrites N s 1 h (e ∷ []))) 0 ms a f (omega (arith, x .size)) (all-take Whole 3 (appendWrites N s 1 h (e ∷ [])) (writes-whole x)) in
     found-log N s 1 h (e ∷ []) v S (x .big) (x .small) (x .size) (x .room) (x .sum) (x .card) (cut ms r .settled) (kept ms (appendWrites N s 1 h (e ∷ []))) laid
     (header-kept N s 1 h (e ∷ []) (x .room) (wide x) ms refl refl (x .sum))
     ∙ ap₂ (λ (a b : Entry). a ∷ b ∷ [])

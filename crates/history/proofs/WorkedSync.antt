@@ -2,7 +2,7 @@
 use Prim.Native.Nat.{ℕ, _+_, _≤_, _<_}
 use mathlib.Core.Path.{_≡_, refl, ap, ap₂, sym, _∙_}
 use mathlib.Core.Logic.{_≢_}
-use mathlib.Core.Bool.{Bool, true, cond}
+use mathlib.Core.Bool.{Bool, true, false, cond}
 use mathlib.Core.List.{List, [], _∷_, _++_}
 use native.Mathlib.Omega.{arith}
 use lib.ListN.{length, take}
@@ -13,31 +13,35 @@ use Rattle.card.specs.Disk.{Disk}
 use Rattle.card.specs.Card.{Card, run, cut, settle, blockAt}
 use Rattle.journal.specs.Layout.{descriptorAt, slots}
 use Rattle.journal.specs.Log.{entries}
-use Rattle.journal.specs.Orders.{appendOrders}
 use Rattle.journal.proofs.OrderLists.{appendWrites}
-use Rattle.store.specs.State.{Outcome, cardIn}
-use Rattle.store.specs.Saves.{groupOf}
+use Rattle.store.specs.State.{Outcome, down, withMode, withRecord, withCard, cardIn}
+use Rattle.store.specs.Saves.{groupOf, applies}
 use Rattle.history.specs.Call.{sync}
 use Rattle.history.specs.Plain.{Plain, refusal, headerKept}
+use Rattle.history.specs.Dispatch.{dispatch}
 use Rattle.history.specs.Ledger.{waits, syncHeaders, noted, entered, applyHeader, ownHeader, standing, inner, resolved, sameLog}
 use Rattle.history.specs.History.{World, storeNext, ledgerNext}
 use Rattle.history.specs.Statements.{allOnes}
 use Rattle.history.specs.Worked.{at40}
 use Rattle.history.proofs.Disks.{slotE, logD}
-use Rattle.history.proofs.Batches.{Left}
+use Rattle.history.proofs.Batches.{Left, length-append-writes}
+use Rattle.history.proofs.Plans.{planned, takes}
 use Rattle.history.proofs.AfterCut.{foundIn}
-use Rattle.history.proofs.AppendEnds.{AppendBase, short-left, done-left, done-card}
+use Rattle.history.proofs.AppendEnds.{Appends, done-card}
 use Rattle.history.proofs.Relation.{OpenSim, cutSettled, cutWritten}
 use Rattle.history.proofs.Steps.{WorldSim}
 use Rattle.history.proofs.OpenFacts as Facts
-use Rattle.history.proofs.SyncStep.{note-at, base, single, single-whole, single-gone, short-whole}
+use Rattle.history.proofs.Notes.{note-at}
+use Rattle.history.proofs.GivesStep.{Gives, gives-settled, short-call, stopped}
+use Rattle.history.proofs.Worlds.{openWorld, Opened, opened}
+use Rattle.history.proofs.SyncMeets.{single, met-itself}
+use Rattle.history.proofs.SyncStep.{gives, short-whole}
 use Rattle.history.proofs.ShortSyncs.{open-now}
 use Rattle.history.proofs.WorkedCard.{second-zero, torn-found}
 use Rattle.history.proofs.WorkedPlain.{openAt}
 
-base-at : {N : ℕ} {s : List ℕ} {n n′ h : ℕ} {G G′ v : List Entry} {S : Disk} {c₀ c : Card} {p p′ : ℕ} → n ≡ n′ → G ≡ G′ → p ≡ p′
-    → AppendBase N s n h G v S c₀ c p → AppendBase N s n′ h G′ v S c₀ c p′
-base-at a b e x = rw (← a, ← b, ← e) x
+base-at : {N : ℕ} {s : List ℕ} {n n′ h : ℕ} {G G′ v : List Entry} {S : Disk} → n ≡ n′ → G ≡ G′ → Appends N s n h G v S → Appends N s n′ h G′ v S
+base-at a b x = rw (← a, ← b) x
 
 module _ (w : World) (m : WorldSim w) (S : Disk) (b : List ℕ) (n p : ℕ) (few : n ≤ 1) (d : w .plain ≡ openAt S (at40 b ∷ []) [] n p) where
   served : refusal sync (w .plain) ≡ 0
@@ -68,8 +72,14 @@ module _ (w : World) (m : WorldSim w) (S : Disk) (b : List ℕ) (n p : ℕ) (few
   fits : w .store .rec .logged + length (groupOf (w .store)) ≤ slots
   fits = omega (arith, logged-is, size)
 
+  opening : Opened (w .store) (w .ledger .written) (w .plain .S)
+  opening = opened w (m .basics) o
+
+  alone : applies (w .store) ≡ false
+  alone = single (w .store) (w .ledger .written) (w .plain .S) (w .excepted) opening some fits
+
   pub no-inner : inner (w .store) ≡ 0
-  no-inner = ap (λ (t : Bool). cond t (w .store .rec .logged + 3) 0) (single w m served o some fits)
+  no-inner = ap (λ (t : Bool). cond t (w .store .rec .logged + 3) 0) alone
 
   abbrev N : ℕ
   N = w .store .rec .blocks
@@ -80,59 +90,74 @@ module _ (w : World) (m : WorldSim w) (S : Disk) (b : List ℕ) (n p : ℕ) (few
   abbrev h : ℕ
   h = w .store .rec .sum
 
-  base-now : AppendBase N s n h (at40 b ∷ []) (w .ledger .written) (w .plain .S) (cardIn (w .store)) (cardIn (w .store)) p
-  base-now = base-at logged-is group-is power-is (base w m served o some fits)
+  abbrev W : List Entry
+  W = appendWrites N s (w .store .rec .logged) h (groupOf (w .store))
+
+  length-W : length W ≡ length (groupOf (w .store)) + 2
+  length-W = length-append-writes N s (w .store .rec .logged) h (groupOf (w .store))
+
+  abbrev there : World
+  there = openWorld (w .store) (w .ledger .written) (w .plain .S) (w .excepted)
+
+  order : Gives sync there (W ∷ [])
+  unfolding met-itself
+  order = gives (w .store) (w .ledger .written) (w .plain .S) (w .excepted) opening some (met-itself (w .store) (w .ledger .written) (w .plain .S) (w .excepted) opening some fits)
+
+  base-now : Appends N s n h (at40 b ∷ []) (w .ledger .written) (w .plain .S)
+  unfolding met-itself
+  base-now = base-at logged-is group-is (met-itself (w .store) (w .ledger .written) (w .plain .S) (w .excepted) opening some fits .meets)
 
   -- done
   filed-settled : 4 ≤ p → storeNext sync w .settled ≡ settle (appendWrites N s n h (at40 b ∷ [])) s
   filed-settled l =
-      let q : length (groupOf (w .store)) + 3 ≤ w .store .rec .power = omega (arith, size, power-is) in
-      ap (λ (x : Outcome). x .state .settled) (single-whole w m served o some fits q)
-      ∙ done-left (base w m served o some fits) q .settled
+      gives-settled sync there (W ∷ []) (opening .basics) order (omega (arith, length-W, size, power-is))
       ∙ ap₂ (λ (k : ℕ) (G : List Entry). settle (appendWrites N s k h G) s) logged-is group-is
 
   -- cut short behind its header
   abbrev r : Card
-  r = run (appendOrders N s (w .store .rec .logged) h (groupOf (w .store))) (cardIn (w .store))
+  r = run (planned (W ∷ [])) (cardIn (w .store))
 
-  gone : p ≡ 3 → w .store .rec .power < length (groupOf (w .store)) + 3
-  gone e = omega (arith, size, power-is)
+  gone : p ≡ 3 → w .store .rec .power < takes (W ∷ [])
+  gone e = omega (arith, length-W, size, power-is)
 
   halted-left : p ≡ 3 → Left (cardIn (w .store)) r s (take p (appendWrites N s n h (at40 b ∷ []))) 0
   halted-left e =
-      let q : w .store .rec .power ≤ length (groupOf (w .store)) + 2 = omega (arith, size, power-is) in
-      left-at (λ i. take (power-is i) (appendWrites N s (logged-is i) h (group-is i))) (short-left (base w m served o some fits) q)
+      let x = stopped sync there (W ∷ []) (opening .basics) order (λ t q k. (t ≡ s) × (q ≡ take k W)) (w .store .rec .power) refl (gone e) (λ j i l z. (refl, ap (λ (k : ℕ). take k W) (let y : j ≡ i = omega arith in y)), tt) in
+      left-at (x .met .0) (x .met .1 ∙ (λ i. take (power-is i) (appendWrites N s (logged-is i) h (group-is i)))) (x .left)
     where
-      left-at : {c₀ c : Card} {t : List ℕ} {x y : List Entry} {k : ℕ} → x ≡ y → Left c₀ c t x k → Left c₀ c t y k
-      left-at a l = rw a at l
+      left-at : {c₀ c : Card} {t t′ : List ℕ} {x y : List Entry} {k : ℕ} → t ≡ t′ → x ≡ y → Left c₀ c t x k → Left c₀ c t′ y k
+      left-at a b l = rw (a, b) at l
+
+  halted-call : p ≡ 3 → dispatch sync (w .store) ≡ record { answer = 4; orders = w .store .rec .power; state = withCard r (withRecord (withMode down (order .gone)) (w .store)) }
+  halted-call e = short-call sync there (W ∷ []) (opening .basics) order (gone e)
 
   halted-settled : p ≡ 3 → (ms : List ℕ) → cutSettled ms (storeNext sync w) ≡ cut ms r .settled
-  halted-settled e ms = ap (λ (x : Outcome). cutSettled ms (x .state)) (single-gone w m served o some fits (gone e))
+  halted-settled e ms = ap (λ (x : Outcome). cutSettled ms (x .state)) (halted-call e)
 
   standing-is : standing (w .store) ≡ logD (blockAt s) n
   standing-is =
-      ap (λ (t : Bool). cond t [] (entries s (w .store .rec .logged))) (single w m served o some fits)
+      ap (λ (t : Bool). cond t [] (entries s (w .store .rec .logged))) alone
       ∙ Facts.entries-log (w .store) (w .ledger) (w .plain) (m .basics) o
       ∙ ap (logD (blockAt s)) logged-is
 
   halted-ledger : p ≡ 3 → ledgerNext sync w ≡ record { written = w .ledger .written; pending = waits 2 (logD (blockAt s) n ++ (at40 b ∷ [])) }
   unfolding entered syncHeaders
   halted-ledger e =
-      ap (λ (x : Outcome). noted (syncHeaders (w .store)) (x .orders) (w .ledger)) (single-gone w m served o some fits (gone e))
+      ap (λ (x : Outcome). noted (syncHeaders (w .store)) (x .orders) (w .ledger)) (halted-call e)
       ∙ ap (λ (t : Bool). noted (cond t (applyHeader (w .store) ∷ ownHeader (w .store) ∷ []) (ownHeader (w .store) ∷ [])) (w .store .rec .power) (w .ledger))
-      (single w m served o some fits)
+      alone
       ∙ note-at (ownHeader (w .store)) [] (w .store .rec .power) (w .ledger) (omega (arith, power-is, no-inner, grouped-is))
       ∙ (λ i. record { written = w .ledger .written; pending = waits (grouped-is i + 1) (standing-is i ++ group-is i) })
 
   halted-same : p ≡ 3 → (ms : List ℕ) → length ms ≡ 3 → allOnes ms ≡ true → sameLog (foundIn (cutSettled ms (storeNext sync w))) (cutWritten ms (ledgerNext sync w)) ≡ true
   halted-same e ms l a =
-      let D = single-gone w m served o some fits (gone e) in
+      let D = halted-call e in
       short-whole w m served o some (ap (λ (x : Outcome). x .answer) D) (ap (λ (x : Outcome). x .orders) D ∙ (omega (arith, power-is, no-inner, grouped-is))) ms (omega (arith, grouped-is)) a
 
 -- ---- the first sync
 
 module _ (w : World) (m : WorldSim w) (S : Disk) (b : List ℕ) (d : w .plain ≡ openAt S (at40 b ∷ []) [] 0 1000000) where
-  now : AppendBase (w .store .rec .blocks) (w .store .settled) 0 (w .store .rec .sum) (at40 b ∷ []) (w .ledger .written) (w .plain .S) (cardIn (w .store)) (cardIn (w .store)) 1000000
+  now : Appends (w .store .rec .blocks) (w .store .settled) 0 (w .store .rec .sum) (at40 b ∷ []) (w .ledger .written) (w .plain .S)
   now = base-now w m S b 0 1000000 (omega arith) d
 
   settled-now : storeNext sync w .settled ≡ settle (appendWrites (w .store .rec .blocks) (w .store .settled) 0 (w .store .rec .sum) (at40 b ∷ [])) (w .store .settled)
@@ -159,7 +184,7 @@ module _ (w : World) (m : WorldSim w) (S : Disk) (b : List ℕ) (d : w .plain �
       ≡ slotE (blockAt (w .store .settled)) 0 ∷ record { address = num (cell 4 (blockAt (w .store .settled) descriptorAt) 1); block = b } ∷ []
   halted-torn =
       ap foundIn (halted-settled w m S b 1 3 (omega arith) d refl (1 ∷ 0 ∷ 1 ∷ []))
-      ∙ torn-found (base-now w m S b 1 3 (omega arith) d) (r w m S b 1 3 (omega arith) d) (halted-left w m S b 1 3 (omega arith) d refl)
+      ∙ torn-found (base-now w m S b 1 3 (omega arith) d) (cardIn (w .store)) (r w m S b 1 3 (omega arith) d) (halted-left w m S b 1 3 (omega arith) d refl)
 
   pub halted-whole : (ms : List ℕ) → length ms ≡ 3 → allOnes ms ≡ true → sameLog (foundIn (cutSettled ms (storeNext sync w))) (cutWritten ms (ledgerNext sync w)) ≡ true
   halted-whole ms l a = halted-same w m S b 1 3 (omega arith) d refl ms l a

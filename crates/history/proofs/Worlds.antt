@@ -1,0 +1,112 @@
+-- An open world, and a closed one, written out: the plain disk and the ledger by the store's own record and lists.
+use Prim.Native.Nat.{ℕ}
+use mathlib.Core.Path.{_≡_, refl, sym, _∙_}
+use mathlib.Core.Logic.{_⊎_}
+use mathlib.Core.Bool.{Bool}
+use mathlib.Core.List.{List, []}
+use native.Mathlib.Omega.{arith}
+use Rattle.cells.specs.Entry.{Entry}
+use Rattle.card.specs.Disk.{Disk}
+use Rattle.store.specs.State.{State, closed}
+use Rattle.history.specs.Plain.{Plain, none}
+use Rattle.history.specs.Ledger.{Ledger, nothing}
+use Rattle.history.specs.History.{World}
+use Rattle.history.proofs.Relation.{Basics, OpenSim, ClosedSim, Sim}
+use Rattle.history.proofs.CauseLaws.{record-facts, idle}
+use Rattle.history.proofs.GivesStep.{openPlain}
+use Rattle.history.proofs.OpenFacts as Facts
+
+-- every header settled, the last one's list v
+abbrev pub settledLedger : List Entry → Ledger
+settledLedger v = record { written = v; pending = nothing }
+
+abbrev pub plainNow : State → Disk → Plain
+plainNow st S = openPlain st (st .rec) S (st .rec .power)
+
+abbrev pub openWorld : State → List Entry → Disk → Bool → World
+openWorld st v S x = record { store = st; ledger = settledLedger v; plain = plainNow st S; excepted = x }
+
+pub record Opened (st : State) (v : List Entry) (S : Disk) : Type 0 where
+  pub basics : Basics st (plainNow st S)
+  pub sim : OpenSim st (settledLedger v) (plainNow st S)
+
+pub opened-sim : {st : State} {v : List Entry} {S : Disk} → Opened st v S → Sim st (settledLedger v) (plainNow st S)
+opened-sim f = record { basics = f .basics; phase = _⊎_.inl (f .sim) }
+
+module _ (w : World) (b : Basics (w .store) (w .plain)) (o : OpenSim (w .store) (w .ledger) (w .plain)) where
+  idle-open : w .store .rec .waiting ≡ 0
+  idle-open = Facts.none-waits (w .store) (w .ledger) (w .plain) b o
+
+  pub open-world : w ≡ openWorld (w .store) (w .ledger .written) (w .plain .S) (w .excepted)
+  open-world = λ i. record {
+    store = w .store;
+    ledger = record { written = w .ledger .written; pending = o .pending i };
+    plain = record {
+      N = b .mirrors .N i;
+      S = w .plain .S;
+      G = b .mirrors .G (o .mode) i;
+      T = b .mirrors .T (o .mode) i;
+      n = o .n i;
+      mode = (b .mirrors .mode ∙ o .mode) i;
+      power = b .power i;
+      waiting = (b .mirrors .waiting ∙ idle-open) i;
+      short = o .short i;
+      F = o .F i;
+    };
+    excepted = w .excepted;
+  }
+
+  pub opened : Opened (w .store) (w .ledger .written) (w .plain .S)
+  opened = record {
+    basics = record { sizes = b .sizes; counts = b .counts; mirrors = record { mode = sym (o .mode); N = refl; waiting = sym idle-open; T = λ z. refl; G = λ z. refl }; power = refl };
+    sim = record { mode = o .mode; n = refl; F = refl; short = refl; pending = refl; sum = o .sum; card = o .card };
+  }
+
+-- ---- closed
+
+abbrev pub plainShut : State → Disk → ℕ → Bool → Plain
+plainShut st S n F = record { N = st .rec .blocks; S = S; G = []; T = []; n = n; mode = closed; power = st .rec .power; waiting = 0; short = none; F = F }
+
+abbrev pub closedWorld : State → List Entry → Disk → ℕ → Bool → Bool → World
+closedWorld st v S n F x = record { store = st; ledger = settledLedger v; plain = plainShut st S n F; excepted = x }
+
+pub record Closed (st : State) (v : List Entry) (S : Disk) (n : ℕ) (F : Bool) : Type 0 where
+  pub basics : Basics st (plainShut st S n F)
+  pub sim : ClosedSim st (settledLedger v) (plainShut st S n F)
+
+pub closed-sim : {st : State} {v : List Entry} {S : Disk} {n : ℕ} {F : Bool} → Closed st v S n F → Sim st (settledLedger v) (plainShut st S n F)
+closed-sim f = record { basics = f .basics; phase = _⊎_.inr (_⊎_.inl (f .sim)) }
+
+module _ (w : World) (b : Basics (w .store) (w .plain)) (o : ClosedSim (w .store) (w .ledger) (w .plain)) where
+  pub idle-closed : w .store .rec .waiting ≡ 0
+  idle-closed = idle (w .store) (record-facts (w .store) (b .counts)) (λ z. omega (arith, o .mode))
+
+  pub closed-world : w ≡ closedWorld (w .store) (w .ledger .written) (w .plain .S) (w .plain .n) (w .plain .F) (w .excepted)
+  closed-world = λ i. record {
+    store = w .store;
+    ledger = record { written = w .ledger .written; pending = o .pending i };
+    plain = record {
+      N = b .mirrors .N i;
+      S = w .plain .S;
+      G = o .G i;
+      T = o .T i;
+      n = w .plain .n;
+      mode = (b .mirrors .mode ∙ o .mode) i;
+      power = b .power i;
+      waiting = (b .mirrors .waiting ∙ idle-closed) i;
+      short = o .short i;
+      F = w .plain .F;
+    };
+    excepted = w .excepted;
+  }
+
+  pub shut : Closed (w .store) (w .ledger .written) (w .plain .S) (w .plain .n) (w .plain .F)
+  shut = record {
+    basics = record {
+      sizes = b .sizes;
+      counts = b .counts;
+      mirrors = record { mode = sym (o .mode); N = refl; waiting = sym idle-closed; T = λ z. absurd (omega (arith, o .mode)); G = λ z. absurd (omega (arith, o .mode)) };
+      power = refl;
+    };
+    sim = record { mode = o .mode; T = refl; G = refl; short = refl; pending = refl; card = o .card };
+  }
