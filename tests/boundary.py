@@ -55,22 +55,24 @@ FIELDS = {
     "TRAPCARD_RECORD_SUM": "sum",
 }
 
-# Constants that are rows of the table of causes: what the test of that row, and of no other, names; in braces a case of the
-# choice, which stands for its number. These are all rows.
-TABLE = ("store", "Causes", "table")
-CHOICE = ("journal", "Choice", "choiceNumber")
+# Constants that are rows of the table of causes: the definitions of the rows that they stand for. These are all rows.
+TABLE = ("store", "Causes")
 CAUSES = {
-    "TRAPCARD_ERR_SIZE": "wrongSizes",
-    "TRAPCARD_ERR_STATE": "wrongRecord",
-    "TRAPCARD_ERR_CLOSED": "closed",
-    "TRAPCARD_ERR_POWER": "down",
-    "TRAPCARD_ERR_OPEN": "openMode",
-    "TRAPCARD_ERR_ADDRESS": "strayAddress",
-    "TRAPCARD_ERR_FULL": "full",
-    "TRAPCARD_ERR_FOREIGN": "unsound {Foreign}",
-    "TRAPCARD_ERR_UNSOUND": "unsound {Neither}",
-    "TRAPCARD_ERR_MARKS": "wrongMarks",
+    "TRAPCARD_ERR_SIZE": ["sizeRow"],
+    "TRAPCARD_ERR_STATE": ["recordRow"],
+    "TRAPCARD_ERR_CLOSED": ["closedRow"],
+    "TRAPCARD_ERR_POWER": ["downRow"],
+    "TRAPCARD_ERR_OPEN": ["openRow"],
+    "TRAPCARD_ERR_ADDRESS": ["addressRow"],
+    "TRAPCARD_ERR_FULL": ["openFullRow", "groupFullRow"],
+    "TRAPCARD_ERR_FOREIGN": ["foreignRow"],
+    "TRAPCARD_ERR_UNSOUND": ["unsoundRow"],
+    "TRAPCARD_ERR_MARKS": ["marksRow"],
 }
+
+# Constants of rows whose test compares the number of the choice: the case of the choice that has that number.
+CHOICE = ("journal", "Choice", "choiceNumber")
+CHOSEN = {"TRAPCARD_ERR_FOREIGN": "Foreign", "TRAPCARD_ERR_UNSOUND": "Neither"}
 
 GUARD = "TRAPCARD_H"
 
@@ -188,25 +190,37 @@ def offsets():
 
 
 def rows():
-    """The table of causes: pairs of a number and a test."""
-    _, right = equation(*TABLE, 0)
-    found = re.findall(r"record \{ number = (\d+); test = λ [^.]*\. ([^{}]*?);? \}", right)
-    if len(found) != right.count("record {"):
-        unread("the table of causes")
-    return [(int(n), test) for n, test in found]
+    """The rows of the table of causes: the name of each with its number and its test."""
+    text = spec(*TABLE)
+    found = {}
+    for name in re.findall(r"^abbrev pub (\w+) : (?:[^\n]* → )?Row$", text, re.M):
+        right = [right for _, right in equations(*TABLE, name)]
+        row = len(right) == 1 and re.fullmatch(r"record \{ number = (\d+); test = ([^{};]*);? \}", right[0])
+        if not row:
+            unread("`%s`, a row of the table of causes" % name)
+        found[name] = (int(row[1]), row[2])
+    if len(found) != text.count("record {"):
+        unread("the table of causes: a row has no definition of its own")
+    return found
 
 
 def causes():
-    """Each constant of a cause with the number of its row."""
+    """Each constant of a cause with the number of its rows."""
     found, table = {}, rows()
-    for macro, words in CAUSES.items():
-        words = re.sub(r"\{(.*)\}", lambda case: str(clause(*CHOICE, case[1])), words)
-        named = [n for n, test in table if re.search(r"(?<![\w.])%s(?![\w.])" % re.escape(words), test)]
-        if len(named) != 1:
-            unread("the table of causes: %d rows test `%s`" % (len(named), words))
-        found[macro] = named[0]
-    if sorted(found.values()) != sorted(n for n, _ in table):
+    if sorted(name for names in CAUSES.values() for name in names) != sorted(table):
         raise SystemExit("boundary: a row of the table of causes has no constant of its own")
+    for macro, names in CAUSES.items():
+        numbers = set(table[name][0] for name in names)
+        if macro in CHOSEN:
+            chosen = clause(*CHOICE, CHOSEN[macro])
+            if not all(re.fullmatch(r"λ st\. eqb \(choiceNumber \(.*\)\) %d" % chosen, table[name][1]) for name in names):
+                unread("the rows of %s: they do not test for the number of %s" % (macro, CHOSEN[macro]))
+            numbers.add(chosen)
+        if len(numbers) != 1:
+            unread("the rows of %s: they have several numbers" % macro)
+        found[macro] = numbers.pop()
+    if len(set(found.values())) != len(found):
+        raise SystemExit("boundary: two constants have one number")
     return found
 
 

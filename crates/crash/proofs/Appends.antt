@@ -35,125 +35,125 @@ use Rattle.crash.proofs.Frames.{Aside, log-left, homes-left, whole-left
 
 -- ---- the writes of an append
 
-module _ (g : Geometry) (N : ℕ) (s : List ℕ) (n h : ℕ) (G : List Entry) where
+module _ (geo : Geometry) (N : ℕ) (s : List ℕ) (n h : ℕ) (G : List Entry) where
   -- all but the header
   abbrev pub front : List Entry
-  front = slotBlocks g n G ++ descriptors s n G
+  front = slotBlocks geo n G ++ descriptors s n G
 
   abbrev pub top : Entry
   top = headerEntry (header N n h (n + length G) (sumOf h G))
 
-  pub writes-split : appendWrites g N s n h G ≡ front ++ (top ∷ [])
-  writes-split = sym (append-assoc (slotBlocks g n G) (descriptors s n G) (top ∷ []))
+  pub writes-split : appendWrites geo N s n h G ≡ front ++ (top ∷ [])
+  writes-split = sym (append-assoc (slotBlocks geo n G) (descriptors s n G) (top ∷ []))
 
   pub length-front : length front ≡ length G + 1
-  length-front = length-append (slotBlocks g n G) (descriptors s n G) ∙ ap (λ (k : ℕ). k + 1) (length-slotBlocks g n G)
+  length-front = length-append (slotBlocks geo n G) (descriptors s n G) ∙ ap (λ (k : ℕ). k + 1) (length-slotBlocks geo n G)
 
-  module _ (room : n + length G ≤ g .slots) (long : 4 * n ≤ length (blockAt s descriptorAt)) where
-    front-aside : All (Aside g n (blockAt s)) front
+  module _ (room : n + length G ≤ geo .slots) (long : 4 * n ≤ length (blockAt s descriptorAt)) where
+    front-aside : All (Aside geo n (blockAt s)) front
     front-aside =
-        all-append (Aside g n (blockAt s)) (slotBlocks g n G) (descriptors s n G)
-        (all-map (λ e. slotAt g n ≤ e .address) (Aside g n (blockAt s))
-        (λ e q. record { names = λ z j l. absurd (omega (arith, g .single)); above = λ i l z. omega arith })
-        (slotBlocks g n G)
-        (slots-from g (slotAt g n) n G (omega arith)))
-        (record { names = λ z j l. describe-byte (blockAt s descriptorAt) n G j long l; above = λ i l z. omega (arith, g .single) }, tt)
+        all-append (Aside geo n (blockAt s)) (slotBlocks geo n G) (descriptors s n G)
+        (all-map (λ e. slotAt geo n ≤ e .address) (Aside geo n (blockAt s))
+        (λ e q. record { names = λ z j l. absurd (omega (arith, geo .single)); above = λ i l z. omega arith })
+        (slotBlocks geo n G)
+        (slots-from geo (slotAt geo n) n G (omega arith)))
+        (record { names = λ z j l. describe-byte (blockAt s descriptorAt) n G j long l; above = λ i l z. omega (arith, geo .single) }, tt)
 
-    top-aside : Aside g n (blockAt s) top
+    top-aside : Aside geo n (blockAt s) top
     top-aside = record { names = λ z j l. absurd (omega arith); above = λ i l z. omega arith }
 
     front-high : All (λ e. headerAt ≢ e .address) front
     front-high =
-        all-append (λ e. headerAt ≢ e .address) (slotBlocks g n G) (descriptors s n G)
-        (all-map (λ e. slotAt g n ≤ e .address) (λ e. headerAt ≢ e .address) (λ e q z. omega arith) (slotBlocks g n G) (slots-from g (slotAt g n) n G (omega arith)))
+        all-append (λ e. headerAt ≢ e .address) (slotBlocks geo n G) (descriptors s n G)
+        (all-map (λ e. slotAt geo n ≤ e .address) (λ e. headerAt ≢ e .address) (λ e q z. omega arith) (slotBlocks geo n G) (slots-from geo (slotAt geo n) n G (omega arith)))
         ((λ z. omega arith), tt)
 
     -- no write goes to a data block
-    front-homes : (a : ℕ) → isData g N a ≡ true → All (λ e. a ≢ e .address) front
+    front-homes : (a : ℕ) → isData geo N a ≡ true → All (λ e. a ≢ e .address) front
     front-homes a l =
-        all-append (λ e. a ≢ e .address) (slotBlocks g n G) (descriptors s n G)
-        (all-map (λ e. e .address < firstData g) (λ e. a ≢ e .address) (λ e q z. let u = data-above g N a l in omega arith) (slotBlocks g n G) (slots-below g (firstData g) n G (omega arith)))
-        ((λ z. let u = data-above g N a l in omega (arith, g .single)), tt)
+        all-append (λ e. a ≢ e .address) (slotBlocks geo n G) (descriptors s n G)
+        (all-map (λ e. e .address < firstData geo) (λ e. a ≢ e .address) (λ e q z. let u = data-above geo N a l in omega arith) (slotBlocks geo n G) (slots-below geo (firstData geo) n G (omega arith)))
+        ((λ z. let u = data-above geo N a l in omega (arith, geo .single)), tt)
 
-    module _ (big : firstData g < N) (size : length (blockAt s descriptorAt) ≡ blockBytes) (ms : List ℕ) (e : Disk) where
+    module _ (big : firstData geo < N) (size : length (blockAt s descriptorAt) ≡ blockBytes) (ms : List ℕ) (e : Disk) where
       -- without its header
-      pub lost : (w : List Entry) (S : Disk) (k : ℕ) → k ≤ length front → Leaves N ms (take k (appendWrites g N s n h G)) (blockAt s) e
-          → WholeCard g N (blockAt s) w S n → WholeCard g N e w S n
+      pub lost : (w : List Entry) (S : Disk) (k : ℕ) → k ≤ length front → Leaves N ms (take k (appendWrites geo N s n h G)) (blockAt s) e
+          → WholeCard geo N (blockAt s) w S n → WholeCard geo N e w S n
       lost w S k l v r =
-          let p : take k (appendWrites g N s n h G) ≡ take k front = ap (take k) writes-split ∙ take-append-le k front (top ∷ []) l in
+          let p : take k (appendWrites geo N s n h G) ≡ take k front = ap (take k) writes-split ∙ take-append-le k front (top ∷ []) l in
           let u : Leaves N ms (take k front) (blockAt s) e = rw p at v in
-          whole-left g N ms (take k front) (blockAt s) e w S n big u size (all-take (Aside g n (blockAt s)) k front front-aside)
+          whole-left geo N ms (take k front) (blockAt s) e w S n big u size (all-take (Aside geo n (blockAt s)) k front front-aside)
           (u .untouched headerAt (omega arith) (all-take (λ x. headerAt ≢ x .address) k front front-high))
           (λ a q. all-take (λ x. a ≢ x .address) k front (front-homes a q)) r
 
-      module _ (v : Leaves N ms (appendWrites g N s n h G) (blockAt s) e) where
-        all-aside : All (Aside g n (blockAt s)) (appendWrites g N s n h G)
-        all-aside = rw writes-split (all-append (Aside g n (blockAt s)) front (top ∷ []) front-aside (top-aside, tt))
+      module _ (v : Leaves N ms (appendWrites geo N s n h G) (blockAt s) e) where
+        all-aside : All (Aside geo n (blockAt s)) (appendWrites geo N s n h G)
+        all-aside = rw writes-split (all-append (Aside geo n (blockAt s)) front (top ∷ []) front-aside (top-aside, tt))
 
-        all-homes : (a : ℕ) → isData g N a ≡ true → All (λ x. a ≢ x .address) (appendWrites g N s n h G)
-        all-homes a q = rw writes-split (all-append (λ x. a ≢ x .address) front (top ∷ []) (front-homes a q) ((λ z. let u = data-above g N a q in omega arith), tt))
+        all-homes : (a : ℕ) → isData geo N a ≡ true → All (λ x. a ≢ x .address) (appendWrites geo N s n h G)
+        all-homes a q = rw writes-split (all-append (λ x. a ≢ x .address) front (top ∷ []) (front-homes a q) ((λ z. let u = data-above geo N a q in omega arith), tt))
 
         -- its header was written, and lost
-        pub header-lost : (w : List Entry) (S : Disk) → keptAt ms (length G + 1) ≡ false → WholeCard g N (blockAt s) w S n → WholeCard g N e w S n
+        pub header-lost : (w : List Entry) (S : Disk) → keptAt ms (length G + 1) ≡ false → WholeCard geo N (blockAt s) w S n → WholeCard geo N e w S n
         header-lost w S z r =
-            whole-left g N ms (appendWrites g N s n h G) (blockAt s) e w S n big v size all-aside
+            whole-left geo N ms (appendWrites geo N s n h G) (blockAt s) e w S n big v size all-aside
             (v .lost-header front [] top writes-split front-high tt (ap (keptAt ms) length-front ∙ z)) all-homes r
 
         -- its header was written, and kept
-        pub header-kept : keptAt ms (length G + 1) ≡ true → h ≡ sumOf start (logD g (blockAt s) n) → Appended g N (blockAt s) e n h G
+        pub header-kept : keptAt ms (length G + 1) ≡ true → h ≡ sumOf start (logD geo (blockAt s) n) → Appended geo N (blockAt s) e n h G
         header-kept z q = record {
           head = v .kept-header front [] top writes-split refl tt (ap (keptAt ms) length-front ∙ z);
-          log = log-left g N ms (appendWrites g N s n h G) n (blockAt s) e big v (omega arith) size all-aside;
-          homes = λ a l. homes-left g N ms (appendWrites g N s n h G) n (blockAt s) e big v a l (all-homes a l);
+          log = log-left geo N ms (appendWrites geo N s n h G) n (blockAt s) e big v (omega arith) size all-aside;
+          homes = λ a l. homes-left geo N ms (appendWrites geo N s n h G) n (blockAt s) e big v a l (all-homes a l);
           sum = q;
           room = room;
         }
 
-slots-laid : (g : Geometry) (n : ℕ) (G : List Entry) (d : Disk) (i : ℕ) (x : Entry) → i < length G → overlay (slotBlocks g n G) d (slotAt g (n + i)) ≡ getD G i x .block
+slots-laid : (geo : Geometry) (n : ℕ) (G : List Entry) (d : Disk) (i : ℕ) (x : Entry) → i < length G → overlay (slotBlocks geo n G) d (slotAt geo (n + i)) ≡ getD G i x .block
 unfolding slotBlocks overlay
-slots-laid g n (e ∷ G) d zero x h =
+slots-laid geo n (e ∷ G) d zero x h =
     rw (native.Mathlib.Nat.add-zero)
-    (overlay-other (slotBlocks g (suc n) G) (lay (slotBlock g n e) d) (slotAt g n) (all-map (λ f. slotAt g (suc n) ≤ f .address) (λ f. slotAt g n ≢ f .address) (λ f q z. omega arith) (slotBlocks g (suc n) G) (slots-from g (slotAt g (suc n)) (suc n) G (omega arith)))
-    ∙ lay-same (slotBlock g n e) d (slotAt g n) refl)
-slots-laid g n (e ∷ G) d (suc i) x h =
-    rw (native.Mathlib.Nat.add-suc, ← native.Mathlib.Nat.suc-add n i) (slots-laid g (suc n) G (lay (slotBlock g n e) d) i x (omega arith))
+    (overlay-other (slotBlocks geo (suc n) G) (lay (slotBlock geo n e) d) (slotAt geo n) (all-map (λ f. slotAt geo (suc n) ≤ f .address) (λ f. slotAt geo n ≢ f .address) (λ f q z. omega arith) (slotBlocks geo (suc n) G) (slots-from geo (slotAt geo (suc n)) (suc n) G (omega arith)))
+    ∙ lay-same (slotBlock geo n e) d (slotAt geo n) refl)
+slots-laid geo n (e ∷ G) d (suc i) x h =
+    rw (native.Mathlib.Nat.add-suc, ← native.Mathlib.Nat.suc-add n i) (slots-laid geo (suc n) G (lay (slotBlock geo n e) d) i x (omega arith))
 
 -- ---- all of them kept: the log found is the log written
 
-module _ (g : Geometry) (N : ℕ) (s : List ℕ) (n h : ℕ) (G : List Entry) (room : n + length G ≤ g .slots) (long : 4 * n ≤ length (blockAt s descriptorAt)) (low : All NarrowAddress G)
-    (big : firstData g < N) (size : length (blockAt s descriptorAt) ≡ blockBytes) (ms : List ℕ) (e : Disk) (v : Leaves N ms (appendWrites g N s n h G) (blockAt s) e) (all : allKept ms ≡ true) where
-  over : (a : ℕ) → a < N → a ≢ descriptorAt → a ≢ headerAt → e a ≡ overlay (slotBlocks g n G) (blockAt s) a
+module _ (geo : Geometry) (N : ℕ) (s : List ℕ) (n h : ℕ) (G : List Entry) (room : n + length G ≤ geo .slots) (long : 4 * n ≤ length (blockAt s descriptorAt)) (low : All NarrowAddress G)
+    (big : firstData geo < N) (size : length (blockAt s descriptorAt) ≡ blockBytes) (ms : List ℕ) (e : Disk) (v : Leaves N ms (appendWrites geo N s n h G) (blockAt s) e) (all : allKept ms ≡ true) where
+  over : (a : ℕ) → a < N → a ≢ descriptorAt → a ≢ headerAt → e a ≡ overlay (slotBlocks geo n G) (blockAt s) a
   over a b p q =
       v .whole all a b
-      ∙ ap (λ (f : Disk). f a) (overlay-append (slotBlocks g n G) (descriptorEntry s n G ∷ top g N s n h G ∷ []) (blockAt s))
-      ∙ overlay-other (descriptorEntry s n G ∷ top g N s n h G ∷ []) (overlay (slotBlocks g n G) (blockAt s)) a (p, (q, tt))
+      ∙ ap (λ (f : Disk). f a) (overlay-append (slotBlocks geo n G) (descriptorEntry s n G ∷ top geo N s n h G ∷ []) (blockAt s))
+      ∙ overlay-other (descriptorEntry s n G ∷ top geo N s n h G ∷ []) (overlay (slotBlocks geo n G) (blockAt s)) a (p, (q, tt))
 
   described : e descriptorAt ≡ describe (blockAt s descriptorAt) n G
   described =
-      v .whole all descriptorAt (omega (arith, g .single))
-      ∙ ap (λ (f : Disk). f descriptorAt) (overlay-append (slotBlocks g n G) (descriptorEntry s n G ∷ top g N s n h G ∷ []) (blockAt s)
-      ∙ overlay-cons (descriptorEntry s n G) (top g N s n h G ∷ []) (overlay (slotBlocks g n G) (blockAt s)))
-      ∙ overlay-other (top g N s n h G ∷ []) (lay (descriptorEntry s n G) (overlay (slotBlocks g n G) (blockAt s))) descriptorAt ((λ z. omega arith), tt)
-      ∙ lay-same (descriptorEntry s n G) (overlay (slotBlocks g n G) (blockAt s)) descriptorAt refl
+      v .whole all descriptorAt (omega (arith, geo .single))
+      ∙ ap (λ (f : Disk). f descriptorAt) (overlay-append (slotBlocks geo n G) (descriptorEntry s n G ∷ top geo N s n h G ∷ []) (blockAt s)
+      ∙ overlay-cons (descriptorEntry s n G) (top geo N s n h G ∷ []) (overlay (slotBlocks geo n G) (blockAt s)))
+      ∙ overlay-other (top geo N s n h G ∷ []) (lay (descriptorEntry s n G) (overlay (slotBlocks geo n G) (blockAt s))) descriptorAt ((λ z. omega arith), tt)
+      ∙ lay-same (descriptorEntry s n G) (overlay (slotBlocks geo n G) (blockAt s)) descriptorAt refl
 
-  slot-found : (x : Entry) (i : ℕ) → i < length G → slotE g e (n + i) ≡ getD G i x
+  slot-found : (x : Entry) (i : ℕ) → i < length G → slotE geo e (n + i) ≡ getD G i x
   unfolding slotE
   slot-found x i l =
       entry-eq
       (ap (λ (b : List ℕ). num (cell 4 b (n + i))) described
       ∙ ap num (describe-new (blockAt s descriptorAt) n G i x long l)
       ∙ num-le 4 (getD G i x .address) (all-at NarrowAddress G i x l low))
-      (over (slotAt g (n + i)) (omega arith) (λ z. omega (arith, g .single)) (λ z. omega arith) ∙ slots-laid g n G (blockAt s) i x l)
+      (over (slotAt geo (n + i)) (omega arith) (λ z. omega (arith, geo .single)) (λ z. omega arith) ∙ slots-laid geo n G (blockAt s) i x l)
 
-  pub found-written : logD g e (n + length G) ≡ logD g (blockAt s) n ++ G
+  pub found-written : logD geo e (n + length G) ≡ logD geo (blockAt s) n ++ G
   found-written =
-      upTo-add (slotE g e) n (length G)
+      upTo-add (slotE geo e) n (length G)
       ∙ ap₂ (λ (a b : List Entry). a ++ b)
-      (same-log g n e (blockAt s) (log-left g N ms (appendWrites g N s n h G) n (blockAt s) e big v (omega arith) size (all-aside g N s n h G room long big size ms e v)))
+      (same-log geo n e (blockAt s) (log-left geo N ms (appendWrites geo N s n h G) n (blockAt s) e big v (omega arith) size (all-aside geo N s n h G room long big size ms e v)))
       (new G refl)
     where
-      new : (H : List Entry) → H ≡ G → upTo (λ i. slotE g e (n + i)) (length G) ≡ G
+      new : (H : List Entry) → H ≡ G → upTo (λ i. slotE geo e (n + i)) (length G) ≡ G
       new [] p = rw (sym p)
       new (x ∷ H) p =
-          ext-getD x (upTo (λ i. slotE g e (n + i)) (length G)) G (length-upTo (λ i. slotE g e (n + i)) (length G))
-          (λ i l. let k : i < length G = rw (length-upTo (λ i. slotE g e (n + i)) (length G)) at l in getD-upTo (λ i. slotE g e (n + i)) (length G) i x k ∙ slot-found x i k)
+          ext-getD x (upTo (λ i. slotE geo e (n + i)) (length G)) G (length-upTo (λ i. slotE geo e (n + i)) (length G))
+          (λ i l. let k : i < length G = rw (length-upTo (λ i. slotE geo e (n + i)) (length G)) at l in getD-upTo (λ i. slotE geo e (n + i)) (length G) i x k ∙ slot-found x i k)

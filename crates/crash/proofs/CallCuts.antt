@@ -40,119 +40,119 @@ left-leaves c r s q p N ms l some size f w =
 pub settled-leaves : (es : List Entry) (s : List ℕ) (N : ℕ) → 0 < N → N ≡ blocksIn s → All Whole es → Leaves N (ones (length es)) es (blockAt s) (blockAt (settle es s))
 settled-leaves es s N some size w = rw size (settle-leaves es s (omega arith) w)
 
-module _ (g : Geometry) where
+module _ (geo : Geometry) where
   -- ---- an append
 
   module _ (N : ℕ) (s : List ℕ) (n h : ℕ) (G : List Entry) (w : List Entry) (S : Disk)
-      (big : firstData g < N) (small : N < 2 ^ 32) (size : N ≡ blocksIn s) (room : n + length G ≤ g .slots)
-      (sum : h ≡ sumOf start (logD g (blockAt s) n)) (card : WholeCard g N (blockAt s) w S n) (whole : All Whole (appendWrites g N s n h G)) where
+      (big : firstData geo < N) (small : N < 2 ^ 32) (size : N ≡ blocksIn s) (room : n + length G ≤ geo .slots)
+      (sum : h ≡ sumOf start (logD geo (blockAt s) n)) (card : WholeCard geo N (blockAt s) w S n) (whole : All Whole (appendWrites geo N s n h G)) where
     -- done
-    done-leaves : Leaves N (ones (length (appendWrites g N s n h G))) (appendWrites g N s n h G) (blockAt s) (blockAt (settle (appendWrites g N s n h G) s))
-    done-leaves = settled-leaves (appendWrites g N s n h G) s N (omega arith) size whole
+    done-leaves : Leaves N (ones (length (appendWrites geo N s n h G))) (appendWrites geo N s n h G) (blockAt s) (blockAt (settle (appendWrites geo N s n h G) s))
+    done-leaves = settled-leaves (appendWrites geo N s n h G) s N (omega arith) size whole
 
-    pub done-card : All NarrowAddress G → allData g N G ≡ true
-        → WholeCard g N (blockAt (settle (appendWrites g N s n h G) s)) (logD g (blockAt s) n ++ G) (overlay G S) (n + length G)
+    pub done-card : All NarrowAddress G → allData geo N G ≡ true
+        → WholeCard geo N (blockAt (settle (appendWrites geo N s n h G) s)) (logD geo (blockAt s) n ++ G) (overlay G S) (n + length G)
     done-card low m =
-        append-all g N s n h G w S big small size room sum card (settle (appendWrites g N s n h G) s) (ones (length (appendWrites g N s n h G))) done-leaves
-        (ones-kept (length (appendWrites g N s n h G))) low m
+        append-all geo N s n h G w S big small size room sum card (settle (appendWrites geo N s n h G) s) (ones (length (appendWrites geo N s n h G))) done-leaves
+        (ones-kept (length (appendWrites geo N s n h G))) low m
 
-    pub done-append : All NarrowAddress G → Appended g N (blockAt s) (blockAt (settle (appendWrites g N s n h G) s)) n h G
+    pub done-append : All NarrowAddress G → Appended geo N (blockAt s) (blockAt (settle (appendWrites geo N s n h G) s)) n h G
     done-append low =
-        on-card g N s n h G w S big small size room sum card (settle (appendWrites g N s n h G) s) (ones (length (appendWrites g N s n h G))) done-leaves
-        (kept-top g N s n h G w S big small size room sum card (settle (appendWrites g N s n h G) s) (ones (length (appendWrites g N s n h G))) done-leaves
-        (ones-kept (length (appendWrites g N s n h G))) low)
+        on-card geo N s n h G w S big small size room sum card (settle (appendWrites geo N s n h G) s) (ones (length (appendWrites geo N s n h G))) done-leaves
+        (kept-top geo N s n h G w S big small size room sum card (settle (appendWrites geo N s n h G) s) (ones (length (appendWrites geo N s n h G))) done-leaves
+        (ones-kept (length (appendWrites geo N s n h G))) low)
 
     -- cut short after k writes
-    module _ (c r : Card) (k : ℕ) (left : Left c r s (take k (appendWrites g N s n h G)) 0) (ms : List ℕ) (fit : marksFit ms (length (take k (appendWrites g N s n h G))) ≡ true) where
-      part-left : Leaves N ms (take k (appendWrites g N s n h G)) (blockAt s) (blockAt (cut ms r .settled))
-      part-left = left-leaves c r s (take k (appendWrites g N s n h G)) 0 N ms left (omega arith) size fit (all-take Whole k (appendWrites g N s n h G) whole)
+    module _ (c r : Card) (k : ℕ) (left : Left c r s (take k (appendWrites geo N s n h G)) 0) (ms : List ℕ) (fit : marksFit ms (length (take k (appendWrites geo N s n h G))) ≡ true) where
+      part-left : Leaves N ms (take k (appendWrites geo N s n h G)) (blockAt s) (blockAt (cut ms r .settled))
+      part-left = left-leaves c r s (take k (appendWrites geo N s n h G)) 0 N ms left (omega arith) size fit (all-take Whole k (appendWrites geo N s n h G) whole)
 
       -- before its header
-      pub append-cuts : k ≤ length G + 1 → Leads g N (cut ms r .settled) w S n false
-      append-cuts l = append-front g N s n h G w S big small size room sum card (cut ms r .settled) ms k l part-left
+      pub append-cuts : k ≤ length G + 1 → Leads geo N (cut ms r .settled) w S n false
+      append-cuts l = append-front geo N s n h G w S big small size room sum card (cut ms r .settled) ms k l part-left
 
       module _ (e : k ≡ length G + 2) where
-        all-left : Leaves N ms (appendWrites g N s n h G) (blockAt s) (blockAt (cut ms r .settled))
+        all-left : Leaves N ms (appendWrites geo N s n h G) (blockAt s) (blockAt (cut ms r .settled))
         all-left =
-            let q : length (appendWrites g N s n h G) ≡ length G + 2 = length-append-writes g N s n h G in
-            rw (take-all k (appendWrites g N s n h G) (omega arith)) at part-left
+            let q : length (appendWrites geo N s n h G) ≡ length G + 2 = length-append-writes geo N s n h G in
+            rw (take-all k (appendWrites geo N s n h G) (omega arith)) at part-left
 
         -- its header lost
-        pub append-cuts-lost : keptAt ms (length G + 1) ≡ false → Leads g N (cut ms r .settled) w S n false
-        append-cuts-lost z = append-header-lost g N s n h G w S big small size room sum card (cut ms r .settled) ms all-left z
+        pub append-cuts-lost : keptAt ms (length G + 1) ≡ false → Leads geo N (cut ms r .settled) w S n false
+        append-cuts-lost z = append-header-lost geo N s n h G w S big small size room sum card (cut ms r .settled) ms all-left z
 
         -- its header kept, and the log found is the log written
-        pub append-cuts-new : keptAt ms (length G + 1) ≡ true → allData g N G ≡ true → sameLog (foundIn g (cut ms r .settled)) (logD g (blockAt s) n ++ G) ≡ true
-            → Leads g N (cut ms r .settled) (logD g (blockAt s) n ++ G) (overlay G S) (n + length G) false
-        append-cuts-new z m q = append-new g N s n h G w S big small size room sum card (cut ms r .settled) ms all-left z m q
+        pub append-cuts-new : keptAt ms (length G + 1) ≡ true → allData geo N G ≡ true → sameLog (foundIn geo (cut ms r .settled)) (logD geo (blockAt s) n ++ G) ≡ true
+            → Leads geo N (cut ms r .settled) (logD geo (blockAt s) n ++ G) (overlay G S) (n + length G) false
+        append-cuts-new z m q = append-new geo N s n h G w S big small size room sum card (cut ms r .settled) ms all-left z m q
 
         -- its header kept, and another log is found
-        pub append-cuts-old : keptAt ms (length G + 1) ≡ true → sameLog (foundIn g (cut ms r .settled)) (logD g (blockAt s) n ++ G) ≡ false
-            → Leads g N (cut ms r .settled) (logD g (blockAt s) n ++ G) S n true
-        append-cuts-old z q = append-old g N s n h G w S big small size room sum card (cut ms r .settled) ms all-left z q
+        pub append-cuts-old : keptAt ms (length G + 1) ≡ true → sameLog (foundIn geo (cut ms r .settled)) (logD geo (blockAt s) n ++ G) ≡ false
+            → Leads geo N (cut ms r .settled) (logD geo (blockAt s) n ++ G) S n true
+        append-cuts-old z q = append-old geo N s n h G w S big small size room sum card (cut ms r .settled) ms all-left z q
 
         -- every write kept: the log found is the log written
-        pub append-cuts-whole : allKept ms ≡ true → All NarrowAddress G → sameLog (foundIn g (cut ms r .settled)) (logD g (blockAt s) n ++ G) ≡ true
-        append-cuts-whole all low = append-whole g N s n h G w S big small size room sum card (cut ms r .settled) ms all-left all low
+        pub append-cuts-whole : allKept ms ≡ true → All NarrowAddress G → sameLog (foundIn geo (cut ms r .settled)) (logD geo (blockAt s) n ++ G) ≡ true
+        append-cuts-whole all low = append-whole geo N s n h G w S big small size room sum card (cut ms r .settled) ms all-left all low
 
   -- ---- a checkpoint
 
-  module _ (N : ℕ) (s : List ℕ) (n : ℕ) (w : List Entry) (S : Disk) (big : firstData g < N) (size : N ≡ blocksIn s) (card : WholeCard g N (blockAt s) w S n) where
+  module _ (N : ℕ) (s : List ℕ) (n : ℕ) (w : List Entry) (S : Disk) (big : firstData geo < N) (size : N ≡ blocksIn s) (card : WholeCard geo N (blockAt s) w S n) where
     -- its home blocks are settled
-    pub homes-settled : All Whole (logD g (blockAt s) n)
-        → WholeCard g N (blockAt (settle (logD g (blockAt s) n) s)) w S n × ((a : ℕ) → isData g N a ≡ true → S a ≡ blockAt (settle (logD g (blockAt s) n) s) a)
+    pub homes-settled : All Whole (logD geo (blockAt s) n)
+        → WholeCard geo N (blockAt (settle (logD geo (blockAt s) n) s)) w S n × ((a : ℕ) → isData geo N a ≡ true → S a ≡ blockAt (settle (logD geo (blockAt s) n) s) a)
     homes-settled whole =
-        homes-done g N s n w S (settle (logD g (blockAt s) n) s) (ones (length (logD g (blockAt s) n))) big card (settled-leaves (logD g (blockAt s) n) s N (omega arith) size whole)
-        (ones-kept (length (logD g (blockAt s) n)))
+        homes-done geo N s n w S (settle (logD geo (blockAt s) n) s) (ones (length (logD geo (blockAt s) n))) big card (settled-leaves (logD geo (blockAt s) n) s N (omega arith) size whole)
+        (ones-kept (length (logD geo (blockAt s) n)))
 
     module _ (c r : Card) (ms : List ℕ) where
       -- among the home blocks
-      pub homes-cuts : (k : ℕ) → All Whole (logD g (blockAt s) n) → Left c r s (take k (logD g (blockAt s) n)) 0 → marksFit ms (length (take k (logD g (blockAt s) n))) ≡ true
-          → Leads g N (cut ms r .settled) w S n false
+      pub homes-cuts : (k : ℕ) → All Whole (logD geo (blockAt s) n) → Left c r s (take k (logD geo (blockAt s) n)) 0 → marksFit ms (length (take k (logD geo (blockAt s) n))) ≡ true
+          → Leads geo N (cut ms r .settled) w S n false
       homes-cuts k whole left fit =
-          homes-leads g N s n w S (cut ms r .settled) ms big card k
-          (left-leaves c r s (take k (logD g (blockAt s) n)) 0 N ms left (omega arith) size fit (all-take Whole k (logD g (blockAt s) n) whole))
+          homes-leads geo N s n w S (cut ms r .settled) ms big card k
+          (left-leaves c r s (take k (logD geo (blockAt s) n)) 0 N ms left (omega arith) size fit (all-take Whole k (logD geo (blockAt s) n) whole))
 
       -- behind their flush an empty log's header waits
-      pub header-cuts : ((a : ℕ) → isData g N a ≡ true → S a ≡ blockAt s a) → Whole (headerEntry (emptyHeader N)) → Left c r s (headerEntry (emptyHeader N) ∷ []) 0 → marksFit ms 1 ≡ true
-          → (t : Bool) → keptAt ms 0 ≡ t → Leads g N (cut ms r .settled) (cond t [] w) S (cond t 0 n) false
+      pub header-cuts : ((a : ℕ) → isData geo N a ≡ true → S a ≡ blockAt s a) → Whole (headerEntry (emptyHeader N)) → Left c r s (headerEntry (emptyHeader N) ∷ []) 0 → marksFit ms 1 ≡ true
+          → (t : Bool) → keptAt ms 0 ≡ t → Leads geo N (cut ms r .settled) (cond t [] w) S (cond t 0 n) false
       header-cuts homes whole left fit true z =
-          closed-leads g N (cut ms r .settled) [] S 0 false
-          (empty-card g N s S (cut ms r .settled) ms big homes (left-leaves c r s (headerEntry (emptyHeader N) ∷ []) 0 N ms left (omega arith) size fit (whole, tt)) z)
+          closed-leads geo N (cut ms r .settled) [] S 0 false
+          (empty-card geo N s S (cut ms r .settled) ms big homes (left-leaves c r s (headerEntry (emptyHeader N) ∷ []) 0 N ms left (omega arith) size fit (whole, tt)) z)
       header-cuts homes whole left fit false z =
-          lost-leads g N s (cut ms r .settled) w S n false ms (emptyHeader N) big (left-leaves c r s (headerEntry (emptyHeader N) ∷ []) 0 N ms left (omega arith) size fit (whole, tt)) z card
+          lost-leads geo N s (cut ms r .settled) w S n false ms (emptyHeader N) big (left-leaves c r s (headerEntry (emptyHeader N) ∷ []) 0 N ms left (omega arith) size fit (whole, tt)) z card
 
   -- an empty log's header is settled
-  pub empty-settled : (N : ℕ) (s : List ℕ) (S : Disk) → firstData g < N → N ≡ blocksIn s → ((a : ℕ) → isData g N a ≡ true → S a ≡ blockAt s a) → Whole (headerEntry (emptyHeader N))
-      → WholeCard g N (blockAt (settle (headerEntry (emptyHeader N) ∷ []) s)) [] S 0
+  pub empty-settled : (N : ℕ) (s : List ℕ) (S : Disk) → firstData geo < N → N ≡ blocksIn s → ((a : ℕ) → isData geo N a ≡ true → S a ≡ blockAt s a) → Whole (headerEntry (emptyHeader N))
+      → WholeCard geo N (blockAt (settle (headerEntry (emptyHeader N) ∷ []) s)) [] S 0
   unfolding keptAt
   empty-settled N s S big size homes whole =
-      empty-card g N s S (settle (headerEntry (emptyHeader N) ∷ []) s) (ones 1) big homes (settled-leaves (headerEntry (emptyHeader N) ∷ []) s N (omega arith) size (whole, tt)) mathlib.Core.Path.refl
+      empty-card geo N s S (settle (headerEntry (emptyHeader N) ∷ []) s) (ones 1) big homes (settled-leaves (headerEntry (emptyHeader N) ∷ []) s N (omega arith) size (whole, tt)) mathlib.Core.Path.refl
 
   -- ---- nothing waits
 
-  pub still-cuts : (N : ℕ) (s : List ℕ) (n : ℕ) (w : List Entry) (S : Disk) (F : Bool) (c r : Card) (p : ℕ) (ms : List ℕ) → firstData g < N → N ≡ blocksIn s → ClosedCard g N (blockAt s) w S n F
-      → Left c r s [] p → marksFit ms 0 ≡ true → Leads g N (cut ms r .settled) w S n F
+  pub still-cuts : (N : ℕ) (s : List ℕ) (n : ℕ) (w : List Entry) (S : Disk) (F : Bool) (c r : Card) (p : ℕ) (ms : List ℕ) → firstData geo < N → N ≡ blocksIn s → ClosedCard geo N (blockAt s) w S n F
+      → Left c r s [] p → marksFit ms 0 ≡ true → Leads geo N (cut ms r .settled) w S n F
   still-cuts N s n w S F c r p ms big size card left fit =
-      still-leads g N s (cut ms r .settled) w S n F ms big (left-leaves c r s [] p N ms left (omega arith) size fit tt) card
+      still-leads geo N s (cut ms r .settled) w S n F ms big (left-leaves c r s [] p N ms left (omega arith) size fit tt) card
 
   -- ---- a fallback
 
   abbrev pub fallHeader : ℕ → List ℕ → ℕ → Entry
-  fallHeader N s n = headerEntry (header N n (sumOf start (logD g (blockAt s) n)) n (sumOf start (logD g (blockAt s) n)))
+  fallHeader N s n = headerEntry (header N n (sumOf start (logD geo (blockAt s) n)) n (sumOf start (logD geo (blockAt s) n)))
 
-  pub fall-cuts : (N : ℕ) (s : List ℕ) (n : ℕ) (w : List Entry) (S : Disk) (c r : Card) (ms : List ℕ) → firstData g < N → N ≡ blocksIn s → FallCard g N (blockAt s) w S n
+  pub fall-cuts : (N : ℕ) (s : List ℕ) (n : ℕ) (w : List Entry) (S : Disk) (c r : Card) (ms : List ℕ) → firstData geo < N → N ≡ blocksIn s → FallCard geo N (blockAt s) w S n
       → Whole (fallHeader N s n) → Left c r s (fallHeader N s n ∷ []) 0 → marksFit ms 1 ≡ true
-      → (t : Bool) → keptAt ms 0 ≡ t → Leads g N (cut ms r .settled) (cond t (logD g (blockAt s) n) w) S n (not t)
+      → (t : Bool) → keptAt ms 0 ≡ t → Leads geo N (cut ms r .settled) (cond t (logD geo (blockAt s) n) w) S n (not t)
   fall-cuts N s n w S c r ms big size card whole left fit true z =
-      closed-leads g N (cut ms r .settled) (logD g (blockAt s) n) S n false
-      (fallen-card g N s w S n (cut ms r .settled) ms big card (left-leaves c r s (fallHeader N s n ∷ []) 0 N ms left (omega arith) size fit (whole, tt)) z)
+      closed-leads geo N (cut ms r .settled) (logD geo (blockAt s) n) S n false
+      (fallen-card geo N s w S n (cut ms r .settled) ms big card (left-leaves c r s (fallHeader N s n ∷ []) 0 N ms left (omega arith) size fit (whole, tt)) z)
   fall-cuts N s n w S c r ms big size card whole left fit false z =
-      lost-leads g N s (cut ms r .settled) w S n true ms (header N n (sumOf start (logD g (blockAt s) n)) n (sumOf start (logD g (blockAt s) n))) big
+      lost-leads geo N s (cut ms r .settled) w S n true ms (header N n (sumOf start (logD geo (blockAt s) n)) n (sumOf start (logD geo (blockAt s) n))) big
       (left-leaves c r s (fallHeader N s n ∷ []) 0 N ms left (omega arith) size fit (whole, tt)) z card
 
-  pub fall-settled : (N : ℕ) (s : List ℕ) (w : List Entry) (S : Disk) (n : ℕ) → firstData g < N → N ≡ blocksIn s → FallCard g N (blockAt s) w S n → Whole (fallHeader N s n)
-      → WholeCard g N (blockAt (settle (fallHeader N s n ∷ []) s)) (logD g (blockAt s) n) S n
+  pub fall-settled : (N : ℕ) (s : List ℕ) (w : List Entry) (S : Disk) (n : ℕ) → firstData geo < N → N ≡ blocksIn s → FallCard geo N (blockAt s) w S n → Whole (fallHeader N s n)
+      → WholeCard geo N (blockAt (settle (fallHeader N s n ∷ []) s)) (logD geo (blockAt s) n) S n
   unfolding keptAt
   fall-settled N s w S n big size card whole =
-      fallen-card g N s w S n (settle (fallHeader N s n ∷ []) s) (ones 1) big card (settled-leaves (fallHeader N s n ∷ []) s N (omega arith) size (whole, tt)) mathlib.Core.Path.refl
+      fallen-card geo N s w S n (settle (fallHeader N s n ∷ []) s) (ones 1) big card (settled-leaves (fallHeader N s n ∷ []) s N (omega arith) size (whole, tt)) mathlib.Core.Path.refl

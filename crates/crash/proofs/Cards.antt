@@ -28,12 +28,12 @@ use Rattle.crash.proofs.Logs.{sum-lt, slotE, logD, entries-disk, LogSta
 
 -- ---- what the card holds when nothing waits
 
-module _ (g : Geometry) where
+module _ (geo : Geometry) where
   -- block 0 is a header of ours
   pub record HasHeader (d : Disk) (N p ps c ns : ℕ) : Type 0 where
     pub block : d headerAt ≡ encode (header N p ps c ns)
     pub ordered : p ≤ c
-    pub most : c ≤ g .slots
+    pub most : c ≤ geo .slots
     pub presum : ps < 2 ^ 64
     pub sum : ns < 2 ^ 64
 
@@ -41,23 +41,23 @@ module _ (g : Geometry) where
   pub record WholeCard (N : ℕ) (d : Disk) (w : List Entry) (S : Disk) (n : ℕ) : Type 0 where
     pub p : ℕ
     pub ps : ℕ
-    pub head : HasHeader d N p ps n (sumOf start (logD g d n))
-    pub all : allData g N (logD g d n) ≡ true
-    pub same : w ≡ logD g d n
-    pub disk : (a : ℕ) → isData g N a ≡ true → S a ≡ overlay (logD g d n) d a
+    pub head : HasHeader d N p ps n (sumOf start (logD geo d n))
+    pub all : allData geo N (logD geo d n) ≡ true
+    pub same : w ≡ logD geo d n
+    pub disk : (a : ℕ) → isData geo N a ≡ true → S a ≡ overlay (logD geo d n) d a
 
   -- its first c entries are not good, and its first n are the log: those of the list w from which the header took its sum
   pub record FallCard (N : ℕ) (d : Disk) (w : List Entry) (S : Disk) (n : ℕ) : Type 0 where
     pub c : ℕ
     pub ns : ℕ
-    pub head : HasHeader d N n (sumOf start (logD g d n)) c ns
-    pub all : allData g N (logD g d n) ≡ true
-    pub bad : good g N (logD g d c) ns ≡ false
-    pub other : w ≢ logD g d c
+    pub head : HasHeader d N n (sumOf start (logD geo d n)) c ns
+    pub all : allData geo N (logD geo d n) ≡ true
+    pub bad : good geo N (logD geo d c) ns ≡ false
+    pub other : w ≢ logD geo d c
     pub size : length w ≡ c
     pub total : sumOf start w ≡ ns
-    pub front : take n w ≡ logD g d n
-    pub disk : (a : ℕ) → isData g N a ≡ true → S a ≡ overlay (logD g d n) d a
+    pub front : take n w ≡ logD geo d n
+    pub disk : (a : ℕ) → isData geo N a ≡ true → S a ≡ overlay (logD geo d n) d a
 
   abbrev pub ClosedCard : ℕ → Disk → List Entry → Disk → ℕ → Bool → Type 0
   ClosedCard N d w S n false = WholeCard N d w S n
@@ -76,8 +76,8 @@ module _ (g : Geometry) where
   -- ---- a disk that agrees below N
 
   -- the same header and log, and the same disk under it
-  pub whole-frame : (N : ℕ) (d e : Disk) (w : List Entry) (S : Disk) (n : ℕ) → e headerAt ≡ d headerAt → logD g e n ≡ logD g d n
-      → ((a : ℕ) → isData g N a ≡ true → overlay (logD g d n) e a ≡ overlay (logD g d n) d a)
+  pub whole-frame : (N : ℕ) (d e : Disk) (w : List Entry) (S : Disk) (n : ℕ) → e headerAt ≡ d headerAt → logD geo e n ≡ logD geo d n
+      → ((a : ℕ) → isData geo N a ≡ true → overlay (logD geo d n) e a ≡ overlay (logD geo d n) d a)
       → WholeCard N d w S n → WholeCard N e w S n
   whole-frame N d e w S n h l o r = record {
     p = r .p;
@@ -94,16 +94,16 @@ module _ (g : Geometry) where
     disk = λ a q. rw l (r .disk a q ∙ sym (o a q));
   }
 
-  pub whole-agree : (N : ℕ) (d e : Disk) (w : List Entry) (S : Disk) (n : ℕ) → firstData g < N → ((a : ℕ) → a < N → e a ≡ d a) → WholeCard N d w S n → WholeCard N e w S n
+  pub whole-agree : (N : ℕ) (d e : Disk) (w : List Entry) (S : Disk) (n : ℕ) → firstData geo < N → ((a : ℕ) → a < N → e a ≡ d a) → WholeCard N d w S n → WholeCard N e w S n
   whole-agree N d e w S n b h r =
-      whole-frame N d e w S n (h headerAt (omega arith)) (same-log g n e d (same-agree g n e d (r .head .most) (λ a l. h a (omega arith))))
-      (λ a q. overlay-agree (logD g d n) e d a (h a (data-below g N a q))) r
+      whole-frame N d e w S n (h headerAt (omega arith)) (same-log geo n e d (same-agree geo n e d (r .head .most) (λ a l. h a (omega arith))))
+      (λ a q. overlay-agree (logD geo d n) e d a (h a (data-below geo N a q))) r
 
-  pub fall-agree : (N : ℕ) (d e : Disk) (w : List Entry) (S : Disk) (n : ℕ) → firstData g < N → ((a : ℕ) → a < N → e a ≡ d a) → FallCard N d w S n → FallCard N e w S n
+  pub fall-agree : (N : ℕ) (d e : Disk) (w : List Entry) (S : Disk) (n : ℕ) → firstData geo < N → ((a : ℕ) → a < N → e a ≡ d a) → FallCard N d w S n → FallCard N e w S n
   fall-agree N d e w S n b h r =
-      let k : n ≤ g .slots = omega (arith, r .head .ordered, r .head .most) in
-      let l : logD g e n ≡ logD g d n = same-log g n e d (same-agree g n e d k (λ a q. h a (omega arith))) in
-      let m : logD g e (r .c) ≡ logD g d (r .c) = same-log g (r .c) e d (same-agree g (r .c) e d (r .head .most) (λ a q. h a (omega arith))) in
+      let k : n ≤ geo .slots = omega (arith, r .head .ordered, r .head .most) in
+      let l : logD geo e n ≡ logD geo d n = same-log geo n e d (same-agree geo n e d k (λ a q. h a (omega arith))) in
+      let m : logD geo e (r .c) ≡ logD geo d (r .c) = same-log geo (r .c) e d (same-agree geo (r .c) e d (r .head .most) (λ a q. h a (omega arith))) in
       record {
         c = r .c;
         ns = r .ns;
@@ -120,10 +120,10 @@ module _ (g : Geometry) where
         size = r .size;
         total = r .total;
         front = r .front ∙ sym l;
-        disk = λ a q. rw l (r .disk a q ∙ sym (overlay-agree (logD g d n) e d a (h a (data-below g N a q))));
+        disk = λ a q. rw l (r .disk a q ∙ sym (overlay-agree (logD geo d n) e d a (h a (data-below geo N a q))));
       }
 
-  pub closed-agree : (N : ℕ) (d e : Disk) (w : List Entry) (S : Disk) (n : ℕ) (F : Bool) → firstData g < N → ((a : ℕ) → a < N → e a ≡ d a) → ClosedCard N d w S n F → ClosedCard N e w S n F
+  pub closed-agree : (N : ℕ) (d e : Disk) (w : List Entry) (S : Disk) (n : ℕ) (F : Bool) → firstData geo < N → ((a : ℕ) → a < N → e a ≡ d a) → ClosedCard N d w S n F → ClosedCard N e w S n F
   closed-agree N d e w S n false b h r = whole-agree N d e w S n b h r
   closed-agree N d e w S n true b h r = fall-agree N d e w S n b h r
 
@@ -131,48 +131,48 @@ module _ (g : Geometry) where
 
   pub record Appended (N : ℕ) (d e : Disk) (n h : ℕ) (G : List Entry) : Type 0 where
     pub head : e headerAt ≡ encode (header N n h (n + length G) (sumOf h G))
-    pub log : LogStands g n e d
-    pub homes : (a : ℕ) → isData g N a ≡ true → e a ≡ d a
-    pub sum : h ≡ sumOf start (logD g d n)
-    pub room : n + length G ≤ g .slots
+    pub log : LogStands geo n e d
+    pub homes : (a : ℕ) → isData geo N a ≡ true → e a ≡ d a
+    pub sum : h ≡ sumOf start (logD geo d n)
+    pub room : n + length G ≤ geo .slots
 
   module _ (N : ℕ) (d e : Disk) (w : List Entry) (S : Disk) (n h : ℕ) (G : List Entry) (r : WholeCard N d w S n) (t : Appended N d e n h G) where
     -- the list from which that header took its sum
-    pub append-sum : sumOf start (logD g d n ++ G) ≡ sumOf h G
-    append-sum = sumOf-append start (logD g d n) G ∙ ap (λ (k : ℕ). sumOf k G) (sym (t .sum))
+    pub append-sum : sumOf start (logD geo d n ++ G) ≡ sumOf h G
+    append-sum = sumOf-append start (logD geo d n) G ∙ ap (λ (k : ℕ). sumOf k G) (sym (t .sum))
 
     pub append-head : HasHeader e N n h (n + length G) (sumOf h G)
     append-head = record {
       block = t .head;
       ordered = omega arith;
       most = t .room;
-      presum = rw (t .sum) (sum-lt (logD g d n));
-      sum = rw (← append-sum) (sum-lt (logD g d n ++ G));
+      presum = rw (t .sum) (sum-lt (logD geo d n));
+      sum = rw (← append-sum) (sum-lt (logD geo d n ++ G));
     }
 
-    append-size : length (logD g d n ++ G) ≡ n + length G
-    append-size = lib.ListN.length-append (logD g d n) G ∙ ap (λ (k : ℕ). k + length G) (length-upTo (slotE g d) n)
+    append-size : length (logD geo d n ++ G) ≡ n + length G
+    append-size = lib.ListN.length-append (logD geo d n) G ∙ ap (λ (k : ℕ). k + length G) (length-upTo (slotE geo d) n)
 
-    append-log : logD g e n ≡ logD g d n
-    append-log = same-log g n e d (t .log)
+    append-log : logD geo e n ≡ logD geo d n
+    append-log = same-log geo n e d (t .log)
 
     -- the log found is the log written: G is laid over S
-    pub append-found : allData g N G ≡ true → logD g e (n + length G) ≡ logD g d n ++ G → WholeCard N e (logD g d n ++ G) (overlay G S) (n + length G)
+    pub append-found : allData geo N G ≡ true → logD geo e (n + length G) ≡ logD geo d n ++ G → WholeCard N e (logD geo d n ++ G) (overlay G S) (n + length G)
     append-found m q = record {
       p = n;
       ps = h;
       head = rw (q, append-sum) append-head;
-      all = rw (q, allData-append g N (logD g d n) G, r .all) m;
+      all = rw (q, allData-append geo N (logD geo d n) G, r .all) m;
       same = sym q;
       disk = λ a x.
           rw q
-          (overlay-agree G S (overlay (logD g d n) d) a (r .disk a x)
-          ∙ overlay-agree G (overlay (logD g d n) d) (overlay (logD g d n) e) a (sym (overlay-agree (logD g d n) e d a (t .homes a x)))
-          ∙ ap (λ (f : Disk). f a) (sym (overlay-append (logD g d n) G e)));
+          (overlay-agree G S (overlay (logD geo d n) d) a (r .disk a x)
+          ∙ overlay-agree G (overlay (logD geo d n) d) (overlay (logD geo d n) e) a (sym (overlay-agree (logD geo d n) e d a (t .homes a x)))
+          ∙ ap (λ (f : Disk). f a) (sym (overlay-append (logD geo d n) G e)));
     }
 
     -- it is not good: the log is the first n entries as before
-    pub append-bad : logD g d n ++ G ≢ logD g e (n + length G) → good g N (logD g e (n + length G)) (sumOf h G) ≡ false → FallCard N e (logD g d n ++ G) S n
+    pub append-bad : logD geo d n ++ G ≢ logD geo e (n + length G) → good geo N (logD geo e (n + length G)) (sumOf h G) ≡ false → FallCard N e (logD geo d n ++ G) S n
     append-bad z b = record {
       c = n + length G;
       ns = sumOf h G;
@@ -182,34 +182,34 @@ module _ (g : Geometry) where
       other = z;
       size = append-size;
       total = append-sum;
-      front = lib.Seq.take-at (logD g d n) G n (length-upTo (slotE g d) n) ∙ sym append-log;
-      disk = λ a x. rw append-log (r .disk a x ∙ sym (overlay-agree (logD g d n) e d a (t .homes a x)));
+      front = lib.Seq.take-at (logD geo d n) G n (length-upTo (slotE geo d) n) ∙ sym append-log;
+      disk = λ a x. rw append-log (r .disk a x ∙ sym (overlay-agree (logD geo d n) e d a (t .homes a x)));
     }
 
     -- it has the sum by a collision: whatever is found then is a log all the same
-    pub append-safe : logD g d n ++ G ≢ logD g e (n + length G) → SafeCard N e (logD g d n ++ G)
-    append-safe z = go (good g N (logD g e (n + length G)) (sumOf h G)) refl
+    pub append-safe : logD geo d n ++ G ≢ logD geo e (n + length G) → SafeCard N e (logD geo d n ++ G)
+    append-safe z = go (good geo N (logD geo e (n + length G)) (sumOf h G)) refl
       where
-        go : (t : Bool) → good g N (logD g e (n + length G)) (sumOf h G) ≡ t → SafeCard N e (logD g d n ++ G)
+        go : (t : Bool) → good geo N (logD geo e (n + length G)) (sumOf h G) ≡ t → SafeCard N e (logD geo d n ++ G)
         go true b =
-            let parts = both (eqb (sumOf start (logD g e (n + length G))) (sumOf h G)) (allData g N (logD g e (n + length G))) b in
-            let q : sumOf start (logD g e (n + length G)) ≡ sumOf h G = borrow.Author.Tests.eqb-true _ _ (parts .0) in
+            let parts = both (eqb (sumOf start (logD geo e (n + length G))) (sumOf h G)) (allData geo N (logD geo e (n + length G))) b in
+            let q : sumOf start (logD geo e (n + length G)) ≡ sumOf h G = borrow.Author.Tests.eqb-true _ _ (parts .0) in
             record {
-              w = logD g e (n + length G);
-              S = overlay (logD g e (n + length G)) e;
+              w = logD geo e (n + length G);
+              S = overlay (logD geo e (n + length G)) e;
               n = n + length G;
               F = false;
-              size = length-upTo (slotE g e) (n + length G) ∙ sym append-size;
+              size = length-upTo (slotE geo e) (n + length G) ∙ sym append-size;
               total = q ∙ sym append-sum;
               card = record { p = n; ps = h; head = rw q append-head; all = parts .1; same = refl; disk = λ a x. refl };
             }
-        go false b = record { w = logD g d n ++ G; S = S; n = n; F = true; size = refl; total = refl; card = append-bad z b }
+        go false b = record { w = logD geo d n ++ G; S = S; n = n; F = true; size = refl; total = refl; card = append-bad z b }
 
   -- ---- a checkpoint
 
   -- then an empty log's header
-  pub emptied : (N : ℕ) (d e : Disk) (S : Disk) → e headerAt ≡ encode (emptyHeader N) → ((a : ℕ) → isData g N a ≡ true → e a ≡ d a)
-      → ((a : ℕ) → isData g N a ≡ true → S a ≡ d a) → WholeCard N e [] S 0
+  pub emptied : (N : ℕ) (d e : Disk) (S : Disk) → e headerAt ≡ encode (emptyHeader N) → ((a : ℕ) → isData geo N a ≡ true → e a ≡ d a)
+      → ((a : ℕ) → isData geo N a ≡ true → S a ≡ d a) → WholeCard N e [] S 0
   unfolding overlay allData
   emptied N d e S h k s = record {
     p = 0;
@@ -228,23 +228,23 @@ module _ (g : Geometry) where
 
   -- ---- a fallback's header
 
-  pub fallen : (N : ℕ) (d e : Disk) (w : List Entry) (S : Disk) (n : ℕ) → firstData g < N
-      → e headerAt ≡ encode (header N n (sumOf start (logD g d n)) n (sumOf start (logD g d n)))
-      → ((a : ℕ) → a < N → a ≢ headerAt → e a ≡ d a) → FallCard N d w S n → WholeCard N e (logD g d n) S n
+  pub fallen : (N : ℕ) (d e : Disk) (w : List Entry) (S : Disk) (n : ℕ) → firstData geo < N
+      → e headerAt ≡ encode (header N n (sumOf start (logD geo d n)) n (sumOf start (logD geo d n)))
+      → ((a : ℕ) → a < N → a ≢ headerAt → e a ≡ d a) → FallCard N d w S n → WholeCard N e (logD geo d n) S n
   fallen N d e w S n big h k r =
-      let m : n ≤ g .slots = omega (arith, r .head .ordered, r .head .most) in
-      let l : logD g e n ≡ logD g d n = same-log g n e d (record { addresses = λ i q. ap (λ (b : List ℕ). cell 4 b i) (k descriptorAt (omega (arith, g .single)) (λ z. omega arith)); blocks = λ i q. k (slotAt g i) (omega arith) (λ z. omega arith) }) in
+      let m : n ≤ geo .slots = omega (arith, r .head .ordered, r .head .most) in
+      let l : logD geo e n ≡ logD geo d n = same-log geo n e d (record { addresses = λ i q. ap (λ (b : List ℕ). cell 4 b i) (k descriptorAt (omega (arith, geo .single)) (λ z. omega arith)); blocks = λ i q. k (slotAt geo i) (omega arith) (λ z. omega arith) }) in
       record {
         p = n;
-        ps = sumOf start (logD g d n);
+        ps = sumOf start (logD geo d n);
         head = record {
-          block = h ∙ ap (λ (x : List Entry). encode (header N n (sumOf start (logD g d n)) n (sumOf start x))) (sym l);
+          block = h ∙ ap (λ (x : List Entry). encode (header N n (sumOf start (logD geo d n)) n (sumOf start x))) (sym l);
           ordered = omega arith;
           most = m;
-          presum = sum-lt (logD g d n);
-          sum = sum-lt (logD g e n);
+          presum = sum-lt (logD geo d n);
+          sum = sum-lt (logD geo e n);
         };
         all = rw l (r .all);
         same = sym l;
-        disk = λ a q. rw l (r .disk a q ∙ sym (overlay-agree (logD g d n) e d a (k a (data-below g N a q) (λ z. let u = data-above g N a q in omega arith))));
+        disk = λ a q. rw l (r .disk a q ∙ sym (overlay-agree (logD geo d n) e d a (k a (data-below geo N a q) (λ z. let u = data-above geo N a q in omega arith))));
       }

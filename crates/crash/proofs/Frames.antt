@@ -20,31 +20,31 @@ use Rattle.journal.proofs.Logs.{allData-all}
 use Rattle.crash.proofs.Logs.{logD, LogStands, same-log, same-agree, data-above, data-below}
 use Rattle.crash.proofs.Cards.{WholeCard, whole-frame}
 
-module _ (g : Geometry) where
+module _ (geo : Geometry) where
   -- a write that leaves the first n entries of a disk alone: the bytes of their addresses, and their slots
   pub record Aside (n : ℕ) (d : Disk) (e : Entry) : Type 0 where
     pub names : e .address ≡ descriptorAt → (j : ℕ) → j < 4 * n → getD (e .block) j 0 ≡ getD (d descriptorAt) j 0
-    pub above : (i : ℕ) → i < n → slotAt g i ≢ e .address
+    pub above : (i : ℕ) → i < n → slotAt geo i ≢ e .address
 
   -- a write to a data block
-  pub data-aside : (n : ℕ) (d : Disk) (e : Entry) → n ≤ g .slots → firstData g ≤ e .address → Aside n d e
-  data-aside n d e few h = record { names = λ z j l. absurd (omega (arith, g .single)); above = λ i l z. omega arith }
+  pub data-aside : (n : ℕ) (d : Disk) (e : Entry) → n ≤ geo .slots → firstData geo ≤ e .address → Aside n d e
+  data-aside n d e few h = record { names = λ z j l. absurd (omega (arith, geo .single)); above = λ i l z. omega arith }
 
-  module _ (N : ℕ) (ms : List ℕ) (q : List Entry) (n : ℕ) (d e : Disk) (big : firstData g < N) (l : Leaves N ms q d e) where
+  module _ (N : ℕ) (ms : List ℕ) (q : List Entry) (n : ℕ) (d e : Disk) (big : firstData geo < N) (l : Leaves N ms q d e) where
     -- the log
-    pub log-left : n ≤ g .slots → length (d descriptorAt) ≡ blockBytes → All (Aside n d) q → LogStands g n e d
+    pub log-left : n ≤ geo .slots → length (d descriptorAt) ≡ blockBytes → All (Aside n d) q → LogStands geo n e d
     log-left few size a = record {
       addresses = λ i h.
-          let long : length (e descriptorAt) ≡ blockBytes = l .long descriptorAt (omega (arith, g .single)) in
-          let new : length (cell 4 (e descriptorAt) i) ≡ 4 = length-cell 4 (e descriptorAt) i (omega (arith, g .described, g .single)) in
-          let old : length (cell 4 (d descriptorAt) i) ≡ 4 = length-cell 4 (d descriptorAt) i (omega (arith, g .described, g .single)) in
+          let long : length (e descriptorAt) ≡ blockBytes = l .long descriptorAt (omega (arith, geo .single)) in
+          let new : length (cell 4 (e descriptorAt) i) ≡ 4 = length-cell 4 (e descriptorAt) i (omega (arith, geo .described, geo .single)) in
+          let old : length (cell 4 (d descriptorAt) i) ≡ 4 = length-cell 4 (d descriptorAt) i (omega (arith, geo .described, geo .single)) in
           ext-getD 0 (cell 4 (e descriptorAt) i) (cell 4 (d descriptorAt) i) (new ∙ sym old)
           (λ j k. getD-cell 4 (e descriptorAt) i j (omega arith) ∙ byte (4 * i + j) (omega arith) ∙ sym (getD-cell 4 (d descriptorAt) i j (omega arith)));
-      blocks = λ i h. l .untouched (slotAt g i) (omega arith) (all-map (Aside n d) (λ x. slotAt g i ≢ x .address) (λ x p. p .above i h) q a);
+      blocks = λ i h. l .untouched (slotAt geo i) (omega arith) (all-map (Aside n d) (λ x. slotAt geo i ≢ x .address) (λ x p. p .above i h) q a);
     }
       where
         byte : (j : ℕ) → j < 4 * n → getD (e descriptorAt) j 0 ≡ getD (d descriptorAt) j 0
-        byte j h = go (l .byte descriptorAt j (omega (arith, g .single)))
+        byte j h = go (l .byte descriptorAt j (omega (arith, geo .single)))
           where
             go : (getD (e descriptorAt) j 0 ≡ getD (d descriptorAt) j 0) ⊎ Any (λ x. (x .address ≡ descriptorAt) × (getD (e descriptorAt) j 0 ≡ getD (x .block) j 0)) q
                 → getD (e descriptorAt) j 0 ≡ getD (d descriptorAt) j 0
@@ -55,30 +55,30 @@ module _ (g : Geometry) where
                 p
 
     -- the home blocks that no write is addressed to
-    pub homes-left : (a : ℕ) → isData g N a ≡ true → All (λ x. a ≢ x .address) q → e a ≡ d a
-    homes-left a h o = l .untouched a (data-below g N a h) o
+    pub homes-left : (a : ℕ) → isData geo N a ≡ true → All (λ x. a ≢ x .address) q → e a ≡ d a
+    homes-left a h o = l .untouched a (data-below geo N a h) o
 
   -- a card on which neither header nor log nor a home block changes
-  pub whole-left : (N : ℕ) (ms : List ℕ) (q : List Entry) (d e : Disk) (w : List Entry) (S : Disk) (n : ℕ) → firstData g < N → Leaves N ms q d e
+  pub whole-left : (N : ℕ) (ms : List ℕ) (q : List Entry) (d e : Disk) (w : List Entry) (S : Disk) (n : ℕ) → firstData geo < N → Leaves N ms q d e
       → length (d descriptorAt) ≡ blockBytes → All (Aside n d) q → e headerAt ≡ d headerAt
-      → ((a : ℕ) → isData g N a ≡ true → All (λ x. a ≢ x .address) q)
-      → WholeCard g N d w S n → WholeCard g N e w S n
+      → ((a : ℕ) → isData geo N a ≡ true → All (λ x. a ≢ x .address) q)
+      → WholeCard geo N d w S n → WholeCard geo N e w S n
   whole-left N ms q d e w S n big l size a z o r =
-      whole-frame g N d e w S n z (same-log g n e d (log-left N ms q n d e big l (r .head .most) size a))
-      (λ x h. overlay-agree (logD g d n) e d x (homes-left N ms q n d e big l x h (o x h))) r
+      whole-frame geo N d e w S n z (same-log geo n e d (log-left N ms q n d e big l (r .head .most) size a))
+      (λ x h. overlay-agree (logD geo d n) e d x (homes-left N ms q n d e big l x h (o x h))) r
 
   -- one on which home blocks change, but only those of the log
-  pub whole-covered : (N : ℕ) (ms : List ℕ) (q : List Entry) (d e : Disk) (w : List Entry) (S : Disk) (n : ℕ) → firstData g < N → Leaves N ms q d e
-      → ((P : Entry → Type 0) → All P (logD g d n) → All P q)
-      → WholeCard g N d w S n → WholeCard g N e w S n
+  pub whole-covered : (N : ℕ) (ms : List ℕ) (q : List Entry) (d e : Disk) (w : List Entry) (S : Disk) (n : ℕ) → firstData geo < N → Leaves N ms q d e
+      → ((P : Entry → Type 0) → All P (logD geo d n) → All P q)
+      → WholeCard geo N d w S n → WholeCard geo N e w S n
   whole-covered N ms q d e w S n big l sub r =
-      whole-frame g N d e w S n (low headerAt (omega arith))
-      (same-log g n e d (same-agree g n e d (r .head .most) low))
-      (λ a h. overlay-cover (logD g d n) e d a (λ k. l .untouched a (data-below g N a h) (sub (λ x. a ≢ x .address) k))) r
+      whole-frame geo N d e w S n (low headerAt (omega arith))
+      (same-log geo n e d (same-agree geo n e d (r .head .most) low))
+      (λ a h. overlay-cover (logD geo d n) e d a (λ k. l .untouched a (data-below geo N a h) (sub (λ x. a ≢ x .address) k))) r
     where
-      low : (a : ℕ) → a < firstData g → e a ≡ d a
+      low : (a : ℕ) → a < firstData geo → e a ≡ d a
       low a h =
           l .untouched a (omega arith)
           (sub (λ x. a ≢ x .address)
-          (all-map (λ x. isData g N (x .address) ≡ true) (λ x. a ≢ x .address) (λ x p k. let u = data-above g N (x .address) p in omega arith) (logD g d n)
-          (allData-all g N (logD g d n) (r .all))))
+          (all-map (λ x. isData geo N (x .address) ≡ true) (λ x. a ≢ x .address) (λ x p k. let u = data-above geo N (x .address) p in omega arith) (logD geo d n)
+          (allData-all geo N (logD geo d n) (r .all))))

@@ -58,23 +58,23 @@ pub other-sums : (a b : List Entry) → sameLog a b ≡ false → length a ≡ l
 unfolding collides
 other-sums a b s l h = rw (s, eq-eqb _ _ l) at h
 
-module _ (g : Geometry) where
+module _ (geo : Geometry) where
   -- a header on the card is read as it was written
-  pub read-head : (s : List ℕ) (N p ps c ns : ℕ) → N < 2 ^ 32 → HasHeader g (blockAt s) N p ps c ns → headerOf s ≡ header N p ps c ns
+  pub read-head : (s : List ℕ) (N p ps c ns : ℕ) → N < 2 ^ 32 → HasHeader geo (blockAt s) N p ps c ns → headerOf s ≡ header N p ps c ns
   read-head s N p ps c ns l h =
       ap decode (h .block)
       ∙ decode-encode (header N p ps c ns)
-      (record { format = lib.Dec.lit< tt; blocks = l; previous = omega (arith, h .ordered, h .most, g .addressed); count = omega (arith, h .most, g .addressed); presum = h .presum; sum = h .sum })
+      (record { format = lib.Dec.lit< tt; blocks = l; previous = omega (arith, h .ordered, h .most, geo .addressed); count = omega (arith, h .most, geo .addressed); presum = h .presum; sum = h .sum })
 
   -- the first n entries, by the header
   abbrev pub foundIn : List ℕ → List Entry
-  foundIn s = entries g s (headerOf s .count)
+  foundIn s = entries geo s (headerOf s .count)
 
   pub record Leads (N : ℕ) (s : List ℕ) (w : List Entry) (S : Disk) (n : ℕ) (F : Bool) : Type 0 where
-    pub clean : collides (foundIn s) w ≡ false → ClosedCard g N (blockAt s) w S n F
-    pub safe : SafeCard g N (blockAt s) w
+    pub clean : collides (foundIn s) w ≡ false → ClosedCard geo N (blockAt s) w S n F
+    pub safe : SafeCard geo N (blockAt s) w
 
-  pub closed-leads : (N : ℕ) (s : List ℕ) (w : List Entry) (S : Disk) (n : ℕ) (F : Bool) → ClosedCard g N (blockAt s) w S n F → Leads N s w S n F
+  pub closed-leads : (N : ℕ) (s : List ℕ) (w : List Entry) (S : Disk) (n : ℕ) (F : Bool) → ClosedCard geo N (blockAt s) w S n F → Leads N s w S n F
   closed-leads N s w S n F r = record { clean = λ h. r; safe = record { w = w; S = S; n = n; F = F; size = refl; total = refl; card = r } }
 
   -- nothing waits, or the only write, a header, is lost: the card stands
@@ -88,101 +88,101 @@ module _ (g : Geometry) where
       go (yes z) = rw z (v .lost-header [] [] (headerEntry h) refl tt tt k)
       go (no z) = v .untouched a b (z, tt)
 
-  pub still-leads : (N : ℕ) (s t : List ℕ) (w : List Entry) (S : Disk) (n : ℕ) (F : Bool) (ms : List ℕ) → firstData g < N → Leaves N ms [] (blockAt s) (blockAt t)
-      → ClosedCard g N (blockAt s) w S n F → Leads N t w S n F
-  still-leads N s t w S n F ms big v r = closed-leads N t w S n F (closed-agree g N (blockAt s) (blockAt t) w S n F big (none-left N ms (blockAt s) (blockAt t) v) r)
+  pub still-leads : (N : ℕ) (s t : List ℕ) (w : List Entry) (S : Disk) (n : ℕ) (F : Bool) (ms : List ℕ) → firstData geo < N → Leaves N ms [] (blockAt s) (blockAt t)
+      → ClosedCard geo N (blockAt s) w S n F → Leads N t w S n F
+  still-leads N s t w S n F ms big v r = closed-leads N t w S n F (closed-agree geo N (blockAt s) (blockAt t) w S n F big (none-left N ms (blockAt s) (blockAt t) v) r)
 
-  pub lost-leads : (N : ℕ) (s t : List ℕ) (w : List Entry) (S : Disk) (n : ℕ) (F : Bool) (ms : List ℕ) (h : Header) → firstData g < N → Leaves N ms (headerEntry h ∷ []) (blockAt s) (blockAt t)
-      → keptAt ms 0 ≡ false → ClosedCard g N (blockAt s) w S n F → Leads N t w S n F
-  lost-leads N s t w S n F ms h big v k r = closed-leads N t w S n F (closed-agree g N (blockAt s) (blockAt t) w S n F big (one-lost N ms h (blockAt s) (blockAt t) v k) r)
+  pub lost-leads : (N : ℕ) (s t : List ℕ) (w : List Entry) (S : Disk) (n : ℕ) (F : Bool) (ms : List ℕ) (h : Header) → firstData geo < N → Leaves N ms (headerEntry h ∷ []) (blockAt s) (blockAt t)
+      → keptAt ms 0 ≡ false → ClosedCard geo N (blockAt s) w S n F → Leads N t w S n F
+  lost-leads N s t w S n F ms h big v k r = closed-leads N t w S n F (closed-agree geo N (blockAt s) (blockAt t) w S n F big (one-lost N ms h (blockAt s) (blockAt t) v k) r)
 
   -- ---- an append, from a card whose log is the first n entries
 
   module _ (N : ℕ) (s : List ℕ) (n h : ℕ) (G : List Entry) (w : List Entry) (S : Disk)
-      (big : firstData g < N) (small : N < 2 ^ 32) (size : N ≡ blocksIn s) (room : n + length G ≤ g .slots)
-      (sum : h ≡ sumOf start (logD g (blockAt s) n)) (card : WholeCard g N (blockAt s) w S n) where
+      (big : firstData geo < N) (small : N < 2 ^ 32) (size : N ≡ blocksIn s) (room : n + length G ≤ geo .slots)
+      (sum : h ≡ sumOf start (logD geo (blockAt s) n)) (card : WholeCard geo N (blockAt s) w S n) where
     pub block-long : length (blockAt s descriptorAt) ≡ blockBytes
-    block-long = length-blockAt s descriptorAt (omega (arith, g .single))
+    block-long = length-blockAt s descriptorAt (omega (arith, geo .single))
 
     pub long : 4 * n ≤ length (blockAt s descriptorAt)
-    long = rw block-long (omega (arith, g .described, g .single))
+    long = rw block-long (omega (arith, geo .described, geo .single))
 
     module _ (t : List ℕ) (ms : List ℕ) where
       -- before its header
-      pub append-front : (k : ℕ) → k ≤ length G + 1 → Leaves N ms (take k (appendWrites g N s n h G)) (blockAt s) (blockAt t) → Leads N t w S n false
-      append-front k l v = closed-leads N t w S n false (lost g N s n h G room long big block-long ms (blockAt t) w S k (rw (length-front g N s n h G) l) v card)
+      pub append-front : (k : ℕ) → k ≤ length G + 1 → Leaves N ms (take k (appendWrites geo N s n h G)) (blockAt s) (blockAt t) → Leads N t w S n false
+      append-front k l v = closed-leads N t w S n false (lost geo N s n h G room long big block-long ms (blockAt t) w S k (rw (length-front geo N s n h G) l) v card)
 
-      module _ (v : Leaves N ms (appendWrites g N s n h G) (blockAt s) (blockAt t)) where
+      module _ (v : Leaves N ms (appendWrites geo N s n h G) (blockAt s) (blockAt t)) where
         pub append-header-lost : keptAt ms (length G + 1) ≡ false → Leads N t w S n false
-        append-header-lost z = closed-leads N t w S n false (header-lost g N s n h G room long big block-long ms (blockAt t) v w S z card)
+        append-header-lost z = closed-leads N t w S n false (header-lost geo N s n h G room long big block-long ms (blockAt t) v w S z card)
 
         -- the header is on the card: what is found decides
         module _ (kept : keptAt ms (length G + 1) ≡ true) where
-          pub on-card : Appended g N (blockAt s) (blockAt t) n h G
-          on-card = header-kept g N s n h G room long big block-long ms (blockAt t) v kept sum
+          pub on-card : Appended geo N (blockAt s) (blockAt t) n h G
+          on-card = header-kept geo N s n h G room long big block-long ms (blockAt t) v kept sum
 
           -- the count that the header gives
-          pub found-log : foundIn t ≡ logD g (blockAt t) (n + length G)
+          pub found-log : foundIn t ≡ logD geo (blockAt t) (n + length G)
           found-log =
-              ap (entries g t) (ap (λ (x : Header). x .count) (read-head t N n h (n + length G) (sumOf h G) small (append-head g N (blockAt s) (blockAt t) w S n h G card on-card)))
-              ∙ entries-disk g t (n + length G)
+              ap (entries geo t) (ap (λ (x : Header). x .count) (read-head t N n h (n + length G) (sumOf h G) small (append-head geo N (blockAt s) (blockAt t) w S n h G card on-card)))
+              ∙ entries-disk geo t (n + length G)
 
           -- the log found is the log written
-          pub append-new : allData g N G ≡ true → sameLog (foundIn t) (logD g (blockAt s) n ++ G) ≡ true → Leads N t (logD g (blockAt s) n ++ G) (overlay G S) (n + length G) false
+          pub append-new : allData geo N G ≡ true → sameLog (foundIn t) (logD geo (blockAt s) n ++ G) ≡ true → Leads N t (logD geo (blockAt s) n ++ G) (overlay G S) (n + length G) false
           append-new m q =
-              closed-leads N t (logD g (blockAt s) n ++ G) (overlay G S) (n + length G) false
-              (append-found g N (blockAt s) (blockAt t) w S n h G card on-card m (sym found-log ∙ same-logs (foundIn t) (logD g (blockAt s) n ++ G) q))
+              closed-leads N t (logD geo (blockAt s) n ++ G) (overlay G S) (n + length G) false
+              (append-found geo N (blockAt s) (blockAt t) w S n h G card on-card m (sym found-log ∙ same-logs (foundIn t) (logD geo (blockAt s) n ++ G) q))
 
           -- it is another list
-          pub append-old : sameLog (foundIn t) (logD g (blockAt s) n ++ G) ≡ false → Leads N t (logD g (blockAt s) n ++ G) S n true
-          append-old q = record { clean = λ c. append-bad g N (blockAt s) (blockAt t) w S n h G card on-card other (bad c); safe = append-safe g N (blockAt s) (blockAt t) w S n h G card on-card other }
+          pub append-old : sameLog (foundIn t) (logD geo (blockAt s) n ++ G) ≡ false → Leads N t (logD geo (blockAt s) n ++ G) S n true
+          append-old q = record { clean = λ c. append-bad geo N (blockAt s) (blockAt t) w S n h G card on-card other (bad c); safe = append-safe geo N (blockAt s) (blockAt t) w S n h G card on-card other }
             where
-              other : logD g (blockAt s) n ++ G ≢ logD g (blockAt t) (n + length G)
-              other e = true≢false (sym (logs-same (logD g (blockAt s) n ++ G)) ∙ ap (λ (x : List Entry). sameLog x (logD g (blockAt s) n ++ G)) (e ∙ sym found-log) ∙ q)
+              other : logD geo (blockAt s) n ++ G ≢ logD geo (blockAt t) (n + length G)
+              other e = true≢false (sym (logs-same (logD geo (blockAt s) n ++ G)) ∙ ap (λ (x : List Entry). sameLog x (logD geo (blockAt s) n ++ G)) (e ∙ sym found-log) ∙ q)
 
-              long-as : length (foundIn t) ≡ length (logD g (blockAt s) n ++ G)
+              long-as : length (foundIn t) ≡ length (logD geo (blockAt s) n ++ G)
               long-as =
-                  ap length found-log ∙ length-upTo (slotE g (blockAt t)) (n + length G)
-                  ∙ sym (length-append (logD g (blockAt s) n) G ∙ ap (λ (k : ℕ). k + length G) (length-upTo (slotE g (blockAt s)) n))
+                  ap length found-log ∙ length-upTo (slotE geo (blockAt t)) (n + length G)
+                  ∙ sym (length-append (logD geo (blockAt s) n) G ∙ ap (λ (k : ℕ). k + length G) (length-upTo (slotE geo (blockAt s)) n))
 
-              bad : collides (foundIn t) (logD g (blockAt s) n ++ G) ≡ false → good g N (logD g (blockAt t) (n + length G)) (sumOf h G) ≡ false
+              bad : collides (foundIn t) (logD geo (blockAt s) n ++ G) ≡ false → good geo N (logD geo (blockAt t) (n + length G)) (sumOf h G) ≡ false
               bad c =
-                  let e : eqb (sumOf start (foundIn t)) (sumOf start (logD g (blockAt s) n ++ G)) ≡ false = other-sums (foundIn t) (logD g (blockAt s) n ++ G) q long-as c in
-                  rw (← found-log, ← append-sum g N (blockAt s) (blockAt t) w S n h G card on-card, e)
+                  let e : eqb (sumOf start (foundIn t)) (sumOf start (logD geo (blockAt s) n ++ G)) ≡ false = other-sums (foundIn t) (logD geo (blockAt s) n ++ G) q long-as c in
+                  rw (← found-log, ← append-sum geo N (blockAt s) (blockAt t) w S n h G card on-card, e)
 
         -- every write is kept
         module _ (all : allKept ms ≡ true) (low : All NarrowAddress G) where
           pub kept-top : keptAt ms (length G + 1) ≡ true
           kept-top =
-              let e : length (appendWrites g N s n h G) ≡ length G + 2 = length-append-writes g N s n h G in
-              let l : length ms ≡ length (appendWrites g N s n h G) = fits-length ms (length (appendWrites g N s n h G)) (v .fits) in
+              let e : length (appendWrites geo N s n h G) ≡ length G + 2 = length-append-writes geo N s n h G in
+              let l : length ms ≡ length (appendWrites geo N s n h G) = fits-length ms (length (appendWrites geo N s n h G)) (v .fits) in
               all-kept-at ms (length G + 1) (omega arith) all
 
-          found : logD g (blockAt t) (n + length G) ≡ logD g (blockAt s) n ++ G
-          found = found-written g N s n h G room long low big block-long ms (blockAt t) v all
+          found : logD geo (blockAt t) (n + length G) ≡ logD geo (blockAt s) n ++ G
+          found = found-written geo N s n h G room long low big block-long ms (blockAt t) v all
 
-          pub append-all : allData g N G ≡ true → WholeCard g N (blockAt t) (logD g (blockAt s) n ++ G) (overlay G S) (n + length G)
-          append-all m = append-found g N (blockAt s) (blockAt t) w S n h G card (on-card kept-top) m found
+          pub append-all : allData geo N G ≡ true → WholeCard geo N (blockAt t) (logD geo (blockAt s) n ++ G) (overlay G S) (n + length G)
+          append-all m = append-found geo N (blockAt s) (blockAt t) w S n h G card (on-card kept-top) m found
 
           -- so a cut that kept every write finds the log written
-          pub append-whole : sameLog (foundIn t) (logD g (blockAt s) n ++ G) ≡ true
-          append-whole = rw (found-log kept-top ∙ found) (logs-same (logD g (blockAt s) n ++ G))
+          pub append-whole : sameLog (foundIn t) (logD geo (blockAt s) n ++ G) ≡ true
+          append-whole = rw (found-log kept-top ∙ found) (logs-same (logD geo (blockAt s) n ++ G))
 
   -- ---- a checkpoint
 
-  module _ (N : ℕ) (s : List ℕ) (n : ℕ) (w : List Entry) (S : Disk) (t : List ℕ) (ms : List ℕ) (big : firstData g < N) (card : WholeCard g N (blockAt s) w S n) where
+  module _ (N : ℕ) (s : List ℕ) (n : ℕ) (w : List Entry) (S : Disk) (t : List ℕ) (ms : List ℕ) (big : firstData geo < N) (card : WholeCard geo N (blockAt s) w S n) where
     -- home blocks of the log, any of the first k kept
-    pub homes-leads : (k : ℕ) → Leaves N ms (take k (logD g (blockAt s) n)) (blockAt s) (blockAt t) → Leads N t w S n false
+    pub homes-leads : (k : ℕ) → Leaves N ms (take k (logD geo (blockAt s) n)) (blockAt s) (blockAt t) → Leads N t w S n false
     homes-leads k v =
         closed-leads N t w S n false
-        (whole-covered g N ms (take k (logD g (blockAt s) n)) (blockAt s) (blockAt t) w S n big v (λ P h. all-take P k (logD g (blockAt s) n) h) card)
+        (whole-covered geo N ms (take k (logD geo (blockAt s) n)) (blockAt s) (blockAt t) w S n big v (λ P h. all-take P k (logD geo (blockAt s) n) h) card)
 
     -- all of them kept: the log stands, and the home blocks are S
-    pub homes-done : Leaves N ms (logD g (blockAt s) n) (blockAt s) (blockAt t) → allKept ms ≡ true
-        → WholeCard g N (blockAt t) w S n × ((a : ℕ) → isData g N a ≡ true → S a ≡ blockAt t a)
+    pub homes-done : Leaves N ms (logD geo (blockAt s) n) (blockAt s) (blockAt t) → allKept ms ≡ true
+        → WholeCard geo N (blockAt t) w S n × ((a : ℕ) → isData geo N a ≡ true → S a ≡ blockAt t a)
     homes-done v all = (
-      whole-covered g N ms (logD g (blockAt s) n) (blockAt s) (blockAt t) w S n big v (λ P h. h) card,
-      λ x q. card .disk x q ∙ sym (v .whole all x (data-below g N x q)),
+      whole-covered geo N ms (logD geo (blockAt s) n) (blockAt s) (blockAt t) w S n big v (λ P h. h) card,
+      λ x q. card .disk x q ∙ sym (v .whole all x (data-below geo N x q)),
     )
 
   -- a header that is kept
@@ -190,16 +190,16 @@ module _ (g : Geometry) where
   kept-one N ms h d e v k = v .kept-header [] [] (headerEntry h) refl refl tt k
 
   -- an empty log's
-  pub empty-card : (N : ℕ) (s : List ℕ) (S : Disk) (t : List ℕ) (ms : List ℕ) → firstData g < N → ((a : ℕ) → isData g N a ≡ true → S a ≡ blockAt s a)
-      → Leaves N ms (headerEntry (emptyHeader N) ∷ []) (blockAt s) (blockAt t) → keptAt ms 0 ≡ true → WholeCard g N (blockAt t) [] S 0
+  pub empty-card : (N : ℕ) (s : List ℕ) (S : Disk) (t : List ℕ) (ms : List ℕ) → firstData geo < N → ((a : ℕ) → isData geo N a ≡ true → S a ≡ blockAt s a)
+      → Leaves N ms (headerEntry (emptyHeader N) ∷ []) (blockAt s) (blockAt t) → keptAt ms 0 ≡ true → WholeCard geo N (blockAt t) [] S 0
   empty-card N s S t ms big homes v k =
-      emptied g N (blockAt s) (blockAt t) S (kept-one N ms (emptyHeader N) (blockAt s) (blockAt t) v k)
-      (λ x q. v .untouched x (data-below g N x q) ((λ z. let u = data-above g N x q in omega arith), tt)) homes
+      emptied geo N (blockAt s) (blockAt t) S (kept-one N ms (emptyHeader N) (blockAt s) (blockAt t) v k)
+      (λ x q. v .untouched x (data-below geo N x q) ((λ z. let u = data-above geo N x q in omega arith), tt)) homes
 
   -- a fallback's
-  pub fallen-card : (N : ℕ) (s : List ℕ) (w : List Entry) (S : Disk) (n : ℕ) (t : List ℕ) (ms : List ℕ) → firstData g < N → FallCard g N (blockAt s) w S n
-      → Leaves N ms (headerEntry (header N n (sumOf start (logD g (blockAt s) n)) n (sumOf start (logD g (blockAt s) n))) ∷ []) (blockAt s) (blockAt t) → keptAt ms 0 ≡ true
-      → WholeCard g N (blockAt t) (logD g (blockAt s) n) S n
+  pub fallen-card : (N : ℕ) (s : List ℕ) (w : List Entry) (S : Disk) (n : ℕ) (t : List ℕ) (ms : List ℕ) → firstData geo < N → FallCard geo N (blockAt s) w S n
+      → Leaves N ms (headerEntry (header N n (sumOf start (logD geo (blockAt s) n)) n (sumOf start (logD geo (blockAt s) n))) ∷ []) (blockAt s) (blockAt t) → keptAt ms 0 ≡ true
+      → WholeCard geo N (blockAt t) (logD geo (blockAt s) n) S n
   fallen-card N s w S n t ms big card v k =
-      fallen g N (blockAt s) (blockAt t) w S n big (kept-one N ms (header N n (sumOf start (logD g (blockAt s) n)) n (sumOf start (logD g (blockAt s) n))) (blockAt s) (blockAt t) v k)
+      fallen geo N (blockAt s) (blockAt t) w S n big (kept-one N ms (header N n (sumOf start (logD geo (blockAt s) n)) n (sumOf start (logD geo (blockAt s) n))) (blockAt s) (blockAt t) v k)
       (λ x b z. v .untouched x b (z, tt)) card

@@ -28,21 +28,21 @@ use Rattle.journal.proofs.Choices.{both}
 pub sum-lt : (es : List Entry) → sumOf start es < 2 ^ 64
 sum-lt es = sumOf-lt start es (lib.Dec.lit< tt)
 
-module _ (g : Geometry) where
+module _ (geo : Geometry) where
   unfoldable pub slotE : Disk → ℕ → Entry
-  slotE d i = record { address = num (cell 4 (d descriptorAt) i); block = d (slotAt g i) }
+  slotE d i = record { address = num (cell 4 (d descriptorAt) i); block = d (slotAt geo i) }
 
   abbrev pub logD : Disk → ℕ → List Entry
   logD d n = upTo (slotE d) n
 
-  pub entries-disk : (s : List ℕ) (n : ℕ) → entries g s n ≡ logD (blockAt s) n
+  pub entries-disk : (s : List ℕ) (n : ℕ) → entries geo s n ≡ logD (blockAt s) n
   unfolding slotEntry slotAddress slotE
-  entries-disk s n = ext-upTo (slotEntry g s) (slotE (blockAt s)) n (λ i h. refl)
+  entries-disk s n = ext-upTo (slotEntry geo s) (slotE (blockAt s)) n (λ i h. refl)
 
   -- the first n addresses and slots are as on another disk
   pub record LogStands (n : ℕ) (d e : Disk) : Type 0 where
     pub addresses : (i : ℕ) → i < n → cell 4 (d descriptorAt) i ≡ cell 4 (e descriptorAt) i
-    pub blocks : (i : ℕ) → i < n → d (slotAt g i) ≡ e (slotAt g i)
+    pub blocks : (i : ℕ) → i < n → d (slotAt geo i) ≡ e (slotAt geo i)
 
   pub same-log : (n : ℕ) (d e : Disk) → LogStands n d e → logD d n ≡ logD e n
   unfolding slotE
@@ -51,15 +51,15 @@ module _ (g : Geometry) where
   pub same-refl : (n : ℕ) (d : Disk) → LogStands n d d
   same-refl n d = record { addresses = λ i h. refl; blocks = λ i h. refl }
 
-  pub same-agree : (n : ℕ) (d e : Disk) → n ≤ g .slots → ((a : ℕ) → a < firstData g → d a ≡ e a) → LogStands n d e
+  pub same-agree : (n : ℕ) (d e : Disk) → n ≤ geo .slots → ((a : ℕ) → a < firstData geo → d a ≡ e a) → LogStands n d e
   same-agree n d e m h = record {
-    addresses = λ i l. ap (λ (b : List ℕ). cell 4 b i) (h descriptorAt (omega (arith, g .single)));
-    blocks = λ i l. h (slotAt g i) (omega arith);
+    addresses = λ i l. ap (λ (b : List ℕ). cell 4 b i) (h descriptorAt (omega (arith, geo .single)));
+    blocks = λ i l. h (slotAt geo i) (omega arith);
   }
 
   -- data blocks lie above all that
-  pub data-above : (N a : ℕ) → isData g N a ≡ true → firstData g ≤ a
-  data-above N a h = data-bounds g N a h .0
+  pub data-above : (N a : ℕ) → isData geo N a ≡ true → firstData geo ≤ a
+  data-above N a h = data-bounds geo N a h .0
 
-  pub data-below : (N a : ℕ) → isData g N a ≡ true → a < N
-  data-below N a h = data-bounds g N a h .1
+  pub data-below : (N a : ℕ) → isData geo N a ≡ true → a < N
+  data-below N a h = data-bounds geo N a h .1

@@ -26,32 +26,32 @@ head-low h = (lib.Dec.lit< tt, tt)
 
 -- ---- an append
 
-module _ (g : Geometry) where
+module _ (geo : Geometry) where
   abbrev pub AppendFits : Card → ℕ → List Entry → Type 0
-  AppendFits c n G = (c .count ≡ 0) × (entryBytes * (length G + 2) ≤ length (c .waiting)) × (n + length G ≤ g .slots) × All Whole G
+  AppendFits c n G = (c .count ≡ 0) × (entryBytes * (length G + 2) ≤ length (c .waiting)) × (n + length G ≤ geo .slots) × All Whole G
 
-  pub append-fit : (c : Card) (N : ℕ) (s : List ℕ) (n h : ℕ) (G : List Entry) → 4 * n ≤ length (Rattle.card.specs.Card.blockAt s 1) → AppendFits c n G → Fit c (appendWrites g N s n h G)
+  pub append-fit : (c : Card) (N : ℕ) (s : List ℕ) (n h : ℕ) (G : List Entry) → 4 * n ≤ length (Rattle.card.specs.Card.blockAt s 1) → AppendFits c n G → Fit c (appendWrites geo N s n h G)
   append-fit c N s n h G d f = record {
     none = f .0;
-    room = rw (length-append, length-slotBlocks g) (omega (arith, f .1));
-    whole = all-append Whole (slotBlocks g n G) (descriptorEntry s n G ∷ headerEntry (header N n h (n + length G) (sumOf h G)) ∷ []) (slots-whole g n G (f .3))
+    room = rw (length-append, length-slotBlocks geo) (omega (arith, f .1));
+    whole = all-append Whole (slotBlocks geo n G) (descriptorEntry s n G ∷ headerEntry (header N n h (n + length G) (sumOf h G)) ∷ []) (slots-whole geo n G (f .3))
         (length-describe _ n G d (omega (arith, f .2)), head-whole (header N n h (n + length G) (sumOf h G)));
-    low = all-append NarrowAddress (slotBlocks g n G) (descriptorEntry s n G ∷ headerEntry (header N n h (n + length G) (sumOf h G)) ∷ [])
-        (slots-below g (2 ^ 32) n G (omega (arith, f .2))) (lib.Dec.lit< tt, (lib.Dec.lit< tt, tt));
+    low = all-append NarrowAddress (slotBlocks geo n G) (descriptorEntry s n G ∷ headerEntry (header N n h (n + length G) (sumOf h G)) ∷ [])
+        (slots-below geo (2 ^ 32) n G (omega (arith, f .2))) (lib.Dec.lit< tt, (lib.Dec.lit< tt, tt));
   }
 
-  pub length-append-writes : (N : ℕ) (s : List ℕ) (n h : ℕ) (G : List Entry) → length (appendWrites g N s n h G) ≡ length G + 2
-  length-append-writes N s n h G = length-append (slotBlocks g n G) _ ∙ ap (λ (k : ℕ). k + 2) (length-slotBlocks g n G)
+  pub length-append-writes : (N : ℕ) (s : List ℕ) (n h : ℕ) (G : List Entry) → length (appendWrites geo N s n h G) ≡ length G + 2
+  length-append-writes N s n h G = length-append (slotBlocks geo n G) _ ∙ ap (λ (k : ℕ). k + 2) (length-slotBlocks geo n G)
 
-  module _ (c : Card) (N : ℕ) (s : List ℕ) (n h : ℕ) (G : List Entry) (f : Fit c (appendWrites g N s n h G)) where
-    pub append-short : c .power ≤ length G + 2 → Left c (run (appendOrders g N s n h G) c) (c .settled) (take (c .power) (appendWrites g N s n h G)) 0
-    append-short p = rw (append-writes g N s n h G) (batch-short c (appendWrites g N s n h G) f (rw (length-append-writes) p))
+  module _ (c : Card) (N : ℕ) (s : List ℕ) (n h : ℕ) (G : List Entry) (f : Fit c (appendWrites geo N s n h G)) where
+    pub append-short : c .power ≤ length G + 2 → Left c (run (appendOrders geo N s n h G) c) (c .settled) (take (c .power) (appendWrites geo N s n h G)) 0
+    append-short p = rw (append-writes geo N s n h G) (batch-short c (appendWrites geo N s n h G) f (rw (length-append-writes) p))
 
-    pub append-done : length G + 3 ≤ c .power → Left c (run (appendOrders g N s n h G) c) (settle (appendWrites g N s n h G) (c .settled)) [] (c .power - (length G + 3))
+    pub append-done : length G + 3 ≤ c .power → Left c (run (appendOrders geo N s n h G) c) (settle (appendWrites geo N s n h G) (c .settled)) [] (c .power - (length G + 3))
     append-done p =
-        let l : length (appendWrites g N s n h G) ≡ length G + 2 = length-append-writes N s n h G in
-        let e : c .power - (length (appendWrites g N s n h G) + 1) ≡ c .power - (length G + 3) = omega arith in
-        rw (append-writes g N s n h G, ← e) (batch-done c (appendWrites g N s n h G) f (omega arith))
+        let l : length (appendWrites geo N s n h G) ≡ length G + 2 = length-append-writes N s n h G in
+        let e : c .power - (length (appendWrites geo N s n h G) + 1) ≡ c .power - (length G + 3) = omega arith in
+        rw (append-writes geo N s n h G, ← e) (batch-done c (appendWrites geo N s n h G) f (omega arith))
 
 -- ---- a checkpoint of the log L
 

@@ -1,18 +1,18 @@
 -- What checks 1 and 2 say in plain facts, and what `cause` comes to in a state that passes them.
-use Prim.Native.Nat.{ℕ, _%_, _≤_}
+use Prim.Native.Nat.{ℕ, _%_, _≤_, _<_}
 use mathlib.Core.Path.{_≡_, refl, ap, sym}
-use mathlib.Core.Bool.{Bool, true, false, cond, not, _&&_, _||_, and-false}
+use mathlib.Core.Bool.{Bool, true, false, cond, not, _&&_, _||_, false≢true}
 use mathlib.Core.Logic.{_≢_}
 use mathlib.Core.List.{List, [], _∷_}
 use native.Mathlib.Omega.{arith}
 use borrow.Author.Tests.{eq-eqb, le-ltb, lt-ltb, eqb-true, eqb-false, not-false}
 use lib.Dec.{eqb, ltb}
-use lib.ListN.{length, drop}
+use lib.ListN.{length}
 use Rattle.cells.specs.Upto.Laws.{length-upTo}
 use Rattle.cells.specs.Entry.{blockBytes, entryAt}
 use Rattle.card.specs.Card.{places, blocksIn}
 use Rattle.card.specs.CodeQueue.{Below}
-use Rattle.card.proofs.All.{All}
+use Rattle.card.proofs.All.{All, all-map}
 use Rattle.journal.specs.Layout.{slots, wrongSize}
 use Rattle.journal.specs.Log.{entries}
 use Rattle.journal.specs.Choice.{choose, choiceNumber}
@@ -22,8 +22,8 @@ use Rattle.store.specs.Lists.{openFrom, groupFrom, listed, listOf}
 use Rattle.store.specs.Request as Request
 use Rattle.store.specs.Request.{Request}
 use Rattle.store.specs.Causes as Causes
-use Rattle.store.specs.Causes.{wrongSizes, wrongCounts, wrongWaiting, wrongLists, wrongRecord, wrongBlock, some, readsRecord, needsOpen, isRecover, Row, table, first, cause}
-use Rattle.store.proofs.Causes.{other, SizeFacts, sizes-facts, counts-facts, waiting-facts, Passes, cause-passes as Causes·cause-passes}
+use Rattle.store.specs.Causes.{wrongSizes, wrongCounts, wrongWaiting, wrongLists, wrongRecord, Row, sizeRow, recordRow, closedRow, downRow, Rules, ofBytes, ofRecord, ofOpen, rows, rules, ownSize, wrongBlock, some, first, cause}
+use Rattle.store.proofs.Causes.{restOf, readsRecord, needsOpen, ownRows, own-over, other, SizeFacts, sizes-facts, counts-facts, waiting-facts, Passes, cause-passes as Causes·cause-passes}
 use Rattle.history.specs.Call.{Call, requestOf, power, put, get, commit, abandon, sync, apply, recover, cut}
 use Rattle.history.specs.Plain.{Plain, overOne, refusal}
 use Rattle.history.proofs.Lists.{none-some, find-has, Distinct, twice-distinct, distinct-twice, Data, strays-all, all-strays}
@@ -203,28 +203,50 @@ module _ (st : State) (d : Plain) (sizes : wrongSizes st ≡ false) (counts : wr
 
 -- ---- numbers that are not given
 
-first-not : (rs : List Row) (k : ℕ) (q : Request) (st : State) → k ≢ 0 → All (λ r. r .number ≢ k) rs → first rs q st ≢ k
-first-not [] k q st z a e = z (sym e)
-first-not (r ∷ rs) k q st z a e = go (r .test q st) e (first-not rs k q st z (a .1))
+-- a row of another number in front
+first-else : (r : Row) (rs : List Row) (k : ℕ) (st : State) → r .number ≢ k → first rs st ≢ k → first (r ∷ rs) st ≢ k
+first-else r rs k st n f = go (r .test st)
   where
-    go : (t : Bool) → cond t (r .number) (first rs q st) ≡ k → first rs q st ≢ k → ⊥
-    go true p f = a .0 p
-    go false p f = f p
+    go : (t : Bool) → cond t (r .number) (first rs st) ≢ k
+    go true = n
+    go false = f
+
+first-not : (rs : List Row) (k : ℕ) (st : State) → k ≢ 0 → All (λ r. r .number ≢ k) rs → first rs st ≢ k
+first-not [] k st z a e = z (sym e)
+first-not (r ∷ rs) k st z a e = first-else r rs k st (a .0) (first-not rs k st z (a .1)) e
+
+own-not : (q : Request) (k : ℕ) (st : State) → k ≤ 2 → k ≢ 0 → first (ownRows q) st ≢ k
+own-not q k st small z = first-not (ownRows q) k st z (all-map (λ r. 2 < r .number) (λ r. r .number ≢ k) (λ r h e. omega arith) (ownRows q) (own-over q))
 
 -- 1 is for the call's own block
 pub cause-one : (q : Request) (st : State) → wrongSizes st ≡ false → cause q st ≡ 1 → wrongBlock q ≡ true
-cause-one q st sizes e = go (wrongBlock q) refl
+cause-one q st sizes = go (rules q) (own-not q 1 st (omega arith) (omega arith))
   where
-    go : (t : Bool) → wrongBlock q ≡ t → t ≡ true
-    go true p = refl
-    go false p = absurd (first-not (drop 1 table) 1 q st (omega arith) (omega arith) (rw (sizes, p) at e))
+    own-one : (t own : Bool) (rest : ℕ) → t ≡ false → cond (t || own) 1 rest ≡ 1 → rest ≢ 1 → own ≡ true
+    own-one true own rest z e h = absurd (false≢true (sym z))
+    own-one false true rest z e h = refl
+    own-one false false rest z e h = absurd (h e)
+
+    go : (r : Rules) → first (restOf r) st ≢ 1 → first (rows r) st ≡ 1 → ownSize r ≡ true
+    go (ofBytes own rest) h e = own-one (wrongSizes st) own (first rest st) sizes e h
+    go (ofRecord own rest) h e = own-one (wrongSizes st) own (first (recordRow ∷ rest) st) sizes e (first-else recordRow rest 1 st (omega arith) h)
+    go (ofOpen own rest) h e =
+        own-one (wrongSizes st) own (first (recordRow ∷ closedRow ∷ downRow ∷ rest) st) sizes e
+        (first-else recordRow (closedRow ∷ downRow ∷ rest) 1 st (omega arith)
+        (first-else closedRow (downRow ∷ rest) 1 st (omega arith)
+        (first-else downRow rest 1 st (omega arith) h)))
 
 pub cause-two : (q : Request) (st : State) → wrongRecord st ≡ false → cause q st ≢ 2
-cause-two q st counts e = go (wrongSizes st || wrongBlock q) (rw (counts, and-false) at e)
+cause-two q st counts = go (rules q) (own-not q 2 st (omega arith) (omega arith))
   where
-    go : (t : Bool) → cond t 1 (first (drop 2 table) q st) ≡ 2 → ⊥
-    go true p = omega arith
-    go false p = first-not (drop 2 table) 2 q st (omega arith) (omega arith) p
+    go : (r : Rules) → first (restOf r) st ≢ 2 → first (rows r) st ≢ 2
+    go (ofBytes own rest) h = first-else (sizeRow own) rest 2 st (omega arith) h
+    go (ofRecord own rest) h = first-else (sizeRow own) (recordRow ∷ rest) 2 st (omega arith) (rw counts h)
+    go (ofOpen own rest) h =
+        first-else (sizeRow own) (recordRow ∷ closedRow ∷ downRow ∷ rest) 2 st (omega arith)
+        (rw counts
+        (first-else closedRow (downRow ∷ rest) 2 st (omega arith)
+        (first-else downRow rest 2 st (omega arith) h)))
 
 -- ---- a call that no row of the table refuses
 
@@ -242,7 +264,7 @@ cause-opened q st reads needs e =
     let p = cause-passes q st e in
     let f = sound-facts st (p .sizes) (other _ _ (p .counts) reads) in
     let a : st .rec .mode ≢ closed = eqb-false _ _ (other _ _ (p .not-closed) needs) in
-    let b : st .rec .mode ≢ down = eqb-false _ _ (other _ _ (p .not-down) (ap (λ (t : Bool). t || isRecover q) needs)) in
+    let b : st .rec .mode ≢ down = eqb-false _ _ (other _ _ (p .not-down) needs) in
     let few : st .rec .mode ≤ down = f .counts .mode in
     let mode : st .rec .mode ≡ openMode = omega arith in
     record { facts = f; mode = mode; lists = f .counts .lists mode }

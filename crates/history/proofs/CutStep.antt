@@ -22,9 +22,9 @@ use Rattle.store.specs.Outcomes.{completed}
 use Rattle.store.specs.Saves.{cutCall}
 use Rattle.store.proofs.Causes.{sizes-facts}
 use Rattle.history.specs.Call.{get, cut}
-use Rattle.history.specs.Plain.{Plain, Done, plainStep, none, Verdict, refusal, plainCut, headerKept, overOne}
+use Rattle.history.specs.Plain.{Plain, Done, plainStep, none, still, closedWith, Verdict, refusal, plainCut, headerKept, overOne}
 use Rattle.history.specs.Dispatch.{dispatch}
-use Rattle.history.specs.Ledger.{Ledger, nothing, resolved, entered, logFound, sameLog, collides}
+use Rattle.history.specs.Ledger.{Ledger, nothing, settledBy, resolved, entered, logFound, sameLog, collides}
 use Rattle.history.specs.History.{World, storeNext, ledgerNext, foundWritten, acceptedCut, exception}
 use Rattle.history.proofs.Disks.{ClosedCard}
 use Rattle.history.proofs.AfterCut.{closed-leads, foundIn}
@@ -72,7 +72,7 @@ unfolding cutCall
 cut-served ms st h = rw (eq-eqb _ 0 h)
 
 abbrev pub writtenAt : List ℕ → Ledger → Ledger
-writtenAt ms l = record { written = cutWritten ms l; pending = nothing }
+writtenAt ms l = settledBy (cutWritten ms l)
 
 pub cut-entered : (ms : List ℕ) (st : State) (l : Ledger) → cause (Request.cut ms) st ≡ 0 → entered (cut ms) st l ≡ writtenAt ms l
 unfolding entered
@@ -80,7 +80,7 @@ cut-entered ms st l h = rw (cut-served ms st h)
 
 -- the plain disk after it
 abbrev pub plainAt : State → Plain → Disk → ℕ → Bool → Plain
-plainAt st d S n F = record { N = d .N; S = S; G = []; T = []; n = n; mode = 0; power = d .power; waiting = 0; short = none; F = F }
+plainAt st d S n F = closedWith S n F d
 
 pub cut-basics : (ms : List ℕ) (st : State) (d : Plain) (S : Disk) (n : ℕ) (F : Bool) → Basics st d → Basics (afterCut ms st) (plainAt st d S n F)
 unfolding Card.cut
@@ -108,7 +108,7 @@ cut-basics ms st d S n F b =
 
 pub cut-sim : (ms : List ℕ) (st : State) (d : Plain) (w : List Entry) (S : Disk) (n : ℕ) (F : Bool) → Basics st d
     → ClosedCard (st .rec .blocks) (blockAt (cutSettled ms st)) w S n F
-    → Sim (afterCut ms st) (record { written = w; pending = nothing }) (plainAt st d S n F)
+    → Sim (afterCut ms st) (settledBy w) (plainAt st d S n F)
 cut-sim ms st d w S n F b r = record {
   basics = cut-basics ms st d S n F b;
   phase = _⊎_.inr (_⊎_.inl (record { mode = refl; T = refl; G = refl; short = refl; pending = refl; card = r }));
@@ -157,7 +157,7 @@ module _ (ms : List ℕ) (w : World) (m : WorldSim w) (h : refusal (cut ms) (w .
   verdict-cut = cutVerdict ms (w .store) (w .ledger) (w .plain)
 
   pub plain-cut : plainStep (cut ms) (foundWritten (cut ms) w) (w .plain)
-      ≡ record { answer = 0; orders = 0; plain = plainAt (w .store) (w .plain) (cond (verdict-cut .laid) (overlay (w .plain .G) (w .plain .S)) (w .plain .S)) (verdict-cut .n) (verdict-cut .F) }
+      ≡ still (plainAt (w .store) (w .plain) (cond (verdict-cut .laid) (overlay (w .plain .G) (w .plain .S)) (w .plain .S)) (verdict-cut .n) (verdict-cut .F))
   unfolding plainCut
   plain-cut = plain-served (cut ms) (foundWritten (cut ms) w) (w .plain) h ∙ ap (λ (t : Bool). plainCut ms t (w .plain)) found-cut
 
@@ -183,7 +183,7 @@ module _ (ms : List ℕ) (w : World) (m : WorldSim w) (h : refusal (cut ms) (w .
             let c = leads-cut .safe in
             rw (store-cut, ledger-cut)
             (record {
-              ledger = record { written = c .w; pending = nothing };
+              ledger = settledBy (c .w);
               plain = plainAt (w .store) (w .plain) (c .S) (c .n) (c .F);
               sim = cut-sim ms (w .store) (w .plain) (c .w) (c .S) (c .n) (c .F) b (c .card);
               even = record { written = (sym (c .size), sym (c .total)); pending = tt };

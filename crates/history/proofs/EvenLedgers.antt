@@ -11,7 +11,7 @@ use Rattle.journal.specs.Log.{sumOf}
 use Rattle.store.specs.State.{State}
 use Rattle.history.specs.Call.{Call, power, put, get, commit, abandon, sync, apply, recover, cut}
 use Rattle.history.specs.Dispatch.{dispatch}
-use Rattle.history.specs.Ledger.{PlannedHeader, Pending, nothing, waits, Ledger, syncHeaders, applyHeaders, recoverHeaders, noted, resolved, entered}
+use Rattle.history.specs.Ledger.{PlannedHeader, Pending, nothing, waits, Ledger, settledBy, waitsBehind, syncHeaders, applyHeaders, recoverHeaders, noted, resolved, entered}
 
 -- as long, with the same sum
 abbrev pub EvenLists : List Entry → List Entry → Type 0
@@ -50,11 +50,11 @@ unfolding noted
 noted-even [] k l m e = e
 noted-even (h ∷ hs) k l m e =
     go (leb k (h .at)) (eqb k (suc (h .at)))
-    (noted-even hs k (record { written = h .list; pending = nothing }) (record { written = h .list; pending = nothing }) (record { written = (refl, refl); pending = tt }))
+    (noted-even hs k (settledBy (h .list)) (settledBy (h .list)) (record { written = (refl, refl); pending = tt }))
   where
-    go : (s t : Bool) → Even (noted hs k (record { written = h .list; pending = nothing })) (noted hs k (record { written = h .list; pending = nothing }))
-        → Even (cond s l (cond t (record { written = l .written; pending = waits (h .place) (h .list) }) (noted hs k (record { written = h .list; pending = nothing }))))
-        (cond s m (cond t (record { written = m .written; pending = waits (h .place) (h .list) }) (noted hs k (record { written = h .list; pending = nothing }))))
+    go : (s t : Bool) → Even (noted hs k (settledBy (h .list))) (noted hs k (settledBy (h .list)))
+        → Even (cond s l (cond t (waitsBehind (h .place) (h .list) l) (noted hs k (settledBy (h .list)))))
+        (cond s m (cond t (waitsBehind (h .place) (h .list) m) (noted hs k (settledBy (h .list)))))
     go true t r = e
     go false true r = record { written = e .written; pending = (refl, (refl, refl)) }
     go false false r = r
@@ -83,6 +83,6 @@ entered-even apply st l m e = noted-even (applyHeaders st) (dispatch apply st .o
 entered-even recover st l m e = noted-even (recoverHeaders st) (dispatch recover st .orders) l m e
 entered-even (cut ms) st l m e = go (eqb (dispatch (cut ms) st .answer) 0)
   where
-    go : (t : Bool) → Even (cond t (record { written = resolved ms (l .pending) (l .written); pending = nothing }) l) (cond t (record { written = resolved ms (m .pending) (m .written); pending = nothing }) m)
+    go : (t : Bool) → Even (cond t (settledBy (resolved ms (l .pending) (l .written))) l) (cond t (settledBy (resolved ms (m .pending) (m .written))) m)
     go true = record { written = resolved-even ms (l .pending) (m .pending) (l .written) (m .written) (e .pending) (e .written); pending = tt }
     go false = e

@@ -17,7 +17,7 @@ use Rattle.store.specs.declared.record.Record.{Record}
 use Rattle.store.specs.Request as Request
 use Rattle.store.specs.State.{State, Outcome, openMode, down, withMode, withLog}
 use Rattle.store.specs.CodeState.{stateOf}
-use Rattle.store.specs.Causes.{needsOpen, cause}
+use Rattle.store.specs.Causes.{cause}
 use Rattle.store.specs.Format.{formatted, formatCall}
 use Rattle.store.specs.Power.{powerCall}
 use Rattle.store.specs.Saves.{carried, applies, metByAppend, innerOrders, syncing, syncCall, applyCall, recoverCall, cutCall}
@@ -32,6 +32,7 @@ use Rattle.history.specs.Dispatch.{dispatch}
 use Rattle.history.specs.Ledger.{Ledger, entered}
 use Rattle.history.specs.History.{World, begun, next, after, foundWritten}
 use Rattle.history.specs.Linked.{faceNext, faceAfter, Passable, AllPassable, BytesOf, Links, Linked}
+use Rattle.store.proofs.Causes.{needsOpen}
 use Rattle.history.proofs.CauseLaws.{record-facts, cause-passes}
 use Rattle.history.proofs.PlainLaws.{sync-nothing, sync-finished, sync-short, apply-nothing, apply-finished, apply-short, recover-whole, recover-fallback, recover-short}
 use Rattle.history.proofs.Relation.{OpenSim, ClosedSim, DownSim, Safe}

@@ -10,7 +10,7 @@ use lib.Dec.{eqb}
 use lib.ListN.{length, getD}
 use Rattle.card.specs.Disk.{overlay}
 use Rattle.journal.specs.Layout.{slots}
-use Rattle.history.specs.Plain.{Plain, none, ofSync, ofApply, ofRecover, applies, syncTakes, applyWaits, syncWaits, unchanged, applyVerdict, ownVerdict, verdict, cutShort, plainSync, plainApply, plainRecover, headerKept}
+use Rattle.history.specs.Plain.{Plain, none, ofSync, ofApply, ofRecover, applies, syncTakes, applyWaits, syncWaits, unchanged, applyVerdict, ownVerdict, verdict, cutShort, plainSync, plainApply, plainRecover, headerKept, done, still, synced, emptied, recovered}
 
 -- ---- orders and waiting writes
 
@@ -46,27 +46,12 @@ sync-waits-own n m k h l = rw (do-apply n m h, le-ltb k (n + 3) l)
 
 -- ---- the steps
 
-pub sync-nothing : (d : Plain) → length (d .G) ≡ 0 → plainSync d ≡ record { answer = 0; orders = 0; plain = d }
+pub sync-nothing : (d : Plain) → length (d .G) ≡ 0 → plainSync d ≡ still d
 unfolding plainSync
 sync-nothing d h = rw (eq-eqb _ _ h)
 
 pub sync-finished : (d : Plain) → length (d .G) ≢ 0 → syncTakes (d .n) (length (d .G)) ≤ d .power
-    → plainSync d ≡ record {
-      answer = 0;
-      orders = syncTakes (d .n) (length (d .G));
-      plain = record {
-        N = d .N;
-        S = overlay (d .G) (d .S);
-        G = [];
-        T = d .T;
-        n = cond (applies (d .n) (length (d .G))) 0 (d .n) + length (d .G);
-        mode = d .mode;
-        power = d .power - syncTakes (d .n) (length (d .G));
-        waiting = d .waiting;
-        short = d .short;
-        F = d .F;
-      };
-    }
+    → plainSync d ≡ done (syncTakes (d .n) (length (d .G))) (synced d)
 unfolding plainSync
 sync-finished d h p = rw (ne-eqb _ _ h, le-leb _ _ p)
 
@@ -75,27 +60,12 @@ pub sync-short : (d : Plain) → length (d .G) ≢ 0 → d .power < syncTakes (d
 unfolding plainSync
 sync-short d h p = rw (ne-eqb _ _ h, lt-leb _ _ p)
 
-pub apply-nothing : (d : Plain) → d .n ≡ 0 → plainApply d ≡ record { answer = 0; orders = 0; plain = d }
+pub apply-nothing : (d : Plain) → d .n ≡ 0 → plainApply d ≡ still d
 unfolding plainApply
 apply-nothing d h = rw (eq-eqb _ _ h)
 
 pub apply-finished : (d : Plain) → d .n ≢ 0 → d .n + 3 ≤ d .power
-    → plainApply d ≡ record {
-      answer = 0;
-      orders = d .n + 3;
-      plain = record {
-        N = d .N;
-        S = d .S;
-        G = d .G;
-        T = d .T;
-        n = 0;
-        mode = d .mode;
-        power = d .power - (d .n + 3);
-        waiting = d .waiting;
-        short = d .short;
-        F = d .F;
-      };
-    }
+    → plainApply d ≡ done (d .n + 3) (emptied d)
 unfolding plainApply
 apply-finished d h p = rw (ne-eqb _ _ h, le-leb _ _ p)
 
@@ -104,42 +74,12 @@ unfolding plainApply
 apply-short d h p = rw (ne-eqb _ _ h, lt-leb _ _ p)
 
 pub recover-whole : (d : Plain) → d .F ≡ false
-    → plainRecover d ≡ record {
-      answer = 0;
-      orders = 0;
-      plain = record {
-        N = d .N;
-        S = d .S;
-        G = d .G;
-        T = d .T;
-        n = d .n;
-        mode = 1;
-        power = d .power - 0;
-        waiting = d .waiting;
-        short = d .short;
-        F = false;
-      };
-    }
+    → plainRecover d ≡ done 0 (recovered 0 d)
 unfolding plainRecover
 recover-whole d h = rw (h, le-leb 0 (d .power) (omega arith))
 
 pub recover-fallback : (d : Plain) → d .F ≡ true → 2 ≤ d .power
-    → plainRecover d ≡ record {
-      answer = 0;
-      orders = 2;
-      plain = record {
-        N = d .N;
-        S = d .S;
-        G = d .G;
-        T = d .T;
-        n = d .n;
-        mode = 1;
-        power = d .power - 2;
-        waiting = d .waiting;
-        short = d .short;
-        F = false;
-      };
-    }
+    → plainRecover d ≡ done 2 (recovered 2 d)
 unfolding plainRecover
 recover-fallback d h p = rw (h, le-leb 2 (d .power) p)
 

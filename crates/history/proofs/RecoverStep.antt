@@ -50,9 +50,9 @@ pub is-closed : (st : State) (l : Ledger) (d : Plain) → Sim st l d → Passes 
 is-closed st l d m p = go (m .phase)
   where
     go : OpenSim st l d ⊎ (ClosedSim st l d ⊎ DownSim st l d) → ClosedSim st l d
-    go (_⊎_.inl o) = absurd (true≢false (rw (eq-eqb _ _ (o .mode)) at (p .not-open)))
+    go (_⊎_.inl o) = absurd (true≢false (rw (eq-eqb _ _ (o .mode)) at (p .own .1 .0)))
     go (_⊎_.inr (_⊎_.inl o)) = o
-    go (_⊎_.inr (_⊎_.inr o)) = absurd (true≢false (rw (eq-eqb _ _ (o .mode)) at (p .not-down)))
+    go (_⊎_.inr (_⊎_.inr o)) = absurd (true≢false (rw (eq-eqb _ _ (o .mode)) at (p .own .0)))
 
 module _ (st : State) (v : List Entry) (S : Disk) (n : ℕ) (F x : Bool) (f : Closed st v S n F) where
   abbrev w : World

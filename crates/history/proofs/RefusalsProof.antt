@@ -253,7 +253,7 @@ form recover st =
     gives _ refl
     (λ e.
     let p = cause-passes recover st e in
-    recover-batched st (idle st (record-facts st (p .counts)) (eqb-false _ _ (p .not-down))) (sizes-facts st (p .sizes) .waiting) (st .rec .blocks) (choose (st .rec .blocks) (st .settled)))
+    recover-batched st (idle st (record-facts st (p .counts)) (eqb-false _ _ (p .own .0))) (sizes-facts st (p .sizes) .waiting) (st .rec .blocks) (choose (st .rec .blocks) (st .settled)))
 form (cut ms) st = quiet _ refl refl
 
 -- ---- the theorem

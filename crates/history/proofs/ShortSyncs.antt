@@ -28,6 +28,7 @@ use Rattle.history.specs.History.{World, next, after, storeNext, ledgerN
 use Rattle.history.specs.Statements as S
 use Rattle.history.specs.Statements.{Fate, quiet, decided, Progress, known, undecided, observe, fate, outcome, WholeIsNew, shortSync, noneFinished, allOnes, headed, atCut}
 use Rattle.history.proofs.AfterCut.{foundIn}
+use Rattle.store.proofs.Causes.{needsOpen}
 use Rattle.history.proofs.CauseLaws.{cause-passes}
 use Rattle.history.proofs.Relation.{Basics, OpenSim, ClosedSim, DownSim, cutSettled, cutWritten}
 use Rattle.history.proofs.PlainLaws
@@ -222,7 +223,7 @@ open-kept old c w f m o x p s q =
     watch-at old (ap (observe c w) (y .0) ∙ q) refl refl refl
     (_⊎_.inl (record { mode = step c w m .agrees .mode ∙ p ∙ m .basics .mirrors .mode ∙ o; S = s ∙ y .1 }))
 
-pub open-now : (c : Call) (w : World) → WorldSim w → Rattle.store.specs.Causes.needsOpen (requestOf c) ≡ true → refusal c (w .plain) ≡ 0 → OpenSim (w .store) (w .ledger) (w .plain)
+pub open-now : (c : Call) (w : World) → WorldSim w → needsOpen (requestOf c) ≡ true → refusal c (w .plain) ≡ 0 → OpenSim (w .store) (w .ledger) (w .plain)
 open-now c w m n h =
     is-open (w .store) (w .ledger) (w .plain) m (requestOf c) n (cause-passes (requestOf c) (w .store) (same-cause (w .store) (w .ledger) (w .plain) m c ∙ h))
 

@@ -17,14 +17,14 @@ use Rattle.store.specs.State.{State, Outcome, openMode, withOpened, withGrouped
 use Rattle.store.specs.Lists.{openFrom, groupFrom, listOf, find}
 use Rattle.store.specs.Request as Request
 use Rattle.store.specs.Request.{Request}
-use Rattle.store.specs.Causes.{workBytes, wrongSizes, wrongCounts, wrongWaiting, wrongLists, needsOpen, cause}
+use Rattle.store.specs.Causes.{workBytes, wrongSizes, wrongCounts, wrongWaiting, wrongLists, cause}
 use Rattle.store.specs.Outcomes.{completed}
 use Rattle.store.specs.Power.{powerCall}
 use Rattle.store.specs.Put.{putAt, putCall, abandonCall}
 use Rattle.store.specs.declared.place.Place.{Place}
 use Rattle.store.specs.Get.{newest, getPlace, bytesAt}
 use Rattle.store.specs.Commit.{Group, joined, commitCall}
-use Rattle.store.proofs.Causes.{sizes-facts, Passes}
+use Rattle.store.proofs.Causes.{sizes-facts, needsOpen, Passes}
 use Rattle.store.proofs.Places.{data-lt}
 use Rattle.history.specs.Call.{Call, requestOf, power, put, get, commit, abandon}
 use Rattle.history.specs.Plain.{Plain, Done, insert, merge, refusal, withLists, withPower, still, served, plainStep, plainGet}
@@ -223,9 +223,9 @@ put-step a b w m =
     (λ e q f.
     let T = f .in-open in
     let G = f .in-group in
-    let place : isData N a ≡ true = not-false _ (q .address) in
+    let place : isData N a ≡ true = not-false _ (q .own .0) in
     let small : a < 2 ^ 32 = omega (arith, data-lt N a place, small-N st (w .plain) (m .basics)) in
-    let r = put-open x st (f .size) (T .count) (eqb-true _ _ (not-false _ (q .block))) small (rw (T .list) (T .distinct)) (λ h. leb-false _ _ (rw h at (q .room))) in
+    let r = put-open x st (f .size) (T .count) (eqb-true _ _ (not-false _ (q .block))) small (rw (T .list) (T .distinct)) (λ h. leb-false _ _ (rw h at (q .own .1 .0))) in
     record {
       work = now .work;
       t = now .rec .opened;
@@ -262,7 +262,7 @@ commit-step w m =
     (λ e q f.
     let T = f .in-open in
     let G = f .in-group in
-    let room = ltb-false _ _ (q .room) in
+    let room = ltb-false _ _ (q .own .0) in
     let most : N ≤ mostBlocks = omega (arith, sizes-facts st (m .basics .sizes) .most, record-facts st (m .basics .counts) .blocks) in
     let apart : Distinct (listOf (st .work) openFrom n) = rw (T .list) (T .distinct) in
     let r = joined-group (st .work) k n (f .size) (T .count) apart (rw (G .list) (G .distinct)) (rw (T .list) (data-short N most (w .plain .T) (T .all))) room in
@@ -317,7 +317,7 @@ get-step a w m =
     let q = cause-passes (Request.get a) st e in
     let o = is-open st l d m (Request.get a) refl q in
     let place : getPlace a st ≡ newest a st = rw (eq-eqb _ 0 e) in
-    let b : blockOf a st ≡ plainGet a d = ap (λ (p : Place). bytesAt p st) place ∙ newest-plain a st l d o (lists-in st l d m (o .mode)) (not-false _ (q .address)) in
+    let b : blockOf a st ≡ plainGet a d = ap (λ (p : Place). bytesAt p st) place ∙ newest-plain a st l d o (lists-in st l d m (o .mode)) (not-false _ (q .own .0)) in
     record {
       now = st;
       call = ap (λ (k : ℕ). record { answer = k; orders = 0; state = st }) e;

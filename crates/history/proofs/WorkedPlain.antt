@@ -7,7 +7,7 @@ use lib.ListN.{length}
 use Rattle.cells.specs.Entry.{blockBytes, Entry}
 use Rattle.card.specs.Disk.{Disk, overlay}
 use Rattle.history.specs.Call.{Call, power, put, commit, sync, recover, cut}
-use Rattle.history.specs.Plain.{Plain, Done, none, ofSync, has, insert, merge, overOne, refusal, headerKept, verdict, ownVerdict, plainSync, plainRecover, plainCut, plainStep, still}
+use Rattle.history.specs.Plain.{Plain, Done, ofSync, blankPlain, withS, withLists, withCount, withPower, done, cutShort, closedWith, has, insert, merge, overOne, refusal, headerKept, verdict, ownVerdict, plainSync, plainRecover, plainCut, plainStep, still}
 use Rattle.history.specs.Dispatch.{dispatch}
 use Rattle.history.specs.History.{World, next, foundWritten, exception}
 use Rattle.history.specs.Worked.{at40}
@@ -17,14 +17,14 @@ use Rattle.history.proofs.ListInduction.{step, next-sim}
 -- ---- the plain disk
 
 abbrev pub openAt : Disk → List Entry → List Entry → ℕ → ℕ → Plain
-openAt S G T n p = record { N = 64; S = S; G = G; T = T; n = n; mode = 1; power = p; waiting = 0; short = none; F = false }
+openAt S G T n p = withS S (withLists G T (withCount n (withPower p (blankPlain 64))))
 
 -- a sync of G over n = 1 was cut short by power 3
 abbrev pub downAt : Disk → List Entry → Plain
-downAt S G = record { N = 64; S = S; G = G; T = []; n = 1; mode = 2; power = 0; waiting = 3; short = ofSync 3; F = false }
+downAt S G = cutShort (ofSync 3) 3 (openAt S G [] 1 3) .plain
 
 abbrev pub closedAt : Disk → ℕ → ℕ → Bool → Plain
-closedAt S n p F = record { N = 64; S = S; G = []; T = []; n = n; mode = 0; power = p; waiting = 0; short = none; F = F }
+closedAt S n p F = closedWith S n F (withPower p (blankPlain 64))
 
 pub plain-put : (t : Bool) (S : Disk) (n p : ℕ) (b : List ℕ) → length b ≡ blockBytes → plainStep (put 40 b) t (openAt S [] [] n p) ≡ still (openAt S [] (at40 b ∷ []) n p)
 unfolding plainStep refusal has insert
@@ -35,7 +35,7 @@ unfolding plainStep refusal merge insert
 plain-commit t S n p b = refl
 
 pub plain-filed : (t : Bool) (S : Disk) (b : List ℕ)
-    → plainStep sync t (openAt S (at40 b ∷ []) [] 0 1000000) ≡ record { answer = 0; orders = 4; plain = openAt (overlay (at40 b ∷ []) S) [] [] 1 999996 }
+    → plainStep sync t (openAt S (at40 b ∷ []) [] 0 1000000) ≡ done 4 (openAt (overlay (at40 b ∷ []) S) [] [] 1 999996)
 unfolding plainStep refusal plainSync
 plain-filed t S b = refl
 
@@ -43,7 +43,7 @@ pub plain-power : (t : Bool) (S : Disk) (G : List Entry) (p k : ℕ) → plainSt
 unfolding plainStep refusal
 plain-power t S G p k = refl
 
-pub plain-halted : (t : Bool) (S : Disk) (b : List ℕ) → plainStep sync t (openAt S (at40 b ∷ []) [] 1 3) ≡ record { answer = 4; orders = 3; plain = downAt S (at40 b ∷ []) }
+pub plain-halted : (t : Bool) (S : Disk) (b : List ℕ) → plainStep sync t (openAt S (at40 b ∷ []) [] 1 3) ≡ cutShort (ofSync 3) 3 (openAt S (at40 b ∷ []) [] 1 3)
 unfolding plainStep refusal plainSync
 plain-halted t S b = refl
 
@@ -59,11 +59,11 @@ pub plain-again : (t : Bool) (S : Disk) (n p k : ℕ) (F : Bool) → plainStep (
 unfolding plainStep refusal
 plain-again t S n p k F = refl
 
-pub plain-fallback : (t : Bool) (S : Disk) (n : ℕ) → plainStep recover t (closedAt S n 100 true) ≡ record { answer = 0; orders = 2; plain = openAt S [] [] n 98 }
+pub plain-fallback : (t : Bool) (S : Disk) (n : ℕ) → plainStep recover t (closedAt S n 100 true) ≡ done 2 (openAt S [] [] n 98)
 unfolding plainStep refusal plainRecover
 plain-fallback t S n = refl
 
-pub plain-found : (t : Bool) (S : Disk) (n : ℕ) → plainStep recover t (closedAt S n 100 false) ≡ record { answer = 0; orders = 0; plain = openAt S [] [] n 100 }
+pub plain-found : (t : Bool) (S : Disk) (n : ℕ) → plainStep recover t (closedAt S n 100 false) ≡ still (openAt S [] [] n 100)
 unfolding plainStep refusal plainRecover
 plain-found t S n = refl
 

@@ -11,7 +11,6 @@ use Rattle.cells.specs.Cell.{cell}
 use Rattle.cells.specs.Little.{num}
 use Rattle.cells.specs.Entry.{blockBytes, Entry}
 use Rattle.cells.specs.Same.Laws.{same-self}
-use Rattle.fnv.specs.Fnv.{start}
 use Rattle.card.specs.Disk.{Disk, lay, overlay}
 use Rattle.card.specs.Card.{blockAt, blocksIn}
 use Rattle.journal.specs.declared.lookup.Found.{Found}
@@ -20,6 +19,7 @@ use Rattle.journal.specs.Layout.{descriptorAt, isData, wrongSize}
 use Rattle.store.specs.Request as Request
 use Rattle.store.specs.declared.record.Record.{Record}
 use Rattle.store.specs.State.{State, Outcome, openMode}
+use Rattle.store.specs.CodeState.{stateOf, fresh as Record·fresh}
 use Rattle.store.specs.Lists.{openFrom, find}
 use Rattle.store.specs.Causes.{wrongSizes, cause}
 use Rattle.store.specs.Outcomes.{refused, completed, unless}
@@ -27,7 +27,7 @@ use Rattle.store.specs.Format.{formatCall}
 use Rattle.store.specs.Put.{putAt, putCall}
 use Rattle.store.specs.Commit.{commitCall}
 use Rattle.history.specs.Call.{power, put, get, commit, sync, recover, cut}
-use Rattle.history.specs.Plain.{Plain, fresh, none, overOne, refusal, headerKept, plainStep, still}
+use Rattle.history.specs.Plain.{Plain, fresh, blankPlain, overOne, refusal, headerKept, plainStep, still}
 use Rattle.history.specs.Dispatch.{dispatch}
 use Rattle.history.specs.Ledger.{sameLog, collides}
 use Rattle.history.specs.History.{World, begun, next, after, storeNext, ledgerNext, foundWritten, acceptedCut, exception}
@@ -292,7 +292,7 @@ module _ (w : World) (m : Filed w) (ms : List ℕ) (same : Bool) (k : ℕ) (c : 
 module _ (st : State) (f : formatCall st .answer ≡ 0) (size : blocksIn (st .settled) ≡ 64) where
   plain₀ : begun st .plain ≡ openAt zeros [] [] 0 1000000
   unfolding begun fresh
-  plain₀ = λ i. record { N = size i; S = zeros; G = []; T = []; n = 0; mode = 1; power = 1000000; waiting = 0; short = none; F = false }
+  plain₀ = ap blankPlain size
 
   abbrev w₁ : World
   w₁ = next (put 40 sevens) (begun st)
@@ -380,7 +380,7 @@ module _ (st : State) (f : formatCall st .answer ≡ 0) (size : blocksIn (st .se
 -- ---- a card of 64 blocks that format takes
 
 sized : (r : Record) (s q k : List ℕ) → length s ≡ 32768 → length q ≡ 17544 → length k ≡ 33024
-    → (formatCall (record { rec = r; settled = s; waiting = q; work = k }) .answer ≡ 0) × (blocksIn s ≡ 64)
+    → (formatCall (stateOf r s q k) .answer ≡ 0) × (blocksIn s ≡ 64)
 unfolding formatCall wrongSizes wrongSize
 sized r s q k a b c = (rw (a, b, c), ap (λ (x : ℕ). x / blockBytes) a)
 
@@ -393,9 +393,8 @@ length-naughts n = length-replicate n 0
 
 blank : (st : State) × (formatCall st .answer ≡ 0) × (blocksIn (st .settled) ≡ 64)
 blank =
-    let r : Record = record { mode = 0; blocks = 0; opened = 0; grouped = 0; logged = 0; waiting = 0; power = 0; sum = start } in
-    let p = sized r (naughts 32768) (naughts 17544) (naughts 33024) (length-naughts 32768) (length-naughts 17544) (length-naughts 33024) in
-    (record { rec = r; settled = naughts 32768; waiting = naughts 17544; work = naughts 33024 }, p .0, p .1)
+    let p = sized (Record·fresh 64) (naughts 32768) (naughts 17544) (naughts 33024) (length-naughts 32768) (length-naughts 17544) (length-naughts 33024) in
+    (stateOf (Record·fresh 64) (naughts 32768) (naughts 17544) (naughts 33024), p .0, p .1)
 
 pub worked : Worked
 worked = record { torn = torn; whole = whole; card = blank }

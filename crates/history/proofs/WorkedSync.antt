@@ -19,7 +19,7 @@ use Rattle.store.specs.Saves.{groupOf, applies}
 use Rattle.history.specs.Call.{sync}
 use Rattle.history.specs.Plain.{Plain, refusal, headerKept}
 use Rattle.history.specs.Dispatch.{dispatch}
-use Rattle.history.specs.Ledger.{waits, syncHeaders, noted, entered, applyHeader, ownHeader, standing, inner, resolved, sameLog}
+use Rattle.history.specs.Ledger.{waitsBehind, syncHeaders, noted, entered, applyHeader, ownHeader, standing, inner, resolved, sameLog}
 use Rattle.history.specs.History.{World, storeNext, ledgerNext}
 use Rattle.history.specs.Statements.{allOnes}
 use Rattle.history.specs.Worked.{at40}
@@ -140,14 +140,14 @@ module _ (w : World) (m : WorldSim w) (S : Disk) (b : List ℕ) (n p : ℕ) (few
       ∙ Facts.entries-log (w .store) (w .ledger) (w .plain) (m .basics) o
       ∙ ap (logD (blockAt s)) logged-is
 
-  halted-ledger : p ≡ 3 → ledgerNext sync w ≡ record { written = w .ledger .written; pending = waits 2 (logD (blockAt s) n ++ (at40 b ∷ [])) }
+  halted-ledger : p ≡ 3 → ledgerNext sync w ≡ waitsBehind 2 (logD (blockAt s) n ++ (at40 b ∷ [])) (w .ledger)
   unfolding entered syncHeaders
   halted-ledger e =
       ap (λ (x : Outcome). noted (syncHeaders (w .store)) (x .orders) (w .ledger)) (halted-call e)
       ∙ ap (λ (t : Bool). noted (cond t (applyHeader (w .store) ∷ ownHeader (w .store) ∷ []) (ownHeader (w .store) ∷ [])) (w .store .rec .power) (w .ledger))
       alone
       ∙ note-at (ownHeader (w .store)) [] (w .store .rec .power) (w .ledger) (omega (arith, power-is, no-inner, grouped-is))
-      ∙ (λ i. record { written = w .ledger .written; pending = waits (grouped-is i + 1) (standing-is i ++ group-is i) })
+      ∙ (λ i. waitsBehind (grouped-is i + 1) (standing-is i ++ group-is i) (w .ledger))
 
   halted-same : p ≡ 3 → (ms : List ℕ) → length ms ≡ 3 → allOnes ms ≡ true → sameLog (foundIn (cutSettled ms (storeNext sync w))) (cutWritten ms (ledgerNext sync w)) ≡ true
   halted-same e ms l a =

@@ -61,17 +61,25 @@ pub record Ledger : Type 0 where
   pub written : List Entry
   pub pending : Pending
 
+-- a header is settled, and none waits
+abbrev pub settledBy : List Entry → Ledger
+settledBy list = record { written = list; pending = nothing }
+
+-- a header waits
+abbrev pub waitsBehind : ℕ → List Entry → Ledger → Ledger
+waitsBehind place list l = record { written = l .written; pending = waits place list }
+
 -- "empty for format's"
 abbrev pub freshLedger : Ledger
-freshLedger = record { written = []; pending = nothing }
+freshLedger = settledBy []
 
 -- k orders of a call carried out: a header is written at its order, and settled by the next
 unfoldable pub noted : List PlannedHeader → ℕ → Ledger → Ledger
 noted [] k l = l
 noted (h ∷ hs) k l =
     cond (leb k (h .at)) l
-    (cond (eqb k (suc (h .at))) (record { written = l .written; pending = waits (h .place) (h .list) })
-    (noted hs k (record { written = h .list; pending = nothing })))
+    (cond (eqb k (suc (h .at))) (waitsBehind (h .place) (h .list) l)
+    (noted hs k (settledBy (h .list))))
 
 -- an accepted cut: the header that waits is the card's if its mark is 1
 unfoldable pub resolved : List ℕ → Pending → List Entry → List Entry
@@ -89,7 +97,7 @@ entered sync st l = noted (syncHeaders st) (dispatch sync st .orders) l
 entered apply st l = noted (applyHeaders st) (dispatch apply st .orders) l
 entered recover st l = noted (recoverHeaders st) (dispatch recover st .orders) l
 entered (cut ms) st l =
-    cond (eqb (dispatch (cut ms) st .answer) 0) (record { written = resolved ms (l .pending) (l .written); pending = nothing }) l
+    cond (eqb (dispatch (cut ms) st .answer) 0) (settledBy (resolved ms (l .pending) (l .written))) l
 
 -- ---- the log found, and the exception
 

@@ -31,9 +31,38 @@ pub record Plain : Type 0 where
   pub short : Short
   pub F : Bool
 
+-- ---- one field set, or two that go together, the others as they are
+
+abbrev pub withS : Disk → Plain → Plain
+withS S d = record { N = d .N; S = S; G = d .G; T = d .T; n = d .n; mode = d .mode; power = d .power; waiting = d .waiting; short = d .short; F = d .F }
+
+abbrev pub withLists : List Entry → List Entry → Plain → Plain
+withLists G T d = record { N = d .N; S = d .S; G = G; T = T; n = d .n; mode = d .mode; power = d .power; waiting = d .waiting; short = d .short; F = d .F }
+
+abbrev pub withCount : ℕ → Plain → Plain
+withCount n d = record { N = d .N; S = d .S; G = d .G; T = d .T; n = n; mode = d .mode; power = d .power; waiting = d .waiting; short = d .short; F = d .F }
+
+abbrev pub inMode : ℕ → Plain → Plain
+inMode k d = record { N = d .N; S = d .S; G = d .G; T = d .T; n = d .n; mode = k; power = d .power; waiting = d .waiting; short = d .short; F = d .F }
+
+abbrev pub withPower : ℕ → Plain → Plain
+withPower k d = record { N = d .N; S = d .S; G = d .G; T = d .T; n = d .n; mode = d .mode; power = k; waiting = d .waiting; short = d .short; F = d .F }
+
+abbrev pub withWaiting : ℕ → Plain → Plain
+withWaiting k d = record { N = d .N; S = d .S; G = d .G; T = d .T; n = d .n; mode = d .mode; power = d .power; waiting = k; short = d .short; F = d .F }
+
+abbrev pub withShort : Short → Plain → Plain
+withShort short d = record { N = d .N; S = d .S; G = d .G; T = d .T; n = d .n; mode = d .mode; power = d .power; waiting = d .waiting; short = short; F = d .F }
+
+abbrev pub withF : Bool → Plain → Plain
+withF F d = record { N = d .N; S = d .S; G = d .G; T = d .T; n = d .n; mode = d .mode; power = d .power; waiting = d .waiting; short = d .short; F = F }
+
 -- "Format makes S zero, lists empty, n and F 0." Mode open, power 1,000,000
+abbrev pub blankPlain : ℕ → Plain
+blankPlain N = record { N = N; S = λ a. replicate blockBytes 0; G = []; T = []; n = 0; mode = 1; power = 1000000; waiting = 0; short = none; F = false }
+
 unfoldable pub fresh : ℕ → Plain
-fresh N = record { N = N; S = λ a. replicate blockBytes 0; G = []; T = []; n = 0; mode = 1; power = 1000000; waiting = 0; short = none; F = false }
+fresh N = blankPlain N
 
 -- ---- lists
 
@@ -136,118 +165,68 @@ pub record Done : Type 0 where
   pub orders : ℕ
   pub plain : Plain
 
+-- a call that is done with k orders, and one that gives none
+abbrev pub done : ℕ → Plain → Done
+done k d = record { answer = 0; orders = k; plain = d }
+
+abbrev pub still : Plain → Done
+still d = done 0 d
+
+-- k orders carried out
+abbrev pub spent : ℕ → Plain → Plain
+spent k d = withPower (d .power - k) d
+
 -- "Otherwise power is 0, the mode is down and the call was cut short", with the power there was as its orders
 abbrev pub cutShort : Short → ℕ → Plain → Done
-cutShort short waits d = record {
-  answer = 4;
-  orders = d .power;
-  plain = record { N = d .N; S = d .S; G = d .G; T = d .T; n = d .n; mode = 2; power = 0; waiting = waits; short = short; F = d .F };
-}
-
--- lists and S set, everything else as it is
-abbrev pub withLists : List Entry → List Entry → Plain → Plain
-withLists G T d = record { N = d .N; S = d .S; G = G; T = T; n = d .n; mode = d .mode; power = d .power; waiting = d .waiting; short = d .short; F = d .F }
-
-abbrev pub withPower : ℕ → Plain → Plain
-withPower k d = record { N = d .N; S = d .S; G = d .G; T = d .T; n = d .n; mode = d .mode; power = k; waiting = d .waiting; short = d .short; F = d .F }
+cutShort short waits d = record { answer = 4; orders = d .power; plain = inMode 2 (withPower 0 (withWaiting waits (withShort short d))) }
 
 -- "sync puts G over S, empties G and adds m to n, after n = 0 if it applied"
+abbrev pub synced : Plain → Plain
+synced d =
+    withS (overlay (d .G) (d .S))
+    (withLists [] (d .T)
+    (withCount (cond (applies (d .n) (length (d .G))) 0 (d .n) + length (d .G))
+    (spent (syncTakes (d .n) (length (d .G))) d)))
+
 unfoldable pub plainSync : Plain → Done
 plainSync d =
     let m = length (d .G) in
-    cond (eqb m 0) (record { answer = 0; orders = 0; plain = d })
-    (cond (leb (syncTakes (d .n) m) (d .power))
-    (record {
-      answer = 0;
-      orders = syncTakes (d .n) m;
-      plain = record {
-        N = d .N;
-        S = overlay (d .G) (d .S);
-        G = [];
-        T = d .T;
-        n = cond (applies (d .n) m) 0 (d .n) + m;
-        mode = d .mode;
-        power = d .power - syncTakes (d .n) m;
-        waiting = d .waiting;
-        short = d .short;
-        F = d .F;
-      };
-    })
+    cond (eqb m 0) (still d)
+    (cond (leb (syncTakes (d .n) m) (d .power)) (done (syncTakes (d .n) m) (synced d))
     (cutShort (ofSync (d .power)) (syncWaits (d .n) m (d .power)) d))
 
 -- "apply sets n = 0"
+abbrev pub emptied : Plain → Plain
+emptied d = withCount 0 (spent (applyTakes (d .n)) d)
+
 unfoldable pub plainApply : Plain → Done
 plainApply d =
-    cond (eqb (d .n) 0) (record { answer = 0; orders = 0; plain = d })
-    (cond (leb (applyTakes (d .n)) (d .power))
-    (record {
-      answer = 0;
-      orders = applyTakes (d .n);
-      plain = record {
-        N = d .N;
-        S = d .S;
-        G = d .G;
-        T = d .T;
-        n = 0;
-        mode = d .mode;
-        power = d .power - applyTakes (d .n);
-        waiting = d .waiting;
-        short = d .short;
-        F = d .F;
-      };
-    })
+    cond (eqb (d .n) 0) (still d)
+    (cond (leb (applyTakes (d .n)) (d .power)) (done (applyTakes (d .n)) (emptied d))
     (cutShort (ofApply (d .power)) (applyWaits (d .n) (d .power)) d))
 
 -- "A recover takes 2 orders if F is 1, else none; […] done, and so finished, it makes F 0 and the mode open"
+abbrev pub recovered : ℕ → Plain → Plain
+recovered k d = withF false (inMode 1 (spent k d))
+
 unfoldable pub plainRecover : Plain → Done
 plainRecover d =
     let k : ℕ = cond (d .F) 2 0 in
-    cond (leb k (d .power))
-    (record {
-      answer = 0;
-      orders = k;
-      plain = record {
-        N = d .N;
-        S = d .S;
-        G = d .G;
-        T = d .T;
-        n = d .n;
-        mode = 1;
-        power = d .power - k;
-        waiting = d .waiting;
-        short = d .short;
-        F = false;
-      };
-    })
-    (cutShort (ofRecover (d .power)) (d .power) d)
+    cond (leb k (d .power)) (done k (recovered k d)) (cutShort (ofRecover (d .power)) (d .power) d)
 
 -- "if that write was kept": a header that waits is the last waiting write, and so is its mark
 unfoldable pub headerKept : List ℕ → ℕ → Bool
 headerKept ms waiting = eqb (getD ms (waiting - 1) 0) 1
 
--- "A cut empties G and T, and chooses". It is fed whether the log found is the log written
+-- "A cut empties G and T, and chooses" S, n and F; the queue is emptied, the record closed, no call cut short since
+abbrev pub closedWith : Disk → ℕ → Bool → Plain → Plain
+closedWith S n F d = withS S (withLists [] [] (withCount n (withF F (inMode 0 (withWaiting 0 (withShort none d))))))
+
+-- It is fed whether the log found is the log written
 unfoldable pub plainCut : List ℕ → Bool → Plain → Done
 plainCut ms found d =
     let v = verdict (d .short) (d .n) (length (d .G)) (d .F) (headerKept ms (d .waiting)) found in
-    record {
-      answer = 0;
-      orders = 0;
-      plain = record {
-        N = d .N;
-        S = cond (v .laid) (overlay (d .G) (d .S)) (d .S);
-        G = [];
-        T = [];
-        n = v .n;
-        mode = 0;
-        power = d .power;
-        waiting = 0;
-        short = none;
-        F = v .F;
-      };
-    }
-
-abbrev pub still : Plain → Done
-still d = record { answer = 0; orders = 0; plain = d }
+    still (closedWith (cond (v .laid) (overlay (d .G) (d .S)) (d .S)) (v .n) (v .F) d)
 
 -- a call that is not refused
 abbrev pub served : Call → Bool → Plain → Done

@@ -22,58 +22,58 @@ use Rattle.inspect.proofs.Readings.{TakenList}
 
 -- ---- data blocks, those below a left
 
-module _ (g : Geometry) where
+module _ (geo : Geometry) where
   module _ (c d : Disk) (a : ℕ) where
-    last : firstData g < a → sameData g c d (dataBlocks g a) ≡ sameData g c d (dataBlocks g (a - 1)) && same (c (a - 1)) (d (a - 1))
+    last : firstData geo < a → sameData geo c d (dataBlocks geo a) ≡ sameData geo c d (dataBlocks geo (a - 1)) && same (c (a - 1)) (d (a - 1))
     unfolding sameData
     last h =
-        let less : dataBlocks g a ≡ suc (dataBlocks g (a - 1)) = omega arith in
-        let here : firstData g + dataBlocks g (a - 1) ≡ a - 1 = omega arith in
+        let less : dataBlocks geo a ≡ suc (dataBlocks geo (a - 1)) = omega arith in
+        let here : firstData geo + dataBlocks geo (a - 1) ≡ a - 1 = omega arith in
         rw (less, here)
 
-    pub data-stop : firstData g < a → same (c (a - 1)) (d (a - 1)) ≡ false → sameData g c d (dataBlocks g a) ≡ false
+    pub data-stop : firstData geo < a → same (c (a - 1)) (d (a - 1)) ≡ false → sameData geo c d (dataBlocks geo a) ≡ false
     data-stop h e = last h ∙ rw (e, and-false)
 
-    pub data-on : firstData g < a → same (c (a - 1)) (d (a - 1)) ≡ true → sameData g c d (dataBlocks g a) ≡ sameData g c d (dataBlocks g (a - 1))
+    pub data-on : firstData geo < a → same (c (a - 1)) (d (a - 1)) ≡ true → sameData geo c d (dataBlocks geo a) ≡ sameData geo c d (dataBlocks geo (a - 1))
     data-on h e = last h ∙ rw (e, and-true)
 
-    pub data-over : a ≤ firstData g → sameData g c d (dataBlocks g a) ≡ true
+    pub data-over : a ≤ firstData geo → sameData geo c d (dataBlocks geo a) ≡ true
     unfolding sameData
-    data-over h = let none : dataBlocks g a ≡ 0 = omega arith in rw none
+    data-over h = let none : dataBlocks geo a ≡ 0 = omega arith in rw none
 
   -- ---- what the tests mean
 
-  data-equal : (c d : Disk) (k : ℕ) → sameData g c d k ≡ true → (i : ℕ) → i < k → c (firstData g + i) ≡ d (firstData g + i)
+  data-equal : (c d : Disk) (k : ℕ) → sameData geo c d k ≡ true → (i : ℕ) → i < k → c (firstData geo + i) ≡ d (firstData geo + i)
   unfolding sameData
   data-equal c d (suc k) e i h = go (ℕ-discrete i k) (data-equal c d k (both _ _ e .0) i)
     where
-      go : Dec (i ≡ k) → (i < k → c (firstData g + i) ≡ d (firstData g + i)) → c (firstData g + i) ≡ d (firstData g + i)
-      go (yes p) below = rw p (same-equal (c (firstData g + k)) (d (firstData g + k)) (both (sameData g c d k) (same (c (firstData g + k)) (d (firstData g + k))) e .1))
+      go : Dec (i ≡ k) → (i < k → c (firstData geo + i) ≡ d (firstData geo + i)) → c (firstData geo + i) ≡ d (firstData geo + i)
+      go (yes p) below = rw p (same-equal (c (firstData geo + k)) (d (firstData geo + k)) (both (sameData geo c d k) (same (c (firstData geo + k)) (d (firstData geo + k))) e .1))
       go (no p) below = below (omega arith)
 
-  equal-data : (c d : Disk) (k : ℕ) → ((i : ℕ) → i < k → c (firstData g + i) ≡ d (firstData g + i)) → sameData g c d k ≡ true
+  equal-data : (c d : Disk) (k : ℕ) → ((i : ℕ) → i < k → c (firstData geo + i) ≡ d (firstData geo + i)) → sameData geo c d k ≡ true
   unfolding sameData
   equal-data c d zero h = refl
   equal-data c d (suc k) h =
-      rw (equal-data c d k (λ i p. h i (omega arith)), h k (omega arith)) (same-self (d (firstData g + k)))
+      rw (equal-data c d k (λ i p. h i (omega arith)), h k (omega arith)) (same-self (d (firstData geo + k)))
 
   -- ---- the answer of alike
 
   module _ (a b : List ℕ) where
-    pub alike-first : (k : ℕ) → k ≡ inspection g a → k ≢ 0 → record { number = k; yes = false } ≡ alikeOf g a b
+    pub alike-first : (k : ℕ) → k ≡ inspection geo a → k ≢ 0 → record { number = k; yes = false } ≡ alikeOf geo a b
     unfolding alikeOf
     alike-first k e h = rw (← e, ne-eqb k 0 h, ne-eqb k 0 h)
 
-    pub alike-second : (k : ℕ) → inspection g a ≡ 0 → k ≡ inspection g b → k ≢ 0 → record { number = k; yes = false } ≡ alikeOf g a b
+    pub alike-second : (k : ℕ) → inspection geo a ≡ 0 → k ≡ inspection geo b → k ≢ 0 → record { number = k; yes = false } ≡ alikeOf geo a b
     unfolding alikeOf
     alike-second k p e h = rw (p, ← e, ne-eqb k 0 h)
 
-    pub alike-blocks : (r q : Reading) → TakenList g a r → TakenList g b q → r .blocks ≢ q .blocks → record { number = 0; yes = false } ≡ alikeOf g a b
+    pub alike-blocks : (r q : Reading) → TakenList geo a r → TakenList geo b q → r .blocks ≢ q .blocks → record { number = 0; yes = false } ≡ alikeOf geo a b
     unfolding alikeOf
     alike-blocks r q x y h = rw (x .none, y .none, ne-eqb (blocksIn a) (blocksIn b) (λ e. h (x .blocks ∙ e ∙ sym (y .blocks))))
 
-    pub alike-data : (r q : Reading) (t : Bool) → TakenList g a r → TakenList g b q → r .blocks ≡ q .blocks
-        → t ≡ sameData g (laid g a (r .count)) (laid g b (q .count)) (dataBlocks g (r .blocks)) → record { number = 0; yes = t } ≡ alikeOf g a b
+    pub alike-data : (r q : Reading) (t : Bool) → TakenList geo a r → TakenList geo b q → r .blocks ≡ q .blocks
+        → t ≡ sameData geo (laid geo a (r .count)) (laid geo b (q .count)) (dataBlocks geo (r .blocks)) → record { number = 0; yes = t } ≡ alikeOf geo a b
     unfolding alikeOf
     alike-data r q t x y h e =
         rw (x .none, y .none, eq-eqb (blocksIn a) (blocksIn b) (sym (x .blocks) ∙ h ∙ y .blocks), e, x .blocks, x .count, y .count)
@@ -81,33 +81,33 @@ module _ (g : Geometry) where
   -- ---- yes
 
   -- no refusal is no refusal of either card
-  none : (a b : List ℕ) → refusal g a b ≡ 0 → (inspection g a ≡ 0) × (inspection g b ≡ 0)
-  none a b e = go (eqb (inspection g a) 0) refl e
+  none : (a b : List ℕ) → refusal geo a b ≡ 0 → (inspection geo a ≡ 0) × (inspection geo b ≡ 0)
+  none a b e = go (eqb (inspection geo a) 0) refl e
     where
-      go : (t : Bool) → eqb (inspection g a) 0 ≡ t → cond t (inspection g b) (inspection g a) ≡ 0 → (inspection g a ≡ 0) × (inspection g b ≡ 0)
+      go : (t : Bool) → eqb (inspection geo a) 0 ≡ t → cond t (inspection geo b) (inspection geo a) ≡ 0 → (inspection geo a ≡ 0) × (inspection geo b ≡ 0)
       go true p q = (eqb-true _ _ p, q)
       go false p q = absurd (eqb-false _ _ p q)
 
   -- exactly if both cards are accepted, and "N and all data blocks so laid are equal"
-  pub alike-yes : (a b : List ℕ) → (alikeOf g a b .yes ≡ true) ↔ (Same g) a b
+  pub alike-yes : (a b : List ℕ) → (alikeOf geo a b .yes ≡ true) ↔ (Same geo) a b
   unfolding alikeOf
   alike-yes a b = (there, back)
     where
-      there : alikeOf g a b .yes ≡ true → Same g a b
+      there : alikeOf geo a b .yes ≡ true → Same geo a b
       there e =
           let p = both _ _ e in
           let q = both _ _ (p .0) in
           let r = none a b (eqb-true _ _ (q .0)) in
           record { first = r .0; second = r .1; blocks = eqb-true _ _ (q .1); laid = λ x d. data-at x d (p .1) }
         where
-          data-at : (x : ℕ) → isData g (blocksIn a) x ≡ true → sameData g (laidOver g a) (laidOver g b) (dataBlocks g (blocksIn a)) ≡ true → laidOver g a x ≡ laidOver g b x
+          data-at : (x : ℕ) → isData geo (blocksIn a) x ≡ true → sameData geo (laidOver geo a) (laidOver geo b) (dataBlocks geo (blocksIn a)) ≡ true → laidOver geo a x ≡ laidOver geo b x
           data-at x d f =
-              let h = data-bounds g (blocksIn a) x d in
-              let here : firstData g + dataBlocks g x ≡ x = omega arith in
-              let less : dataBlocks g x < dataBlocks g (blocksIn a) = omega arith in
-              rw here at (data-equal (laidOver g a) (laidOver g b) (dataBlocks g (blocksIn a)) f (dataBlocks g x) less)
+              let h = data-bounds geo (blocksIn a) x d in
+              let here : firstData geo + dataBlocks geo x ≡ x = omega arith in
+              let less : dataBlocks geo x < dataBlocks geo (blocksIn a) = omega arith in
+              rw here at (data-equal (laidOver geo a) (laidOver geo b) (dataBlocks geo (blocksIn a)) f (dataBlocks geo x) less)
 
-      back : Same g a b → alikeOf g a b .yes ≡ true
+      back : Same geo a b → alikeOf geo a b .yes ≡ true
       back h =
           rw (eq-eqb _ _ (h .first), eq-eqb _ _ (h .second), eq-eqb _ _ (h .blocks))
-          (equal-data (laidOver g a) (laidOver g b) (dataBlocks g (blocksIn a)) (λ i p. h .laid (firstData g + i) (bounds-data g (blocksIn a) (firstData g + i) (omega arith) (omega arith))))
+          (equal-data (laidOver geo a) (laidOver geo b) (dataBlocks geo (blocksIn a)) (λ i p. h .laid (firstData geo + i) (bounds-data geo (blocksIn a) (firstData geo + i) (omega arith) (omega arith))))

@@ -31,25 +31,25 @@ pub bytes-next : (s : List ℕ) (i : ℕ) → i < length s → sumBytes (take (i
 unfolding sumBytes
 bytes-next s i h = rw (add-one, take-suc s i 0, bytes-append, add-zero)
 
-module _ (g : Geometry) where
-  pub data-none : (d : Disk) (a : ℕ) → a ≡ firstData g → sumData g d (dataBlocks g a) ≡ 0
+module _ (geo : Geometry) where
+  pub data-none : (d : Disk) (a : ℕ) → a ≡ firstData geo → sumData geo d (dataBlocks geo a) ≡ 0
   unfolding sumData
-  data-none d a h = let e : dataBlocks g a ≡ 0 = omega arith in rw e
+  data-none d a h = let e : dataBlocks geo a ≡ 0 = omega arith in rw e
 
   -- one more data block
-  pub data-next : (d : Disk) (a : ℕ) → firstData g ≤ a → sumData g d (dataBlocks g (a + 1)) ≡ sumData g d (dataBlocks g a) + sumBytes (d a)
+  pub data-next : (d : Disk) (a : ℕ) → firstData geo ≤ a → sumData geo d (dataBlocks geo (a + 1)) ≡ sumData geo d (dataBlocks geo a) + sumBytes (d a)
   unfolding sumData
   data-next d a h =
-      let more : dataBlocks g (a + 1) ≡ suc (dataBlocks g a) = omega arith in
-      let here : firstData g + dataBlocks g a ≡ a = omega arith in
+      let more : dataBlocks geo (a + 1) ≡ suc (dataBlocks geo a) = omega arith in
+      let here : firstData geo + dataBlocks geo a ≡ a = omega arith in
       rw (more, here)
 
   -- ---- the answer of a tally
 
-  pub tally-refused : (s : List ℕ) (k : ℕ) → k ≡ inspection g s → k ≢ 0 → record { number = k; sum = 0 } ≡ tallyOf g s
+  pub tally-refused : (s : List ℕ) (k : ℕ) → k ≡ inspection geo s → k ≢ 0 → record { number = k; sum = 0 } ≡ tallyOf geo s
   unfolding tallyOf
   tally-refused s k e h = rw (← e, ne-eqb k 0 h)
 
-  pub tally-done : (s : List ℕ) (r : Reading) (v : ℕ) → TakenList g s r → v ≡ sumData g (laid g s (r .count)) (dataBlocks g (r .blocks)) → record { number = 0; sum = v } ≡ tallyOf g s
+  pub tally-done : (s : List ℕ) (r : Reading) (v : ℕ) → TakenList geo s r → v ≡ sumData geo (laid geo s (r .count)) (dataBlocks geo (r .blocks)) → record { number = 0; sum = v } ≡ tallyOf geo s
   unfolding tallyOf
   tally-done s r v t e = rw (t .none, e, t .blocks, t .count)

@@ -12,26 +12,26 @@ use Rattle.journal.specs.Layout.{firstData, isData}
 use Rattle.inspect.specs.declared.answer.Alike.{Alike}
 use Rattle.inspect.specs.Reading.{inspection, laidOver, dataBlocks}
 
-module _ (g : Geometry) where
+module _ (geo : Geometry) where
   -- the first k data blocks of two disks are equal
   unfoldable pub sameData : Disk → Disk → ℕ → Bool
   sameData c d zero = true
-  sameData c d (suc k) = sameData c d k && same (c (firstData g + k)) (d (firstData g + k))
+  sameData c d (suc k) = sameData c d k && same (c (firstData geo + k)) (d (firstData geo + k))
 
   -- "the first one's refusal first"
   abbrev pub refusal : List ℕ → List ℕ → ℕ
-  refusal a b = cond (eqb (inspection g a) 0) (inspection g b) (inspection g a)
+  refusal a b = cond (eqb (inspection geo a) 0) (inspection geo b) (inspection geo a)
 
   -- the refusal, or 0; and yes or no, which is no where a card is refused
   unfoldable pub alikeOf : List ℕ → List ℕ → Alike
   alikeOf a b = record {
     number = refusal a b;
-    yes = eqb (refusal a b) 0 && eqb (blocksIn a) (blocksIn b) && sameData (laidOver g a) (laidOver g b) (dataBlocks g (blocksIn a));
+    yes = eqb (refusal a b) 0 && eqb (blocksIn a) (blocksIn b) && sameData (laidOver geo a) (laidOver geo b) (dataBlocks geo (blocksIn a));
   }
 
   -- what a yes is to mean (proofs/Comparisons.antt): both cards are accepted, and "N and all data blocks so laid are equal"
   pub record Same (a b : List ℕ) : Type 0 where
-    pub first : inspection g a ≡ 0
-    pub second : inspection g b ≡ 0
+    pub first : inspection geo a ≡ 0
+    pub second : inspection geo b ≡ 0
     pub blocks : blocksIn a ≡ blocksIn b
-    pub laid : (x : ℕ) → isData g (blocksIn a) x ≡ true → laidOver g a x ≡ laidOver g b x
+    pub laid : (x : ℕ) → isData geo (blocksIn a) x ≡ true → laidOver geo a x ≡ laidOver geo b x

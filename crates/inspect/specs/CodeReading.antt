@@ -8,9 +8,9 @@ use Rattle.journal.specs.Choice.{takenCount}
 use Rattle.inspect.specs.declared.reading.Reading.{Reading}
 use Rattle.inspect.specs.Reading.{chosen, inspection}
 
-module _ (g : Geometry) where
+module _ (geo : Geometry) where
   -- the refusal; and where there is none, N and the count of the list taken
   pub record Read (s : List ℕ) (r : Reading) : Type 0 where
-    pub number : r .number ≡ inspection g s
+    pub number : r .number ≡ inspection geo s
     pub blocks : r .number ≡ 0 → r .blocks ≡ blocksIn s
-    pub count : r .number ≡ 0 → r .count ≡ takenCount (chosen g s)
+    pub count : r .number ≡ 0 → r .count ≡ takenCount (chosen geo s)

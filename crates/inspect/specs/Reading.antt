@@ -10,18 +10,18 @@ use Rattle.journal.specs.Layout.{firstData, wrongSize}
 use Rattle.journal.specs.Log.{entries}
 use Rattle.journal.specs.Choice.{choose, choiceNumber, takenCount}
 
-module _ (g : Geometry) where
+module _ (geo : Geometry) where
   -- "choose the list as recover does": N is that of the settled bytes
   abbrev pub chosen : List ℕ → Choice
-  chosen s = choose g (blocksIn s) s
+  chosen s = choose geo (blocksIn s) s
 
   -- "refuse 1, 8, 9": 0 for none of them
   unfoldable pub inspection : List ℕ → ℕ
-  inspection s = cond (wrongSize g s) 1 (choiceNumber (chosen s))
+  inspection s = cond (wrongSize geo s) 1 (choiceNumber (chosen s))
 
   -- the first n entries of the log laid over the home blocks
   abbrev pub laid : List ℕ → ℕ → Disk
-  laid s n = overlay (entries g s n) (blockAt s)
+  laid s n = overlay (entries geo s n) (blockAt s)
 
   -- "after the log is laid over": the list that was chosen
   abbrev pub laidOver : List ℕ → Disk
@@ -29,4 +29,4 @@ module _ (g : Geometry) where
 
   -- "Data blocks are addresses 34 to N−1": how many
   abbrev pub dataBlocks : ℕ → ℕ
-  dataBlocks N = N - firstData g
+  dataBlocks N = N - firstData geo

@@ -15,15 +15,15 @@ unfoldable pub sumBytes : List ℕ → ℕ
 sumBytes [] = 0
 sumBytes (b ∷ bs) = b + sumBytes bs
 
-module _ (g : Geometry) where
+module _ (geo : Geometry) where
   -- the sum of the bytes of a disk's first k data blocks
   unfoldable pub sumData : Disk → ℕ → ℕ
   sumData d zero = 0
-  sumData d (suc k) = sumData d k + sumBytes (d (firstData g + k))
+  sumData d (suc k) = sumData d k + sumBytes (d (firstData geo + k))
 
   -- the refusal, or 0; and the sum, 0 for a card that is refused
   unfoldable pub tallyOf : List ℕ → Tally
   tallyOf s = record {
-    number = inspection g s;
-    sum = cond (eqb (inspection g s) 0) (sumData (laidOver g s) (dataBlocks g (blocksIn s))) 0;
+    number = inspection geo s;
+    sum = cond (eqb (inspection geo s) 0) (sumData (laidOver geo s) (dataBlocks geo (blocksIn s))) 0;
   }

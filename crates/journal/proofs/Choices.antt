@@ -25,15 +25,15 @@ not-leb a b = go (leb a b) refl
 
 -- ---- a header of this card
 
-module _ (g : Geometry) where
+module _ (geo : Geometry) where
   -- what is not foreign
   pub record Ours (N : ℕ) (h : Header) : Type 0 where
     pub format : h .format ≡ formatNumber
     pub blocks : h .blocks ≡ N
-    pub count : h .count ≤ g .slots
+    pub count : h .count ≤ geo .slots
     pub previous : h .previous ≤ h .count
 
-  pub ours : (N : ℕ) (h : Header) → foreign g N h ≡ false → Ours N h
+  pub ours : (N : ℕ) (h : Header) → foreign geo N h ≡ false → Ours N h
   ours N h e =
       let p = both _ _ (not-false _ e) in
       let q = both _ _ (p .0) in
@@ -48,31 +48,31 @@ module _ (g : Geometry) where
   -- ---- the choice, case by case
 
   module _ (N : ℕ) (s : List ℕ) (h : Header) (read : h ≡ headerOf s) where
-    pub choose-foreign : foreign g N h ≡ true → choose g N s ≡ Foreign
+    pub choose-foreign : foreign geo N h ≡ true → choose geo N s ≡ Foreign
     unfolding choose
     choose-foreign f = rw (← read, f)
 
-    pub choose-whole : foreign g N h ≡ false → good g N (entries g s (h .count)) (h .sum) ≡ true → choose g N s ≡ Whole (h .count) (h .sum)
+    pub choose-whole : foreign geo N h ≡ false → good geo N (entries geo s (h .count)) (h .sum) ≡ true → choose geo N s ≡ Whole (h .count) (h .sum)
     unfolding choose
     choose-whole f n = rw (← read, f, n)
 
-    pub choose-fallback : foreign g N h ≡ false → good g N (entries g s (h .count)) (h .sum) ≡ false → good g N (entries g s (h .previous)) (h .presum) ≡ true
-        → choose g N s ≡ Fallback (h .previous) (h .presum)
+    pub choose-fallback : foreign geo N h ≡ false → good geo N (entries geo s (h .count)) (h .sum) ≡ false → good geo N (entries geo s (h .previous)) (h .presum) ≡ true
+        → choose geo N s ≡ Fallback (h .previous) (h .presum)
     unfolding choose
     choose-fallback f n p = rw (← read, f, n, p)
 
-    pub choose-neither : foreign g N h ≡ false → good g N (entries g s (h .count)) (h .sum) ≡ false → good g N (entries g s (h .previous)) (h .presum) ≡ false
-        → choose g N s ≡ Neither
+    pub choose-neither : foreign geo N h ≡ false → good geo N (entries geo s (h .count)) (h .sum) ≡ false → good geo N (entries geo s (h .previous)) (h .presum) ≡ false
+        → choose geo N s ≡ Neither
     unfolding choose
     choose-neither f n p = rw (← read, f, n, p)
 
   -- a list that is taken fits the slots
-  pub taken-count : (N : ℕ) (s : List ℕ) → takenCount (choose g N s) ≤ g .slots
+  pub taken-count : (N : ℕ) (s : List ℕ) → takenCount (choose geo N s) ≤ geo .slots
   unfolding choose
-  taken-count N s = go (foreign g N (headerOf s)) refl (good g N (entries g s (headerOf s .count)) (headerOf s .sum)) (good g N (entries g s (headerOf s .previous)) (headerOf s .presum))
+  taken-count N s = go (foreign geo N (headerOf s)) refl (good geo N (entries geo s (headerOf s .count)) (headerOf s .sum)) (good geo N (entries geo s (headerOf s .previous)) (headerOf s .presum))
     where
-      go : (f : Bool) → foreign g N (headerOf s) ≡ f → (n p : Bool)
-          → takenCount (cond f Foreign (cond n (Whole (headerOf s .count) (headerOf s .sum)) (cond p (Fallback (headerOf s .previous) (headerOf s .presum)) Neither))) ≤ g .slots
+      go : (f : Bool) → foreign geo N (headerOf s) ≡ f → (n p : Bool)
+          → takenCount (cond f Foreign (cond n (Whole (headerOf s .count) (headerOf s .sum)) (cond p (Fallback (headerOf s .previous) (headerOf s .presum)) Neither))) ≤ geo .slots
       go true e n p = omega arith
       go false e true p = ours N (headerOf s) e .count
       go false e false true = let o = ours N (headerOf s) e in omega (arith, o .count, o .previous)

@@ -81,41 +81,41 @@ sumOf-lt h es l = sumFrom-lt h (flat es) l
 
 -- ---- a list of data blocks
 
-module _ (g : Geometry) where
-  pub data-bounds : (N a : ℕ) → isData g N a ≡ true → (firstData g ≤ a) × (a < N)
-  data-bounds N a e = let p = both _ _ e in (leb-true (firstData g) a (p .0), ltb-true a N (p .1))
+module _ (geo : Geometry) where
+  pub data-bounds : (N a : ℕ) → isData geo N a ≡ true → (firstData geo ≤ a) × (a < N)
+  data-bounds N a e = let p = both _ _ e in (leb-true (firstData geo) a (p .0), ltb-true a N (p .1))
 
-  pub bounds-data : (N a : ℕ) → firstData g ≤ a → a < N → isData g N a ≡ true
-  bounds-data N a h k = rw (le-leb (firstData g) a h, lt-ltb a N k)
+  pub bounds-data : (N a : ℕ) → firstData geo ≤ a → a < N → isData geo N a ≡ true
+  bounds-data N a h k = rw (le-leb (firstData geo) a h, lt-ltb a N k)
 
-  pub allData-all : (N : ℕ) (es : List Entry) → allData g N es ≡ true → All (λ e. isData g N (e .address) ≡ true) es
+  pub allData-all : (N : ℕ) (es : List Entry) → allData geo N es ≡ true → All (λ e. isData geo N (e .address) ≡ true) es
   unfolding allData
   allData-all N [] h = tt
   allData-all N (e ∷ es) h = let p = both _ _ h in (p .0, allData-all N es (p .1))
 
-  pub all-allData : (N : ℕ) (es : List Entry) → All (λ e. isData g N (e .address) ≡ true) es → allData g N es ≡ true
+  pub all-allData : (N : ℕ) (es : List Entry) → All (λ e. isData geo N (e .address) ≡ true) es → allData geo N es ≡ true
   unfolding allData
   all-allData N [] h = refl
   all-allData N (e ∷ es) h = rw (h .0, all-allData N es (h .1))
 
   -- each slot of such a log
-  pub slot-data : (s : List ℕ) (N n i : ℕ) → i < n → allData g N (entries g s n) ≡ true → isData g N (slotAddress s i) ≡ true
+  pub slot-data : (s : List ℕ) (N n i : ℕ) → i < n → allData geo N (entries geo s n) ≡ true → isData geo N (slotAddress s i) ≡ true
   unfolding slotEntry
-  slot-data s N n i h e = upTo-all (λ x. isData g N (x .address) ≡ true) (slotEntry g s) n (allData-all N (entries g s n) e) i h
+  slot-data s N n i h e = upTo-all (λ x. isData geo N (x .address) ≡ true) (slotEntry geo s) n (allData-all N (entries geo s n) e) i h
 
-  pub allData-append : (N : ℕ) (a b : List Entry) → allData g N (a ++ b) ≡ allData g N a && allData g N b
+  pub allData-append : (N : ℕ) (a b : List Entry) → allData geo N (a ++ b) ≡ allData geo N a && allData geo N b
   unfolding allData
   allData-append N [] b = refl
-  allData-append N (e ∷ a) b = go (isData g N (e .address)) (allData-append N a b)
+  allData-append N (e ∷ a) b = go (isData geo N (e .address)) (allData-append N a b)
     where
-      go : (t : Bool) → allData g N (a ++ b) ≡ allData g N a && allData g N b → t && allData g N (a ++ b) ≡ (t && allData g N a) && allData g N b
+      go : (t : Bool) → allData geo N (a ++ b) ≡ allData geo N a && allData geo N b → t && allData geo N (a ++ b) ≡ (t && allData geo N a) && allData geo N b
       go true k = k
       go false k = refl
 
   -- ---- entry by entry
 
   -- an entry with the slot's address and its block
-  pub slot-entry : (s : List ℕ) (i : ℕ) (e : Entry) → e .address ≡ slotAddress s i → e .block ≡ blockAt s (slotAt g i) → e ≡ slotEntry g s i
+  pub slot-entry : (s : List ℕ) (i : ℕ) (e : Entry) → e .address ≡ slotAddress s i → e .block ≡ blockAt s (slotAt geo i) → e ≡ slotEntry geo s i
   unfolding slotEntry
   slot-entry s i e p q = entry-eq p q
 
@@ -123,30 +123,30 @@ module _ (g : Geometry) where
 pub sum-more : (f : ℕ → Entry) (h i g : ℕ) (e : Entry) → g ≡ sumOf h (upTo f i) → e ≡ f i → sumOf g (e ∷ []) ≡ sumOf h (upTo f (i + 1))
 sum-more f h i g e p q = rw (add-one, p, q) (sym (sumOf-append h (upTo f i) (f i ∷ [])))
 
-module _ (g : Geometry) where
+module _ (geo : Geometry) where
   -- the last of n addresses, then those before it
-  data-down : (N : ℕ) (s : List ℕ) (n : ℕ) → 0 < n → allData g N (entries g s n) ≡ allData g N (entries g s (n - 1)) && isData g N (slotAddress s (n - 1))
+  data-down : (N : ℕ) (s : List ℕ) (n : ℕ) → 0 < n → allData geo N (entries geo s n) ≡ allData geo N (entries geo s (n - 1)) && isData geo N (slotAddress s (n - 1))
   unfolding allData slotEntry
   data-down N s zero h = absurd (omega arith)
   data-down N s (suc n) h =
       let e : suc n - 1 ≡ n = omega arith in
       rw e
-      (allData-append g N (entries g s n) (slotEntry g s n ∷ [])
-      ∙ ap (λ (t : Bool). allData g N (entries g s n) && t) (and-true (isData g N (slotAddress s n))))
+      (allData-append geo N (entries geo s n) (slotEntry geo s n ∷ [])
+      ∙ ap (λ (t : Bool). allData geo N (entries geo s n) && t) (and-true (isData geo N (slotAddress s n))))
 
-  pub data-stop : (N : ℕ) (s : List ℕ) (n : ℕ) → 0 < n → isData g N (slotAddress s (n - 1)) ≡ false → allData g N (entries g s n) ≡ false
+  pub data-stop : (N : ℕ) (s : List ℕ) (n : ℕ) → 0 < n → isData geo N (slotAddress s (n - 1)) ≡ false → allData geo N (entries geo s n) ≡ false
   data-stop N s n h e = data-down N s n h ∙ rw (e, and-false)
 
-  pub data-on : (N : ℕ) (s : List ℕ) (n : ℕ) → 0 < n → isData g N (slotAddress s (n - 1)) ≡ true → allData g N (entries g s n) ≡ allData g N (entries g s (n - 1))
+  pub data-on : (N : ℕ) (s : List ℕ) (n : ℕ) → 0 < n → isData geo N (slotAddress s (n - 1)) ≡ true → allData geo N (entries geo s n) ≡ allData geo N (entries geo s (n - 1))
   data-on N s n h e = data-down N s n h ∙ rw (e, and-true)
 
   -- ---- what the log holds is whole, and its addresses fit four bytes
 
-  pub entries-whole : (s : List ℕ) (n : ℕ) → firstData g < blocksIn s → n ≤ g .slots → All Whole (entries g s n)
+  pub entries-whole : (s : List ℕ) (n : ℕ) → firstData geo < blocksIn s → n ≤ geo .slots → All Whole (entries geo s n)
   unfolding slotEntry
-  entries-whole s n h k = all-upTo Whole (slotEntry g s) n (λ i p. length-blockAt s (slotAt g i) (omega arith))
+  entries-whole s n h k = all-upTo Whole (slotEntry geo s) n (λ i p. length-blockAt s (slotAt geo i) (omega arith))
 
-  pub slotAddress-lt : (s : List ℕ) (i : ℕ) → Bytes s → firstData g < blocksIn s → i < g .slots → slotAddress s i < 2 ^ 32
+  pub slotAddress-lt : (s : List ℕ) (i : ℕ) → Bytes s → firstData geo < blocksIn s → i < geo .slots → slotAddress s i < 2 ^ 32
   unfolding slotAddress
   slotAddress-lt s i b h k =
       let whole : length (blockAt s descriptorAt) ≡ blockBytes = length-blockAt s descriptorAt (omega arith) in
@@ -155,9 +155,9 @@ module _ (g : Geometry) where
       num-lt (cell 4 (blockAt s descriptorAt) i) (bytes-cell 4 (blockAt s descriptorAt) i (bytes-cell blockBytes s descriptorAt b)) in
       rw four at small
 
-  pub entries-below : (X : ℕ) (s : List ℕ) (n : ℕ) → ((i : ℕ) → i < n → slotAddress s i < X) → All (λ e. e .address < X) (entries g s n)
+  pub entries-below : (X : ℕ) (s : List ℕ) (n : ℕ) → ((i : ℕ) → i < n → slotAddress s i < X) → All (λ e. e .address < X) (entries geo s n)
   unfolding slotEntry
-  entries-below X s n h = all-upTo (λ e. e .address < X) (slotEntry g s) n h
+  entries-below X s n h = all-upTo (λ e. e .address < X) (slotEntry geo s) n h
 
-  pub entries-short : (s : List ℕ) (n : ℕ) → Bytes s → firstData g < blocksIn s → n ≤ g .slots → All NarrowAddress (entries g s n)
+  pub entries-short : (s : List ℕ) (n : ℕ) → Bytes s → firstData geo < blocksIn s → n ≤ geo .slots → All NarrowAddress (entries geo s n)
   entries-short s n b h k = entries-below (2 ^ 32) s n (λ i p. slotAddress-lt s i b h (omega arith))

@@ -95,7 +95,7 @@ overlay-found e (suc n) d a =
     go true p k = lay-same (e n) (overlay (upTo e n) d) a (sym (eqb-true _ _ p))
     go false p k = lay-other (e n) (overlay (upTo e n) d) a (λ q. eqb-false _ _ p (sym q)) ∙ k
 
-module _ (g : Geometry) where
-  pub overlay-slots : (s : List ℕ) (n : ℕ) (d : Disk) (a : ℕ) → overlay (entries g s n) d a ≡ foundIn (lastSlot s a n) (λ k. blockAt s (slotAt g k)) (d a)
+module _ (geo : Geometry) where
+  pub overlay-slots : (s : List ℕ) (n : ℕ) (d : Disk) (a : ℕ) → overlay (entries geo s n) d a ≡ foundIn (lastSlot s a n) (λ k. blockAt s (slotAt geo k)) (d a)
   unfolding slotEntry
-  overlay-slots s n d a = overlay-found (slotEntry g s) n d a
+  overlay-slots s n d a = overlay-found (slotEntry geo s) n d a

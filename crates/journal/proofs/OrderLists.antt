@@ -27,17 +27,17 @@ use Rattle.journal.proofs.Phases.{below-card}
 
 -- ---- log blocks
 
-module _ (g : Geometry) where
+module _ (geo : Geometry) where
   -- an entry's block, on its way to slot k
   abbrev pub slotBlock : ℕ → Entry → Entry
-  slotBlock k e = record { address = slotAt g k; block = e .block }
+  slotBlock k e = record { address = slotAt geo k; block = e .block }
 
   -- a list's blocks, on their way to the slots from n on
   unfoldable pub slotBlocks : ℕ → List Entry → List Entry
   slotBlocks n [] = []
   slotBlocks n (e ∷ es) = slotBlock n e ∷ slotBlocks (suc n) es
 
-  pub slotWrites-blocks : (n : ℕ) (es : List Entry) → slotWrites g n es ≡ map write (slotBlocks n es)
+  pub slotWrites-blocks : (n : ℕ) (es : List Entry) → slotWrites geo n es ≡ map write (slotBlocks n es)
   unfolding slotWrites slotBlocks
   slotWrites-blocks n [] = refl
   slotWrites-blocks n (e ∷ es) = ap (λ (os : List Order). write (slotBlock n e) ∷ os) (slotWrites-blocks (suc n) es)
@@ -60,7 +60,7 @@ module _ (g : Geometry) where
       slotBlocks-append n (upTo e m) (e m ∷ [])
       ∙ ap₂ (λ (a : List Entry) (k : ℕ). a ++ (slotBlock (n + k) (e m) ∷ [])) (slotBlocks-upTo n e m) (length-upTo e m)
 
-  pub slotWrites-upTo : (n : ℕ) (e : ℕ → Entry) (m : ℕ) → slotWrites g n (upTo e m) ≡ map write (upTo (λ i. slotBlock (n + i) (e i)) m)
+  pub slotWrites-upTo : (n : ℕ) (e : ℕ → Entry) (m : ℕ) → slotWrites geo n (upTo e m) ≡ map write (upTo (λ i. slotBlock (n + i) (e i)) m)
   slotWrites-upTo n e m = slotWrites-blocks n (upTo e m) ∙ ap (map write) (slotBlocks-upTo n e m)
 
   -- they are whole if the entries are, and lie in the slots from n on
@@ -69,12 +69,12 @@ module _ (g : Geometry) where
   slots-whole n [] h = tt
   slots-whole n (e ∷ es) h = (h .0, slots-whole (suc n) es (h .1))
 
-  pub slots-below : (X n : ℕ) (es : List Entry) → slotAt g (n + length es) ≤ X → All (λ e. e .address < X) (slotBlocks n es)
+  pub slots-below : (X n : ℕ) (es : List Entry) → slotAt geo (n + length es) ≤ X → All (λ e. e .address < X) (slotBlocks n es)
   unfolding slotBlocks
   slots-below X n [] h = tt
   slots-below X n (e ∷ es) h = (omega arith, slots-below X (suc n) es (omega arith))
 
-  pub slots-from : (X n : ℕ) (es : List Entry) → X ≤ slotAt g n → All (λ e. X ≤ e .address) (slotBlocks n es)
+  pub slots-from : (X n : ℕ) (es : List Entry) → X ≤ slotAt geo n → All (λ e. X ≤ e .address) (slotBlocks n es)
   unfolding slotBlocks
   slots-from X n [] h = tt
   slots-from X n (e ∷ es) h = (h, slots-from X (suc n) es (omega arith))
@@ -88,35 +88,35 @@ headerEntry h = record { address = headerAt; block = encode h }
 abbrev pub descriptorEntry : List ℕ → ℕ → List Entry → Entry
 descriptorEntry s n es = record { address = descriptorAt; block = describe (blockAt s descriptorAt) n es }
 
-module _ (g : Geometry) where
+module _ (geo : Geometry) where
   -- what an append writes before its flush
   abbrev pub appendWrites : ℕ → List ℕ → ℕ → ℕ → List Entry → List Entry
-  appendWrites N s n h es = slotBlocks g n es ++ (descriptorEntry s n es ∷ headerEntry (header N n h (n + length es) (sumOf h es)) ∷ [])
+  appendWrites N s n h es = slotBlocks geo n es ++ (descriptorEntry s n es ∷ headerEntry (header N n h (n + length es) (sumOf h es)) ∷ [])
 
-  pub append-writes : (N : ℕ) (s : List ℕ) (n h : ℕ) (es : List Entry) → appendOrders g N s n h es ≡ map write (appendWrites N s n h es) ++ (flush ∷ [])
+  pub append-writes : (N : ℕ) (s : List ℕ) (n h : ℕ) (es : List Entry) → appendOrders geo N s n h es ≡ map write (appendWrites N s n h es) ++ (flush ∷ [])
   unfolding appendOrders
   append-writes N s n h es =
-      rw (map-append write (slotBlocks g n es) (descriptorEntry s n es ∷ headerEntry (header N n h (n + length es) (sumOf h es)) ∷ []), append-assoc, ← slotWrites-blocks g n es)
+      rw (map-append write (slotBlocks geo n es) (descriptorEntry s n es ∷ headerEntry (header N n h (n + length es) (sumOf h es)) ∷ []), append-assoc, ← slotWrites-blocks geo n es)
 
   -- in the two phases in which it is given: log blocks and descriptor, then header and flush
   pub append-split : (N : ℕ) (s : List ℕ) (n h : ℕ) (es : List Entry)
-      → appendOrders g N s n h es ≡ (slotWrites g n es ++ (write (descriptorEntry s n es) ∷ [])) ++ (headerWrite (header N n h (n + length es) (sumOf h es)) ∷ flush ∷ [])
+      → appendOrders geo N s n h es ≡ (slotWrites geo n es ++ (write (descriptorEntry s n es) ∷ [])) ++ (headerWrite (header N n h (n + length es) (sumOf h es)) ∷ flush ∷ [])
   unfolding appendOrders
   append-split N s n h es =
-      sym (append-assoc (slotWrites g n es) (write (descriptorEntry s n es) ∷ []) (headerWrite (header N n h (n + length es) (sumOf h es)) ∷ flush ∷ []))
+      sym (append-assoc (slotWrites geo n es) (write (descriptorEntry s n es) ∷ []) (headerWrite (header N n h (n + length es) (sumOf h es)) ∷ flush ∷ []))
 
   -- what waits after the first
   pub list-below : (X : ℕ) (s w : List ℕ) (q : Queue) (w′ : List ℕ) (q′ : Queue) (n : ℕ) (es : List Entry) (d : Entry)
-      → cardOf s w′ q′ ≡ run (slotWrites g n es ++ (write d ∷ [])) (cardOf s w q)
-      → entryBytes * (q .waiting + length es + 1) ≤ length w → All Whole es → Whole d → d .address < slotAt g 0 → n + length es ≤ g .slots → firstData g ≤ X
+      → cardOf s w′ q′ ≡ run (slotWrites geo n es ++ (write d ∷ [])) (cardOf s w q)
+      → entryBytes * (q .waiting + length es + 1) ≤ length w → All Whole es → Whole d → d .address < slotAt geo 0 → n + length es ≤ geo .slots → firstData geo ≤ X
       → Below X w (q .waiting) → Below X w′ (q′ .waiting)
   list-below X s w q w′ q′ n es d told room whole d-whole d-low fits large old =
       below-card X s w′ q′ _
-      (told ∙ ap (λ (os : List Order). run (os ++ (write d ∷ [])) (cardOf s w q)) (slotWrites-blocks g n es) ∙ ap (λ (os : List Order). run os (cardOf s w q)) (sym (map-append write (slotBlocks g n es) (d ∷ []))))
-      (writes-below X (slotBlocks g n es ++ (d ∷ [])) (cardOf s w q) (rw (length-append, length-slotBlocks g) (omega arith))
-      (all-append Whole (slotBlocks g n es) (d ∷ []) (slots-whole g n es whole) (d-whole, tt))
-      (all-append NarrowAddress (slotBlocks g n es) (d ∷ []) (slots-below g (2 ^ 32) n es (omega arith)) (omega arith, tt))
-      (all-append (λ e. e .address < X) (slotBlocks g n es) (d ∷ []) (slots-below g X n es (omega arith)) (omega arith, tt))
+      (told ∙ ap (λ (os : List Order). run (os ++ (write d ∷ [])) (cardOf s w q)) (slotWrites-blocks geo n es) ∙ ap (λ (os : List Order). run os (cardOf s w q)) (sym (map-append write (slotBlocks geo n es) (d ∷ []))))
+      (writes-below X (slotBlocks geo n es ++ (d ∷ [])) (cardOf s w q) (rw (length-append, length-slotBlocks geo) (omega arith))
+      (all-append Whole (slotBlocks geo n es) (d ∷ []) (slots-whole geo n es whole) (d-whole, tt))
+      (all-append NarrowAddress (slotBlocks geo n es) (d ∷ []) (slots-below geo (2 ^ 32) n es (omega arith)) (omega arith, tt))
+      (all-append (λ e. e .address < X) (slotBlocks geo n es) (d ∷ []) (slots-below geo X n es (omega arith)) (omega arith, tt))
       old)
 
 pub checkpoint-writes : (N : ℕ) (es : List Entry)
@@ -128,18 +128,18 @@ pub fallback-writes : (N p h : ℕ) → fallbackOrders N p h ≡ map write (head
 unfolding fallbackOrders
 fallback-writes N p h = refl
 
-module _ (g : Geometry) where
+module _ (geo : Geometry) where
   -- at n = 0 the descriptor that stands on the card plays no part
-  pub append-afresh : (N : ℕ) (s t : List ℕ) (h : ℕ) (es : List Entry) → appendOrders g N s 0 h es ≡ appendOrders g N t 0 h es
+  pub append-afresh : (N : ℕ) (s t : List ℕ) (h : ℕ) (es : List Entry) → appendOrders geo N s 0 h es ≡ appendOrders geo N t 0 h es
   unfolding appendOrders describe
   append-afresh N s t h es = refl
 
   -- ---- lengths
 
-  pub length-slotWrites : (n : ℕ) (es : List Entry) → length (slotWrites g n es) ≡ length es
-  length-slotWrites n es = rw (slotWrites-blocks g, length-map) (length-slotBlocks g n es)
+  pub length-slotWrites : (n : ℕ) (es : List Entry) → length (slotWrites geo n es) ≡ length es
+  length-slotWrites n es = rw (slotWrites-blocks geo, length-map) (length-slotBlocks geo n es)
 
-  pub length-append-orders : (N : ℕ) (s : List ℕ) (n h : ℕ) (es : List Entry) → length (appendOrders g N s n h es) ≡ length es + 3
+  pub length-append-orders : (N : ℕ) (s : List ℕ) (n h : ℕ) (es : List Entry) → length (appendOrders geo N s n h es) ≡ length es + 3
   unfolding appendOrders
   length-append-orders N s n h es = simp (length-append, length-slotWrites)
 
@@ -155,26 +155,26 @@ length-fallback N p h = refl
 abbrev pub applyCount : ℕ → ℕ
 applyCount n = cond (eqb n 0) 0 (n + 3)
 
-module _ (g : Geometry) where
-  pub length-apply : (N : ℕ) (s : List ℕ) (n : ℕ) → length (applyOrders g N s n) ≡ applyCount n
+module _ (geo : Geometry) where
+  pub length-apply : (N : ℕ) (s : List ℕ) (n : ℕ) → length (applyOrders geo N s n) ≡ applyCount n
   unfolding applyOrders
   length-apply N s n = go (eqb n 0)
     where
-      go : (t : Bool) → length (cond t [] (checkpointOrders N (entries g s n))) ≡ cond t 0 (n + 3)
+      go : (t : Bool) → length (cond t [] (checkpointOrders N (entries geo s n))) ≡ cond t 0 (n + 3)
       go true = refl
-      go false = length-checkpoint N (entries g s n) ∙ ap (λ (k : ℕ). k + 3) (length-upTo (slotEntry g s) n)
+      go false = length-checkpoint N (entries geo s n) ∙ ap (λ (k : ℕ). k + 3) (length-upTo (slotEntry geo s) n)
 
   -- "m = 0: done, no orders. If n+m > 32, apply runs first and n is then 0 […] m+3 orders"
   abbrev pub syncCount : ℕ → ℕ → ℕ
-  syncCount n m = cond (eqb m 0) 0 (cond (leb (n + m) (g .slots)) (m + 3) (n + 3 + (m + 3)))
+  syncCount n m = cond (eqb m 0) 0 (cond (leb (n + m) (geo .slots)) (m + 3) (n + 3 + (m + 3)))
 
-  pub length-sync : (N : ℕ) (s : List ℕ) (n h : ℕ) (es : List Entry) → length (syncOrders g N s n h es) ≡ syncCount n (length es)
+  pub length-sync : (N : ℕ) (s : List ℕ) (n h : ℕ) (es : List Entry) → length (syncOrders geo N s n h es) ≡ syncCount n (length es)
   unfolding syncOrders
-  length-sync N s n h es = go (eqb (length es) 0) (leb (n + length es) (g .slots))
+  length-sync N s n h es = go (eqb (length es) 0) (leb (n + length es) (geo .slots))
     where
       go : (t u : Bool)
-          → length (cond t [] (cond u (appendOrders g N s n h es) (checkpointOrders N (entries g s n) ++ appendOrders g N s 0 start es)))
+          → length (cond t [] (cond u (appendOrders geo N s n h es) (checkpointOrders N (entries geo s n) ++ appendOrders geo N s 0 start es)))
           ≡ cond t 0 (cond u (length es + 3) (n + 3 + (length es + 3)))
       go true u = refl
-      go false true = length-append-orders g N s n h es
-      go false false = rw (length-append, length-checkpoint, length-upTo, length-append-orders g)
+      go false true = length-append-orders geo N s n h es
+      go false false = rw (length-append, length-checkpoint, length-upTo, length-append-orders geo)

@@ -12,18 +12,18 @@ use Rattle.journal.specs.Header.{formatNumber}
 use Rattle.journal.specs.Log.{headerOf, entries, good}
 use Rattle.journal.specs.Orders.{fallbackOrders}
 
-module _ (g : Geometry) where
+module _ (geo : Geometry) where
   -- "format not 1, other N, n over 32 or p over n"
   abbrev pub foreign : ℕ → Header → Bool
-  foreign N h = not (eqb (h .format) formatNumber && eqb (h .blocks) N && leb (h .count) (g .slots) && leb (h .previous) (h .count))
+  foreign N h = not (eqb (h .format) formatNumber && eqb (h .blocks) N && leb (h .count) (geo .slots) && leb (h .previous) (h .count))
 
   -- "if the first n entries are good, they are the log […] Else if the first p are good"
   unfoldable pub choose : ℕ → List ℕ → Choice
   choose N s =
       let h = headerOf s in
       cond (foreign N h) Foreign
-      (cond (good g N (entries g s (h .count)) (h .sum)) (Whole (h .count) (h .sum))
-      (cond (good g N (entries g s (h .previous)) (h .presum)) (Fallback (h .previous) (h .presum))
+      (cond (good geo N (entries geo s (h .count)) (h .sum)) (Whole (h .count) (h .sum))
+      (cond (good geo N (entries geo s (h .previous)) (h .presum)) (Fallback (h .previous) (h .presum))
       Neither))
 
 -- the number that document 01 gives for each case

@@ -20,14 +20,14 @@ descriptorAt = 1
 abbrev pub placeOf : ℕ → ℕ
 placeOf a = blockBytes * a
 
-module _ (g : Geometry) where
+module _ (geo : Geometry) where
   -- "Block 2+i holds slot i's block", behind header and descriptor
   abbrev pub slotAt : ℕ → ℕ
-  slotAt i = 1 + g .descriptors + i
+  slotAt i = 1 + geo .descriptors + i
 
   -- "Data blocks are addresses 34 to N−1."
   abbrev pub firstData : ℕ
-  firstData = slotAt (g .slots)
+  firstData = slotAt (geo .slots)
 
   abbrev pub isData : ℕ → ℕ → Bool
   isData N a = leb firstData a && ltb a N

@@ -30,10 +30,10 @@ entriesFrom work from m = upTo (λ i. entryAt work (from + i)) m
 abbrev pub sumOf : ℕ → List Entry → ℕ
 sumOf h es = sumFrom h (flat es)
 
-module _ (g : Geometry) where
+module _ (geo : Geometry) where
   -- the entry in slot i
   unfoldable pub slotEntry : List ℕ → ℕ → Entry
-  slotEntry s i = record { address = slotAddress s i; block = blockAt s (slotAt g i) }
+  slotEntry s i = record { address = slotAddress s i; block = blockAt s (slotAt geo i) }
 
   -- the first n entries
   abbrev pub entries : List ℕ → ℕ → List Entry
@@ -41,7 +41,7 @@ module _ (g : Geometry) where
 
   unfoldable pub allData : ℕ → List Entry → Bool
   allData N [] = true
-  allData N (e ∷ es) = isData g N (e .address) && allData N es
+  allData N (e ∷ es) = isData geo N (e .address) && allData N es
 
   -- "A list is good if its sum equals the header's and each address is a data block."
   abbrev pub good : ℕ → List Entry → ℕ → Bool

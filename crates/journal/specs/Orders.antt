@@ -39,11 +39,11 @@ checkpointOrders N es = map write es ++ (flush ∷ headerWrite (emptyHeader N) �
 unfoldable pub fallbackOrders : ℕ → ℕ → ℕ → List Order
 fallbackOrders N p sum = headerWrite (header N p sum p sum) ∷ flush ∷ []
 
-module _ (g : Geometry) where
+module _ (geo : Geometry) where
   -- "m log blocks in slot order", from slot n on
   unfoldable pub slotWrites : ℕ → List Entry → List Order
   slotWrites n [] = []
-  slotWrites n (e ∷ es) = write (record { address = slotAt g n; block = e .block }) ∷ slotWrites (suc n) es
+  slotWrites n (e ∷ es) = write (record { address = slotAt geo n; block = e .block }) ∷ slotWrites (suc n) es
 
   -- "m log blocks in slot order, the descriptor, a header with p = n and count n+m, one flush: m+3 orders. […] Sums continue from
   -- the record's." The list es is appended to n entries whose sum is h
@@ -57,13 +57,13 @@ module _ (g : Geometry) where
 
   -- apply: "n = 0: done, no orders"
   unfoldable pub applyOrders : ℕ → List ℕ → ℕ → List Order
-  applyOrders N s n = cond (eqb n 0) [] (checkpointOrders N (entries g s n))
+  applyOrders N s n = cond (eqb n 0) [] (checkpointOrders N (entries geo s n))
 
   -- sync of the group es: "m = 0: done, no orders. If n+m > 32, apply runs first and n is then 0." The slots that a checkpoint
   -- leaves in the descriptor play no part at n = 0
   unfoldable pub syncOrders : ℕ → List ℕ → ℕ → ℕ → List Entry → List Order
   syncOrders N s n h es =
       cond (eqb (length es) 0) []
-      (cond (leb (n + length es) (g .slots))
+      (cond (leb (n + length es) (geo .slots))
       (appendOrders N s n h es)
-      (checkpointOrders N (entries g s n) ++ appendOrders N s 0 start es))
+      (checkpointOrders N (entries geo s n) ++ appendOrders N s 0 start es))

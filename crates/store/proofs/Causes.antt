@@ -2,22 +2,24 @@
 use Prim.Native.Nat.{ℕ, zero, suc, _*_, _-_, _%_, _≤_, _<_}
 use mathlib.Core.Path.{_≡_, refl, ap, sym, _∙_}
 use mathlib.Core.Bool.{Bool, true, false, cond, not, _&&_, _||_, or-true, or-false, false≢true}
+use mathlib.Core.List.{List, [], _∷_}
 use mathlib.Core.Logic.{_≢_}
 use native.Mathlib.Omega.{arith}
 use native.Mathlib.Decide.{ℕ-discrete}
 use borrow.Author.Tests.{eq-eqb, ne-eqb, eqb-true, ltb-true, ltb-false, not-false}
 use lib.Dec.{eqb, ltb}
-use lib.ListN.{length, drop}
+use lib.ListN.{length}
 use Rattle.cells.specs.Entry.{blockBytes, entryAt}
 use Rattle.card.specs.Card.{places, blocksIn}
 use Rattle.card.specs.CodeQueue.{Below}
+use Rattle.card.proofs.All.{All}
 use Rattle.journal.specs.Layout.{slots, isData, leastBlocks, mostBlocks, wrongSize}
 use Rattle.journal.specs.Log.{slotAddress}
 use Rattle.journal.proofs.Logs.{neither, slot-data}
 use Rattle.store.specs.State.{State, closed, openMode, down}
 use Rattle.store.specs.Lists.{openFrom, groupFrom, listed, find}
-use Rattle.store.specs.Request.{Request, power, abandon}
-use Rattle.store.specs.Causes.{waitingBytes, workBytes, wrongSizes, wrongBlock, some, wrongCounts, wrongWaiting, isFound, wrongLists, wrongRecord, readsRecord, needsOpen, isRecover, strayAddress, full, unsound, wrongMarks, table, first, cause}
+use Rattle.store.specs.Request.{Request, format, power, put, get, commit, abandon, sync, apply, recover, cut}
+use Rattle.store.specs.Causes.{waitingBytes, workBytes, Row, wrongSizes, some, wrongCounts, wrongWaiting, isFound, wrongLists, wrongRecord, Rules, ofBytes, ofRecord, ofOpen, rows, rules, ownSize, wrongBlock, first, cause}
 
 -- ---- a search of n places from the last one down, i of them left
 
@@ -158,53 +160,91 @@ sound st s r =
       lists = λ o. lists-facts st (other _ _ (l .1) (eq-eqb _ _ o));
     }
 
+-- ---- what a call has of the shared rows, and its own behind them
+
+abbrev pub readsOf : Rules → Bool
+readsOf (ofBytes own rest) = false
+readsOf (ofRecord own rest) = true
+readsOf (ofOpen own rest) = true
+
+abbrev pub opensOf : Rules → Bool
+opensOf (ofBytes own rest) = false
+opensOf (ofRecord own rest) = false
+opensOf (ofOpen own rest) = true
+
+abbrev pub restOf : Rules → List Row
+restOf (ofBytes own rest) = rest
+restOf (ofRecord own rest) = rest
+restOf (ofOpen own rest) = rest
+
+abbrev pub readsRecord : Request → Bool
+readsRecord q = readsOf (rules q)
+
+abbrev pub needsOpen : Request → Bool
+needsOpen q = opensOf (rules q)
+
+abbrev pub ownRows : Request → List Row
+ownRows q = restOf (rules q)
+
+-- a call's own rows have numbers over 2
+pub own-over : (q : Request) → All (λ r. 2 < r .number) (ownRows q)
+own-over format = omega arith
+own-over (power k) = omega arith
+own-over (put a b) = omega arith
+own-over (get a) = omega arith
+own-over commit = omega arith
+own-over abandon = omega arith
+own-over sync = omega arith
+own-over apply = omega arith
+own-over recover = omega arith
+own-over (cut ms) = omega arith
+
 -- ---- a call that no row refuses
 
-pub record Passes (q : Request) (st : State) : Type 0 where
+pub record PassesRules (r : Rules) (st : State) : Type 0 where
   pub sizes : wrongSizes st ≡ false
-  pub block : wrongBlock q ≡ false
-  pub counts : readsRecord q && wrongRecord st ≡ false
-  pub not-closed : needsOpen q && eqb (st .rec .mode) closed ≡ false
-  pub not-down : (needsOpen q || isRecover q) && eqb (st .rec .mode) down ≡ false
-  pub not-open : isRecover q && eqb (st .rec .mode) openMode ≡ false
-  pub address : strayAddress q st ≡ false
-  pub room : full q st ≡ false
-  pub ours : unsound 8 q st ≡ false
-  pub good : unsound 9 q st ≡ false
-  pub marks : wrongMarks q st ≡ false
+  pub block : ownSize r ≡ false
+  pub counts : readsOf r && wrongRecord st ≡ false
+  pub not-closed : opensOf r && eqb (st .rec .mode) closed ≡ false
+  pub not-down : opensOf r && eqb (st .rec .mode) down ≡ false
+  pub own : All (λ row. row .test st ≡ false) (restOf r)
+
+abbrev pub Passes : Request → State → Type 0
+Passes q st = PassesRules (rules q) st
 
 -- a row that does not apply
-passed : (t : Bool) (k rest : ℕ) → cond t (suc k) rest ≡ 0 → (t ≡ false) × (rest ≡ 0)
-passed true k rest e = absurd (omega arith)
-passed false k rest e = (refl, e)
+passed : (t : Bool) (k rest : ℕ) → 0 < k → cond t k rest ≡ 0 → (t ≡ false) × (rest ≡ 0)
+passed true k rest h e = absurd (omega arith)
+passed false k rest h e = (refl, e)
+
+all-passed : (rs : List Row) (st : State) → All (λ r. 2 < r .number) rs → first rs st ≡ 0 → All (λ r. r .test st ≡ false) rs
+all-passed [] st a e = tt
+all-passed (r ∷ rs) st a e =
+    let h : 2 < r .number = a .0 in
+    let p = passed (r .test st) (r .number) (first rs st) (omega arith) e in
+    (p .0, all-passed rs st (a .1) (p .1))
+
+rules-pass : (r : Rules) (st : State) → All (λ row. 2 < row .number) (restOf r) → first (rows r) st ≡ 0 → PassesRules r st
+rules-pass (ofBytes own rest) st o e =
+    let a = passed _ 1 _ (omega arith) e in
+    let l = neither _ _ (a .0) in
+    record { sizes = l .0; block = l .1; counts = refl; not-closed = refl; not-down = refl; own = all-passed rest st o (a .1) }
+rules-pass (ofRecord own rest) st o e =
+    let a = passed _ 1 _ (omega arith) e in
+    let b = passed _ 2 _ (omega arith) (a .1) in
+    let l = neither _ _ (a .0) in
+    record { sizes = l .0; block = l .1; counts = b .0; not-closed = refl; not-down = refl; own = all-passed rest st o (b .1) }
+rules-pass (ofOpen own rest) st o e =
+    let a = passed _ 1 _ (omega arith) e in
+    let b = passed _ 2 _ (omega arith) (a .1) in
+    let c = passed _ 3 _ (omega arith) (b .1) in
+    let d = passed _ 4 _ (omega arith) (c .1) in
+    let l = neither _ _ (a .0) in
+    record { sizes = l .0; block = l .1; counts = b .0; not-closed = c .0; not-down = d .0; own = all-passed rest st o (d .1) }
 
 -- n being the number that was computed
 pub cause-passes : (q : Request) (st : State) (n : ℕ) → n ≡ cause q st → n ≡ 0 → Passes q st
-cause-passes q st n e z =
-    let a = passed _ 0 _ (sym e ∙ z) in
-    let b = passed _ 1 _ (a .1) in
-    let c = passed _ 2 _ (b .1) in
-    let d = passed _ 3 _ (c .1) in
-    let f = passed _ 4 _ (d .1) in
-    let g = passed _ 5 _ (f .1) in
-    let h = passed _ 6 _ (g .1) in
-    let i = passed _ 7 _ (h .1) in
-    let j = passed _ 8 _ (i .1) in
-    let k = passed _ 9 _ (j .1) in
-    let l = neither _ _ (a .0) in
-    record {
-      sizes = l .0;
-      block = l .1;
-      counts = b .0;
-      not-closed = c .0;
-      not-down = d .0;
-      not-open = f .0;
-      address = g .0;
-      room = h .0;
-      ours = i .0;
-      good = j .0;
-      marks = k .0;
-    }
+cause-passes q st n e z = rules-pass (rules q) st (own-over q) (sym e ∙ z)
 
 -- a call that reads the record and passes finds it sound
 pub passes-sound : (q : Request) (st : State) (n : ℕ) → readsRecord q ≡ true → n ≡ cause q st → n ≡ 0 → Checked st
@@ -214,7 +254,12 @@ passes-sound q st n r e z = let p = cause-passes q st n e z in sound st (p .size
 
 -- a put's block of a wrong length is 1
 pub cause-block : (q : Request) (st : State) → wrongBlock q ≡ true → cause q st ≡ 1
-cause-block q st b = rw (b, or-true)
+cause-block q st = go (rules q)
+  where
+    go : (r : Rules) → ownSize r ≡ true → first (rows r) st ≡ 1
+    go (ofBytes own rest) b = rw (b, or-true)
+    go (ofRecord own rest) b = rw (b, or-true)
+    go (ofOpen own rest) b = rw (b, or-true)
 
 -- rows 1 and 2, and the rest
 rows-2 : (a b : Bool) (n rest : ℕ) → n ≡ cond a 1 (cond b 2 0) → cond a 1 (cond b 2 rest) ≡ cond (eqb n 0) rest n
@@ -231,11 +276,11 @@ rows-4 false false true d n rest e = rw e
 rows-4 false false false true n rest e = rw e
 rows-4 false false false false n rest e = rw e
 
-module _ (q : Request) (st : State) (n : ℕ) (block : wrongBlock q ≡ false) (reads : readsRecord q ≡ true) where
-  -- power has rows 1 and 2 alone. n is what they come to: a call that reads the record gives it, or what its later rows come to
-  pub cause-2 : n ≡ cause (power 0) st → cause q st ≡ cond (eqb n 0) (first (drop 2 table) q st) n
-  cause-2 e = rw (block, reads) (rows-2 (wrongSizes st || false) (wrongRecord st) n _ e)
+module _ (st : State) (n : ℕ) (rest : List Row) where
+  -- power has rows 1 and 2 alone. n is what they come to: a call that reads the record gives it, or what its own rows come to
+  pub cause-2 : n ≡ cause (power 0) st → first (rows (ofRecord false rest)) st ≡ cond (eqb n 0) (first rest st) n
+  cause-2 e = rows-2 (wrongSizes st || false) (wrongRecord st) n _ e
 
   -- abandon has rows 1 to 4 alone: likewise for a call that needs an open record
-  pub cause-4 : needsOpen q ≡ true → n ≡ cause abandon st → cause q st ≡ cond (eqb n 0) (first (drop 4 table) q st) n
-  cause-4 o e = rw (block, reads, o) (rows-4 (wrongSizes st || false) (wrongRecord st) (eqb (st .rec .mode) closed) (eqb (st .rec .mode) down) n _ e)
+  pub cause-4 : (own : Bool) → own ≡ false → n ≡ cause abandon st → first (rows (ofOpen own rest)) st ≡ cond (eqb n 0) (first rest st) n
+  cause-4 own block e = rw block (rows-4 (wrongSizes st || false) (wrongRecord st) (eqb (st .rec .mode) closed) (eqb (st .rec .mode) down) n _ e)

@@ -54,7 +54,7 @@ get-within a st = go (eqb (cause (get a) st) 0) refl
     go : (t : Bool) → eqb (cause (get a) st) 0 ≡ t → HoldsBlock (cond t (newest a st) Nowhere) (st .settled) (st .work)
     go true e =
         let z : cause (get a) st ≡ 0 = eqb-true _ _ e in
-        newest-within a st (passes-sound (get a) st 0 refl (sym z) refl) (not-false _ (cause-passes (get a) st 0 (sym z) refl .address))
+        newest-within a st (passes-sound (get a) st 0 refl (sym z) refl) (not-false _ (cause-passes (get a) st 0 (sym z) refl .own .0))
     go false e = tt
 
 pub part-bytes : (p : Place) (r : Record) (settled work : RefT (List ℕ)) (w : List ℕ) → partAt p settled work .bytes ≡ bytesAt p (stateOf r (settled .now) w (work .now))

@@ -37,7 +37,7 @@ use Rattle.store.specs.Request.{power, abandon, recover}
 use Rattle.store.specs.Causes.{cause}
 use Rattle.store.specs.Outcomes.{completed, unless}
 use Rattle.store.specs.Saves.{carried, emptying, groupOf, appending, recovering, applies, syncing, recoverCall}
-use Rattle.store.proofs.Causes.{Checked, cause-passes, passes-sound, cause-2}
+use Rattle.store.proofs.Causes.{Checked, ownRows, cause-passes, passes-sound, cause-2}
 use Rattle.store.proofs.Places.{data-lt}
 
 -- ---- orders that the card carried out
@@ -241,7 +241,7 @@ module _ (st : State) where
 recover-cause : (st : State) (n : ℕ) → n ≡ cause (power 0) st → n ≡ 0 → st .rec .mode ≢ down → st .rec .mode ≢ openMode
     → cause recover st ≡ choiceNumber (choose (st .rec .blocks) (st .settled))
 recover-cause st n e z d o =
-    cause-2 recover st n refl refl e ∙ rw (eq-eqb _ _ z, ne-eqb _ _ d, ne-eqb _ _ o) (go (choose (st .rec .blocks) (st .settled)))
+    cause-2 st n (ownRows recover) e ∙ rw (eq-eqb _ _ z, ne-eqb _ _ d, ne-eqb _ _ o) (go (choose (st .rec .blocks) (st .settled)))
   where
     go : (c : Choice) → cond (eqb (choiceNumber c) 8) 8 (cond (eqb (choiceNumber c) 9) 9 0) ≡ choiceNumber c
     go (Whole k h) = refl

@@ -1,4 +1,5 @@
--- The table of causes: "The first cause in table order is given, and each is given whenever it applies."
+-- The table of causes: "The first cause in table order is given, and each is given whenever it applies." Its rows first, in table order;
+-- then which rows each call has.
 use Prim.Native.Nat.{ℕ, zero, suc, _+_, _*_}
 use mathlib.Core.Bool.{Bool, true, false, cond, not, _&&_, _||_}
 use mathlib.Core.List.{List, [], _∷_}
@@ -25,6 +26,11 @@ waitingBytes = entryBytes * places
 abbrev pub workBytes : ℕ
 workBytes = entryBytes * (slots + slots)
 
+-- a row of the table: its number and its test
+pub record Row : Type 0 where
+  pub number : ℕ
+  pub test : State → Bool
+
 -- ---- 1: "a lent buffer's length is wrong, N out of bounds"
 
 unfoldable pub wrongSizes : State → Bool
@@ -33,18 +39,9 @@ wrongSizes st =
     || not (eqb (length (st .waiting)) waitingBytes)
     || not (eqb (length (st .work)) workBytes)
 
--- "a put block not 512 bytes"
-abbrev pub wrongBlock : Request → Bool
-wrongBlock (put a b) = not (eqb (length b) blockBytes)
-wrongBlock format = false
-wrongBlock (power k) = false
-wrongBlock (get a) = false
-wrongBlock commit = false
-wrongBlock abandon = false
-wrongBlock sync = false
-wrongBlock apply = false
-wrongBlock recover = false
-wrongBlock (cut ms) = false
+-- the lent buffers, and what the call's own arguments have wrong: "a put block not 512 bytes"
+abbrev pub sizeRow : Bool → Row
+sizeRow own = record { number = 1; test = λ st. wrongSizes st || own }
 
 -- ---- 2
 
@@ -92,135 +89,104 @@ wrongLists st =
 abbrev pub wrongRecord : State → Bool
 wrongRecord st = wrongCounts st || wrongWaiting st || (eqb (st .rec .mode) openMode && wrongLists st)
 
--- "Format checks 1 only"
-abbrev pub readsRecord : Request → Bool
-readsRecord format = false
-readsRecord (power k) = true
-readsRecord (put a b) = true
-readsRecord (get a) = true
-readsRecord commit = true
-readsRecord abandon = true
-readsRecord sync = true
-readsRecord apply = true
-readsRecord recover = true
-readsRecord (cut ms) = true
+abbrev pub recordRow : Row
+recordRow = record { number = 2; test = wrongRecord }
 
--- ---- 3 and 4: "mode closed (put, get, commit, abandon, sync, apply)", "mode down (those and recover)"
+-- ---- 3: "mode closed (put, get, commit, abandon, sync, apply)"
 
-abbrev pub needsOpen : Request → Bool
-needsOpen format = false
-needsOpen (power k) = false
-needsOpen (put a b) = true
-needsOpen (get a) = true
-needsOpen commit = true
-needsOpen abandon = true
-needsOpen sync = true
-needsOpen apply = true
-needsOpen recover = false
-needsOpen (cut ms) = false
+abbrev pub closedRow : Row
+closedRow = record { number = 3; test = λ st. eqb (st .rec .mode) closed }
 
--- "recover when open"
-abbrev pub isRecover : Request → Bool
-isRecover format = false
-isRecover (power k) = false
-isRecover (put a b) = false
-isRecover (get a) = false
-isRecover commit = false
-isRecover abandon = false
-isRecover sync = false
-isRecover apply = false
-isRecover recover = true
-isRecover (cut ms) = false
+-- ---- 4: "mode down (those and recover)"
+
+abbrev pub downRow : Row
+downRow = record { number = 4; test = λ st. eqb (st .rec .mode) down }
+
+-- ---- 5: "recover when open"
+
+abbrev pub openRow : Row
+openRow = record { number = 5; test = λ st. eqb (st .rec .mode) openMode }
 
 -- ---- 6: "put or get address not a data block"
 
-abbrev pub strayAddress : Request → State → Bool
-strayAddress format st = false
-strayAddress (power k) st = false
-strayAddress (put a b) st = not (isData (st .rec .blocks) a)
-strayAddress (get a) st = not (isData (st .rec .blocks) a)
-strayAddress commit st = false
-strayAddress abandon st = false
-strayAddress sync st = false
-strayAddress apply st = false
-strayAddress recover st = false
-strayAddress (cut ms) st = false
+abbrev pub addressRow : ℕ → Row
+addressRow a = record { number = 6; test = λ st. not (isData (st .rec .blocks) a) }
 
--- ---- 7: "put of a new address with 32 open; commit giving over 32"
+-- ---- 7: "put of a new address with 32 open"
+
+abbrev pub openFullRow : ℕ → Row
+openFullRow a = record { number = 7; test = λ st. not (isFound (find (st .work) openFrom (st .rec .opened) a)) && leb slots (st .rec .opened) }
+
+-- "commit giving over 32"
 
 -- how many of the first n open entries have an address that the group lacks
 unfoldable pub newcomers : List ℕ → ℕ → ℕ → ℕ
 newcomers work g zero = 0
 newcomers work g (suc n) = newcomers work g n + cond (isFound (find work groupFrom g (listed work openFrom n .address))) 0 1
 
-abbrev pub full : Request → State → Bool
-full format st = false
-full (power k) st = false
-full (put a b) st = not (isFound (find (st .work) openFrom (st .rec .opened) a)) && leb slots (st .rec .opened)
-full (get a) st = false
-full commit st = ltb slots (st .rec .grouped + newcomers (st .work) (st .rec .grouped) (st .rec .opened))
-full abandon st = false
-full sync st = false
-full apply st = false
-full recover st = false
-full (cut ms) st = false
+abbrev pub groupFullRow : Row
+groupFullRow = record { number = 7; test = λ st. ltb slots (st .rec .grouped + newcomers (st .work) (st .rec .grouped) (st .rec .opened)) }
 
--- ---- 8 and 9: "format not 1, other N, n over 32 or p over n"; "neither list good"
+-- ---- 8: "recover: format not 1, other N, n over 32 or p over n"
 
-abbrev pub unsound : ℕ → Request → State → Bool
-unsound k format st = false
-unsound k (power p) st = false
-unsound k (put a b) st = false
-unsound k (get a) st = false
-unsound k commit st = false
-unsound k abandon st = false
-unsound k sync st = false
-unsound k apply st = false
-unsound k recover st = eqb (choiceNumber (choose (st .rec .blocks) (st .settled))) k
-unsound k (cut ms) st = false
+abbrev pub foreignRow : Row
+foreignRow = record { number = 8; test = λ st. eqb (choiceNumber (choose (st .rec .blocks) (st .settled))) 8 }
 
--- ---- 10: "marks not as many as waiting, or a mark over 1"
+-- ---- 9: "recover: neither list good"
+
+abbrev pub unsoundRow : Row
+unsoundRow = record { number = 9; test = λ st. eqb (choiceNumber (choose (st .rec .blocks) (st .settled))) 9 }
+
+-- ---- 10: "cut: marks not as many as waiting, or a mark over 1"
 
 unfoldable pub overOne : List ℕ → Bool
 overOne [] = false
 overOne (m ∷ ms) = ltb 1 m || overOne ms
 
-abbrev pub wrongMarks : Request → State → Bool
-wrongMarks format st = false
-wrongMarks (power k) st = false
-wrongMarks (put a b) st = false
-wrongMarks (get a) st = false
-wrongMarks commit st = false
-wrongMarks abandon st = false
-wrongMarks sync st = false
-wrongMarks apply st = false
-wrongMarks recover st = false
-wrongMarks (cut ms) st = not (eqb (length ms) (st .rec .waiting)) || overOne ms
+abbrev pub marksRow : List ℕ → Row
+marksRow ms = record { number = 10; test = λ st. not (eqb (length ms) (st .rec .waiting)) || overOne ms }
 
--- ---- the table
+-- ---- the rows of a call
 
-pub record Row : Type 0 where
-  pub number : ℕ
-  pub test : Request → State → Bool
+-- what a call has of the rows that calls share, by what it reads; with it, what its own arguments have wrong in row 1, and the rows that
+-- come behind the shared ones
+pub data Rules : Type 0 where
+  ofBytes : Bool → List Row → Rules
+  ofRecord : Bool → List Row → Rules
+  ofOpen : Bool → List Row → Rules
 
-abbrev pub table : List Row
-table =
-    record { number = 1; test = λ q st. wrongSizes st || wrongBlock q }
-    ∷ record { number = 2; test = λ q st. readsRecord q && wrongRecord st }
-    ∷ record { number = 3; test = λ q st. needsOpen q && eqb (st .rec .mode) closed }
-    ∷ record { number = 4; test = λ q st. (needsOpen q || isRecover q) && eqb (st .rec .mode) down }
-    ∷ record { number = 5; test = λ q st. isRecover q && eqb (st .rec .mode) openMode }
-    ∷ record { number = 6; test = λ q st. strayAddress q st }
-    ∷ record { number = 7; test = λ q st. full q st }
-    ∷ record { number = 8; test = λ q st. unsound 8 q st }
-    ∷ record { number = 9; test = λ q st. unsound 9 q st }
-    ∷ record { number = 10; test = λ q st. wrongMarks q st }
-    ∷ []
+-- "Format checks 1 only; power and cut 1 and 2." A call that needs an open record has 3 and 4 as well
+abbrev pub rows : Rules → List Row
+rows (ofBytes own rest) = sizeRow own ∷ rest
+rows (ofRecord own rest) = sizeRow own ∷ recordRow ∷ rest
+rows (ofOpen own rest) = sizeRow own ∷ recordRow ∷ closedRow ∷ downRow ∷ rest
 
--- the first row that applies, 0 for none
-abbrev pub first : List Row → Request → State → ℕ
-first [] q st = 0
-first (r ∷ rs) q st = cond (r .test q st) (r .number) (first rs q st)
+abbrev pub rules : Request → Rules
+rules format = ofBytes false []
+rules (power k) = ofRecord false []
+rules (put a b) = ofOpen (not (eqb (length b) blockBytes)) (addressRow a ∷ openFullRow a ∷ [])
+rules (get a) = ofOpen false (addressRow a ∷ [])
+rules commit = ofOpen false (groupFullRow ∷ [])
+rules abandon = ofOpen false []
+rules sync = ofOpen false []
+rules apply = ofOpen false []
+rules recover = ofRecord false (downRow ∷ openRow ∷ foreignRow ∷ unsoundRow ∷ [])
+rules (cut ms) = ofRecord false (marksRow ms ∷ [])
+
+-- the call's own arguments have a wrong size: "a put block not 512 bytes"
+abbrev pub ownSize : Rules → Bool
+ownSize (ofBytes own rest) = own
+ownSize (ofRecord own rest) = own
+ownSize (ofOpen own rest) = own
+
+abbrev pub wrongBlock : Request → Bool
+wrongBlock q = ownSize (rules q)
+
+-- ---- the cause: the first row that applies, 0 for none
+
+abbrev pub first : List Row → State → ℕ
+first [] st = 0
+first (r ∷ rs) st = cond (r .test st) (r .number) (first rs st)
 
 abbrev pub cause : Request → State → ℕ
-cause q st = first table q st
+cause q st = first (rows (rules q)) st

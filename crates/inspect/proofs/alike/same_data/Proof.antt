@@ -14,7 +14,6 @@ use Rattle.inspect.proofs.Comparisons.{data-stop, data-on, data-over}
 use Rattle.inspect.proofs.alike.same_data.Statement.{statement}
 use Rattle.inspect.proofs.alike.same_data.Tie as tie
 
-
 abbrev Inv-loop : tie.InvT-loop
 Inv-loop a n b m blocks i₀ i =
     (firstData trap ≤ i) × (i ≤ blocks) × (sameData trap (laid trap a n) (laid trap b m) (dataBlocks trap i) ≡ sameData trap (laid trap a n) (laid trap b m) (dataBlocks trap blocks))

@@ -13,7 +13,6 @@ use Rattle.inspect.proofs.Sums.{data-none, data-next}
 use Rattle.inspect.proofs.tally.sum_data.Statement.{statement}
 use Rattle.inspect.proofs.tally.sum_data.Tie as tie
 
-
 abbrev Inv-loop : tie.InvT-loop
 Inv-loop settled blocks n sum₀ a₀ sum a =
     (firstData trap ≤ a) × (a ≤ blocks) × (sum ≡ sumData trap (laid trap settled n) (dataBlocks trap a)) × (sum ≤ 255 * blockBytes * dataBlocks trap a)

@@ -18,7 +18,6 @@ use Rattle.journal.proofs.Phases.{writes-stopped, writes-resumed}
 use Rattle.journal.proofs.append.write_list.Statement.{statement}
 use Rattle.journal.proofs.append.write_list.Tie as tie
 
-
 orders : (n : ℕ) (work : List ℕ) (from m : ℕ) → length (slotWrites trap n (entriesFrom work from m)) ≡ m
 orders n work from m = length-slotWrites trap n (entriesFrom work from m) ∙ length-from work from m
 

@@ -22,7 +22,6 @@ use Rattle.journal.proofs.Phases.{stopped, resumed, below-card, flushed
 use Rattle.journal.proofs.checkpoint.checkpoint.Statement.{statement}
 use Rattle.journal.proofs.checkpoint.checkpoint.Tie as tie
 
-
 -- the last phase
 abbrev last : ℕ → List Order
 last N = headerWrite (emptyHeader N) ∷ flush ∷ []

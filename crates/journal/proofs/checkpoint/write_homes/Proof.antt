@@ -13,7 +13,6 @@ use Rattle.journal.proofs.Phases.{WrittenSoFar, written-none, written-m
 use Rattle.journal.proofs.checkpoint.write_homes.Statement.{statement}
 use Rattle.journal.proofs.checkpoint.write_homes.Tie as tie
 
-
 abbrev Inv-loop : tie.InvT-loop
 Inv-loop settled waiting₀ n q₀ i₀ waiting q i = (i ≤ n) × WrittenSoFar (slotEntry trap settled) i waiting₀ q₀ waiting q
 

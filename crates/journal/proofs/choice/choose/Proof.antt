@@ -14,7 +14,6 @@ use Rattle.journal.proofs.Choices.{ours, choose-foreign, choose-whole, 
 use Rattle.journal.proofs.choice.choose.Statement.{statement}
 use Rattle.journal.proofs.choice.choose.Tie as tie
 
-
 -- the header that was read is the card's
 header-read : (c : tie.After-read2) → c .read2 .result ≡ headerOf (c .before .before .before .args .settled .now)
 header-read c = c .read2 .ensures ∙ ap decode (block-read (c .before .read .result) (c .before .before .before .args .settled) headerAt (c .before .read .ensures))

@@ -10,7 +10,6 @@ use Rattle.journal.proofs.Logs.{data-stop, data-on}
 use Rattle.journal.proofs.log.all_data.Statement.{statement}
 use Rattle.journal.proofs.log.all_data.Tie as tie
 
-
 abbrev Inv-loop : tie.InvT-loop
 Inv-loop settled blocks n i₀ i = (i ≤ n) × (allData trap blocks (entries trap settled i) ≡ allData trap blocks (entries trap settled n))
 

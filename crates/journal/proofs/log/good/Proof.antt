@@ -8,7 +8,6 @@ use Rattle.journal.specs.Log.{entries, sumOf}
 use Rattle.journal.proofs.log.good.Statement.{statement}
 use Rattle.journal.proofs.log.good.Tie as tie
 
-
 sum-entries-requires : tie.Need-sum-entries-requires
 sum-entries-requires c κs = search needs
 

@@ -12,7 +12,6 @@ use Rattle.journal.proofs.Logs.{block-read, sumOf-nil, slot-entry, sum-
 use Rattle.journal.proofs.log.sum_entries.Statement.{statement}
 use Rattle.journal.proofs.log.sum_entries.Tie as tie
 
-
 abbrev Inv-loop : tie.InvT-loop
 Inv-loop settled n sum₀ i₀ sum i = (i ≤ n) × (sum ≡ sumOf start (entries trap settled i))
 

@@ -34,7 +34,7 @@ join-all-requires c κs =
     let st = stateOf (a .self) (a .settled .now) (a .waiting .now) (a .work .now) in
     let p = cause-passes commit st (n .result) (n .ensures) (c .before .if1 .left) in
     let s = passes-sound commit st (n .result) refl (n .ensures) (c .before .if1 .left) in
-    (omega arith, (omega arith, omega arith, ltb-false _ _ (p .room)))
+    (omega arith, (omega arith, omega arith, ltb-false _ _ (p .own .0)))
 
 with-grouped-requires : tie.Need-with-grouped-requires
 with-grouped-requires c κs = search needs

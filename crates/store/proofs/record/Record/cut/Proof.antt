@@ -45,7 +45,7 @@ cut-requires c κs =
     let n = e .before .cut-number in
     let p = cause-passes (cut (start .args .marks .now)) st (n .result) (n .ensures) (e .if1 .left) in
     let s = passes-sound (cut (start .args .marks .now)) st (n .result) refl (n .ensures) (e .if1 .left) in
-    let many : length (start .args .marks .now) ≡ start .args .self .waiting = eqb-true _ _ (not-false _ (neither _ _ (p .marks) .0)) in
+    let many : length (start .args .marks .now) ≡ start .args .self .waiting = eqb-true _ _ (not-false _ (neither _ _ (p .own .0) .0)) in
     let held : c .before .queue .result .waiting ≡ start .args .self .waiting = ap (λ (q : Queue). q .waiting) (c .before .queue .ensures) in
     (omega arith, (λ i h. let inside : i < start .args .self .waiting = omega arith in omega (arith, s .waiting-below i inside), omega arith))
 

@@ -5,12 +5,12 @@ use mathlib.Core.Logic.{_≢_}
 use native.Mathlib.Omega.{arith}
 use borrow.Author.Tests.{eq-eqb, ne-eqb}
 use lib.Dec.{eqb}
-use lib.ListN.{length, drop}
+use lib.ListN.{length}
 use Rattle.store.specs.State.{State}
 use Rattle.store.specs.CodeState.{stateOf}
 use Rattle.store.specs.Request.{cut}
-use Rattle.store.specs.Causes.{table, first, cause}
-use Rattle.store.proofs.Causes.{cause-2}
+use Rattle.store.specs.Causes.{first, cause}
+use Rattle.store.proofs.Causes.{ownRows, cause-2}
 use borrow.Author.Needs.{needs}
 use Rattle.store.proofs.record.Record.cut_number.Statement.{statement}
 use Rattle.store.proofs.record.Record.cut_number.Tie as tie
@@ -20,10 +20,10 @@ given c = stateOf (c .args .self) (c .args .settled .now) (c .args .waiting .now
 
 -- the table once rows 1 and 2 are known
 table-of : (c : tie.After-bad-record) → let start = c .before .before .before .before .before in
-    cause (cut (start .args .marks .now)) (given start) ≡ cond (eqb (c .bad-record .result) 0) (first (drop 2 table) (cut (start .args .marks .now)) (given start)) (c .bad-record .result)
+    cause (cut (start .args .marks .now)) (given start) ≡ cond (eqb (c .bad-record .result) 0) (first (ownRows (cut (start .args .marks .now))) (given start)) (c .bad-record .result)
 table-of c =
     let start = c .before .before .before .before .before in
-    cause-2 (cut (start .args .marks .now)) (given start) (c .bad-record .result) refl refl (c .bad-record .ensures)
+    cause-2 (given start) (c .bad-record .result) (ownRows (cut (start .args .marks .now))) (c .bad-record .ensures)
 
 as-many : (c : tie.Else2) → length (c .before .before .before .before .before .before .before .before .args .marks .now) ≡ c .before .before .before .before .before .before .before .before .args .self .waiting
 as-many c = omega arith

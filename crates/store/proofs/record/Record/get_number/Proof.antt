@@ -1,14 +1,13 @@
 -- `store::record::Record::get_number` meets its contract.
 use mathlib.Core.Path.{_≡_, refl}
-use mathlib.Core.Bool.{cond}
+use mathlib.Core.Bool.{false, cond}
 use borrow.Author.Tests.{eq-eqb, ne-eqb}
 use lib.Dec.{eqb}
-use lib.ListN.{drop}
 use Rattle.store.specs.State.{State}
 use Rattle.store.specs.CodeState.{stateOf}
 use Rattle.store.specs.Request.{get}
-use Rattle.store.specs.Causes.{table, first, cause}
-use Rattle.store.proofs.Causes.{cause-4}
+use Rattle.store.specs.Causes.{first, cause}
+use Rattle.store.proofs.Causes.{ownRows, cause-4}
 use borrow.Author.Needs.{needs}
 use Rattle.store.proofs.record.Record.get_number.Statement.{statement}
 use Rattle.store.proofs.record.Record.get_number.Tie as tie
@@ -18,10 +17,10 @@ given c = stateOf (c .args .self) (c .args .settled .now) (c .args .waiting .now
 
 -- the table once rows 1 to 4 are known
 table-of : (c : tie.After-not-open) → let start = c .before .before .before .before in
-    cause (get (start .args .address)) (given start) ≡ cond (eqb (c .not-open .result) 0) (first (drop 4 table) (get (start .args .address)) (given start)) (c .not-open .result)
+    cause (get (start .args .address)) (given start) ≡ cond (eqb (c .not-open .result) 0) (first (ownRows (get (start .args .address))) (given start)) (c .not-open .result)
 table-of c =
     let start = c .before .before .before .before in
-    cause-4 (get (start .args .address)) (given start) (c .not-open .result) refl refl refl (c .not-open .ensures)
+    cause-4 (given start) (c .not-open .result) (ownRows (get (start .args .address))) false refl (c .not-open .ensures)
 
 not-open-requires : tie.Need-not-open-requires
 not-open-requires c κs = search needs

@@ -44,7 +44,7 @@ put-entry-requires c κs =
     let st = stateOf (a .self) (a .settled .now) (a .waiting .now) (a .work .now) in
     let p = cause-passes (put (a .address) (a .block .now)) st (n .result) (n .ensures) (c .before .if1 .left) in
     let s = passes-sound (put (a .address) (a .block .now)) st (n .result) refl (n .ensures) (c .before .if1 .left) in
-    (eqb-true _ _ (not-false _ (p .block)), (omega arith, (omega arith, room-put (find (a .work .now) openFrom (a .self .opened) (a .address)) (a .self .opened) (p .room))))
+    (eqb-true _ _ (not-false _ (p .block)), (omega arith, (omega arith, room-put (find (a .work .now) openFrom (a .self .opened) (a .address)) (a .self .opened) (p .own .1 .0))))
 
 answer-requires-2 : tie.Need-answer-requires-2
 answer-requires-2 c κs = search needs

@@ -4,12 +4,11 @@ use mathlib.Core.Bool.{cond, not, and-false}
 use native.Mathlib.Omega.{arith}
 use borrow.Author.Tests.{eq-eqb, ne-eqb, le-leb, lt-leb}
 use lib.Dec.{eqb}
-use lib.ListN.{drop}
 use Rattle.store.specs.State.{State}
 use Rattle.store.specs.CodeState.{stateOf}
 use Rattle.store.specs.Request.{Request, put, abandon}
-use Rattle.store.specs.Causes.{table, first, cause}
-use Rattle.store.proofs.Causes.{cause-block, cause-4, passes-sound}
+use Rattle.store.specs.Causes.{first, cause}
+use Rattle.store.proofs.Causes.{ownRows, cause-block, cause-4, passes-sound}
 use borrow.Author.Needs.{needs}
 use Rattle.store.proofs.record.Record.put_number.Statement.{statement}
 use Rattle.store.proofs.record.Record.put_number.Tie as tie
@@ -22,10 +21,10 @@ request c = put (c .args .address) (c .args .block .now)
 
 -- the table once rows 1 to 4 are known
 table-of : (c : tie.After-not-open) → let start = c .before .before .before .before .before .before in
-    cause (request start) (given start) ≡ cond (eqb (c .not-open .result) 0) (first (drop 4 table) (request start) (given start)) (c .not-open .result)
+    cause (request start) (given start) ≡ cond (eqb (c .not-open .result) 0) (first (ownRows (request start)) (given start)) (c .not-open .result)
 table-of c =
     let start = c .before .before .before .before .before .before in
-    cause-4 (request start) (given start) (c .not-open .result) (ap not (eq-eqb _ _ (c .before .if1 .left))) refl refl (c .not-open .ensures)
+    cause-4 (given start) (c .not-open .result) (ownRows (request start)) _ (ap not (eq-eqb _ _ (c .before .if1 .left))) (c .not-open .ensures)
 
 returns : tie.Need-returns
 returns c =

@@ -4,17 +4,16 @@ use mathlib.Core.Bool.{cond}
 use native.Mathlib.Omega.{arith}
 use borrow.Author.Tests.{eq-eqb, ne-eqb, eqb-false}
 use lib.Dec.{eqb}
-use lib.ListN.{drop}
 use Rattle.journal.specs.declared.choice.Choice.{Choice}
 use Rattle.journal.specs.Choice.{choiceNumber}
 use Rattle.store.specs.State.{State, down}
 use Rattle.store.specs.CodeState.{stateOf}
 use Rattle.store.specs.Request.{power, recover}
-use Rattle.store.specs.Causes.{table, first, cause}
+use Rattle.store.specs.Causes.{first, cause}
 use Rattle.store.specs.Outcomes.{unless}
 use Rattle.store.specs.Saves.{recovering, recoverCall}
 use Rattle.store.proofs.Calls.{call-refused}
-use Rattle.store.proofs.Causes.{Checked, passes-sound, cause-2}
+use Rattle.store.proofs.Causes.{Checked, ownRows, passes-sound, cause-2}
 use Rattle.store.proofs.Saves.{idle, recover-call}
 use borrow.Author.Needs.{needs}
 use Rattle.store.proofs.record.Record.recover.Statement.{statement}
@@ -24,8 +23,8 @@ abbrev given : tie.Start → State
 given c = stateOf (c .args .self) (c .args .settled .now) (c .args .waiting .now) (c .args .work .now)
 
 -- the table once rows 1 and 2 are known
-table-of : (c : tie.After-bad-record) → cause recover (given (c .before .before .before .before .before .before)) ≡ cond (eqb (c .bad-record .result) 0) (first (drop 2 table) recover (given (c .before .before .before .before .before .before))) (c .bad-record .result)
-table-of c = cause-2 recover (given (c .before .before .before .before .before .before)) (c .bad-record .result) refl refl (c .bad-record .ensures)
+table-of : (c : tie.After-bad-record) → cause recover (given (c .before .before .before .before .before .before)) ≡ cond (eqb (c .bad-record .result) 0) (first (ownRows recover) (given (c .before .before .before .before .before .before))) (c .bad-record .result)
+table-of c = cause-2 (given (c .before .before .before .before .before .before)) (c .bad-record .result) (ownRows recover) (c .bad-record .ensures)
 
 checked : (c : tie.Else1) → Checked (given (c .before .before .before .before .before .before .before))
 checked c = passes-sound (power 0) (given (c .before .before .before .before .before .before .before)) (c .before .bad-record .result) refl (c .before .bad-record .ensures) (c .if1 .left)
