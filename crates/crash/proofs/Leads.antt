@@ -64,7 +64,7 @@ module _ (geo : Geometry) where
   read-head s N p ps c ns l h =
       ap decode (h .block)
       ∙ decode-encode (header N p ps c ns)
-      (record { format = lib.Dec.lit< tt; blocks = l; previous = omega (arith, h .ordered, h .most, geo .addressed); count = omega (arith, h .most, geo .addressed); presum = h .presum; sum = h .sum })
+      (omega (arith, l, h .ordered, h .most, h .presum, h .sum, geo .addressed))
 
   -- the first n entries, by the header
   abbrev pub foundIn : List ℕ → List Entry
