@@ -33,8 +33,8 @@ trapSlots = 32
 abbrev pub trapPlaces : ℕ
 trapPlaces = 34
 
--- "Block 1 is the descriptor". Shut: a proof that needs one of its numbers cites specs/Geometry/Laws.antt
-pub trap : Geometry
+-- "Block 1 is the descriptor". Proofs about code open it; laws and theorems take any geometry
+unfoldable pub trap : Geometry
 trap = record {
   slots = trapSlots;
   descriptors = 1;

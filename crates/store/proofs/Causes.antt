@@ -10,10 +10,11 @@ use borrow.Author.Tests.{eq-eqb, ne-eqb, eqb-true, ltb-true, ltb-false, not-fals
 use lib.Dec.{eqb, ltb}
 use lib.ListN.{length}
 use Rattle.cells.specs.Entry.{blockBytes, entryAt}
-use Rattle.card.specs.Card.{places, blocksIn}
+use Rattle.card.specs.Card.{blocksIn}
 use Rattle.card.specs.CodeQueue.{Below}
 use Rattle.card.proofs.All.{All}
-use Rattle.journal.specs.Layout.{slots, isData, leastBlocks, mostBlocks, wrongSize}
+use Rattle.journal.specs.Geometry.{Geometry}
+use Rattle.journal.specs.Layout.{isData, leastBlocks, mostBlocks, wrongSize}
 use Rattle.journal.specs.Log.{slotAddress}
 use Rattle.journal.proofs.Logs.{neither, slot-data}
 use Rattle.store.specs.State.{State, closed, openMode, down}
@@ -62,103 +63,105 @@ some-none f (suc n) e i h = go (ℕ-discrete i n) (λ q. some-none f n (neither 
     go (yes p) below = rw p (neither (some f n) (f n) e .1)
     go (no p) below = below (omega arith)
 
--- row 1
-pub record SizeFacts (st : State) : Type 0 where
-  pub settled : length (st .settled) ≡ blockBytes * blocksIn (st .settled)
-  pub least : leastBlocks ≤ blocksIn (st .settled)
-  pub most : blocksIn (st .settled) ≤ mostBlocks
-  pub waiting : length (st .waiting) ≡ waitingBytes
-  pub work : length (st .work) ≡ workBytes
+module _ (geo : Geometry) where
+  -- row 1
+  pub record SizeFacts (st : State) : Type 0 where
+    pub settled : length (st .settled) ≡ blockBytes * blocksIn (st .settled)
+    pub least : leastBlocks geo ≤ blocksIn (st .settled)
+    pub most : blocksIn (st .settled) ≤ mostBlocks
+    pub waiting : length (st .waiting) ≡ waitingBytes geo
+    pub work : length (st .work) ≡ workBytes geo
 
-pub sizes-facts : (st : State) → wrongSizes st ≡ false → SizeFacts st
-unfolding wrongSizes wrongSize
-sizes-facts st e =
-    let a = neither _ _ e in
-    let b = neither _ _ (a .0) in
-    let c = neither _ _ (b .0) in
-    let d = neither _ _ (c .0) in
-    let whole : length (st .settled) % blockBytes ≡ 0 = eqb-true _ _ (not-false _ (d .0)) in
-    record {
-      settled = omega arith;
-      least = ltb-false _ _ (d .1);
-      most = ltb-false _ _ (c .1);
-      waiting = eqb-true _ _ (not-false _ (b .1));
-      work = eqb-true _ _ (not-false _ (a .1));
-    }
+  pub sizes-facts : (st : State) → wrongSizes geo st ≡ false → SizeFacts st
+  unfolding wrongSizes wrongSize
+  sizes-facts st e =
+      let a = neither _ _ e in
+      let b = neither _ _ (a .0) in
+      let c = neither _ _ (b .0) in
+      let d = neither _ _ (c .0) in
+      let whole : length (st .settled) % blockBytes ≡ 0 = eqb-true _ _ (not-false _ (d .0)) in
+      record {
+        settled = omega arith;
+        least = ltb-false _ _ (d .1);
+        most = ltb-false _ _ (c .1);
+        waiting = eqb-true _ _ (not-false _ (b .1));
+        work = eqb-true _ _ (not-false _ (a .1));
+      }
 
--- row 2: mode, counts and N
-pub record CountFacts (st : State) : Type 0 where
-  pub mode : st .rec .mode ≤ down
-  pub open-count : st .rec .opened ≤ slots
-  pub group-count : st .rec .grouped ≤ slots
-  pub log-count : st .rec .logged ≤ slots
-  pub waiting-count : st .rec .waiting ≤ places
-  pub waiting-down : st .rec .waiting ≢ 0 → st .rec .mode ≡ down
-  pub blocks : st .rec .blocks ≡ blocksIn (st .settled)
+  -- row 2: mode, counts and N
+  pub record CountFacts (st : State) : Type 0 where
+    pub mode : st .rec .mode ≤ down
+    pub open-count : st .rec .opened ≤ geo .slots
+    pub group-count : st .rec .grouped ≤ geo .slots
+    pub log-count : st .rec .logged ≤ geo .slots
+    pub waiting-count : st .rec .waiting ≤ geo .places
+    pub waiting-down : st .rec .waiting ≢ 0 → st .rec .mode ≡ down
+    pub blocks : st .rec .blocks ≡ blocksIn (st .settled)
 
-pub counts-facts : (st : State) → wrongCounts st ≡ false → CountFacts st
-unfolding wrongCounts
-counts-facts st e =
-    let a = neither _ _ e in
-    let b = neither _ _ (a .0) in
-    let c = neither _ _ (b .0) in
-    let d = neither _ _ (c .0) in
-    let f = neither _ _ (d .0) in
-    let g = neither _ _ (f .0) in
-    record {
-      mode = ltb-false _ _ (g .0);
-      open-count = ltb-false _ _ (g .1);
-      group-count = ltb-false _ _ (f .1);
-      log-count = ltb-false _ _ (d .1);
-      waiting-count = ltb-false _ _ (c .1);
-      waiting-down = λ p. eqb-true _ _ (not-false _ (other _ _ (b .1) (ap not (ne-eqb _ _ p))));
-      blocks = eqb-true _ _ (not-false _ (a .1));
-    }
+  pub counts-facts : (st : State) → wrongCounts geo st ≡ false → CountFacts st
+  unfolding wrongCounts
+  counts-facts st e =
+      let a = neither _ _ e in
+      let b = neither _ _ (a .0) in
+      let c = neither _ _ (b .0) in
+      let d = neither _ _ (c .0) in
+      let f = neither _ _ (d .0) in
+      let g = neither _ _ (f .0) in
+      record {
+        mode = ltb-false _ _ (g .0);
+        open-count = ltb-false _ _ (g .1);
+        group-count = ltb-false _ _ (f .1);
+        log-count = ltb-false _ _ (d .1);
+        waiting-count = ltb-false _ _ (c .1);
+        waiting-down = λ p. eqb-true _ _ (not-false _ (other _ _ (b .1) (ap not (ne-eqb _ _ p))));
+        blocks = eqb-true _ _ (not-false _ (a .1));
+      }
 
--- row 2: the lists, "read when open"
-pub record ListFacts (st : State) : Type 0 where
-  pub open-data : (i : ℕ) → i < st .rec .opened → isData (st .rec .blocks) (listed (st .work) openFrom i .address) ≡ true
-  pub group-data : (i : ℕ) → i < st .rec .grouped → isData (st .rec .blocks) (listed (st .work) groupFrom i .address) ≡ true
-  pub log-data : (i : ℕ) → i < st .rec .logged → isData (st .rec .blocks) (slotAddress (st .settled) i) ≡ true
-  pub open-once : (i : ℕ) → i < st .rec .opened → isFound (find (st .work) openFrom i (listed (st .work) openFrom i .address)) ≡ false
-  pub group-once : (i : ℕ) → i < st .rec .grouped → isFound (find (st .work) groupFrom i (listed (st .work) groupFrom i .address)) ≡ false
+  -- row 2: the lists, "read when open"
+  pub record ListFacts (st : State) : Type 0 where
+    pub open-data : (i : ℕ) → i < st .rec .opened → isData geo (st .rec .blocks) (listed (st .work) openFrom i .address) ≡ true
+    pub group-data : (i : ℕ) → i < st .rec .grouped → isData geo (st .rec .blocks) (listed (st .work) (groupFrom geo) i .address) ≡ true
+    pub log-data : (i : ℕ) → i < st .rec .logged → isData geo (st .rec .blocks) (slotAddress (st .settled) i) ≡ true
+    pub open-once : (i : ℕ) → i < st .rec .opened → isFound (find (st .work) openFrom i (listed (st .work) openFrom i .address)) ≡ false
+    pub group-once : (i : ℕ) → i < st .rec .grouped → isFound (find (st .work) (groupFrom geo) i (listed (st .work) (groupFrom geo) i .address)) ≡ false
 
-pub lists-facts : (st : State) → wrongLists st ≡ false → ListFacts st
-unfolding wrongLists
-lists-facts st e =
-    let a = neither _ _ e in
-    let b = neither _ _ (a .0) in
-    let c = neither _ _ (b .0) in
-    let d = neither _ _ (c .0) in
-    record {
-      open-data = λ i h. not-false _ (some-none (λ j. not (isData (st .rec .blocks) (listed (st .work) openFrom j .address))) (st .rec .opened) (d .0) i h);
-      group-data = λ i h. not-false _ (some-none (λ j. not (isData (st .rec .blocks) (listed (st .work) groupFrom j .address))) (st .rec .grouped) (d .1) i h);
-      log-data = λ i h. slot-data (st .settled) (st .rec .blocks) (st .rec .logged) i h (not-false _ (c .1));
-      open-once = some-none (λ j. isFound (find (st .work) openFrom j (listed (st .work) openFrom j .address))) (st .rec .opened) (b .1);
-      group-once = some-none (λ j. isFound (find (st .work) groupFrom j (listed (st .work) groupFrom j .address))) (st .rec .grouped) (a .1);
-    }
+  pub lists-facts : (st : State) → wrongLists geo st ≡ false → ListFacts st
+  unfolding wrongLists
+  lists-facts st e =
+      let a = neither _ _ e in
+      let b = neither _ _ (a .0) in
+      let c = neither _ _ (b .0) in
+      let d = neither _ _ (c .0) in
+      record {
+        open-data = λ i h. not-false _ (some-none (λ j. not (isData geo (st .rec .blocks) (listed (st .work) openFrom j .address))) (st .rec .opened) (d .0) i h);
+        group-data = λ i h. not-false _ (some-none (λ j. not (isData geo (st .rec .blocks) (listed (st .work) (groupFrom geo) j .address))) (st .rec .grouped) (d .1) i h);
+        log-data = λ i h. slot-data geo (st .settled) (st .rec .blocks) (st .rec .logged) i h (not-false _ (c .1));
+        open-once = some-none (λ j. isFound (find (st .work) openFrom j (listed (st .work) openFrom j .address))) (st .rec .opened) (b .1);
+        group-once = some-none (λ j. isFound (find (st .work) (groupFrom geo) j (listed (st .work) (groupFrom geo) j .address))) (st .rec .grouped) (a .1);
+      }
 
 pub waiting-facts : (st : State) → wrongWaiting st ≡ false → Below (st .rec .blocks) (st .waiting) (st .rec .waiting)
 unfolding wrongWaiting
 waiting-facts st e i h = ltb-true _ _ (not-false _ (some-none (λ j. not (ltb (entryAt (st .waiting) j .address) (st .rec .blocks))) (st .rec .waiting) e i h))
 
--- rows 1 and 2: what a call that reads the record may count on
-pub record Checked (st : State) : Type 0 where
-  pub sizes : SizeFacts st
-  pub counts : CountFacts st
-  pub waiting-below : Below (st .rec .blocks) (st .waiting) (st .rec .waiting)
-  pub lists : st .rec .mode ≡ openMode → ListFacts st
+module _ (geo : Geometry) where
+  -- rows 1 and 2: what a call that reads the record may count on
+  pub record Checked (st : State) : Type 0 where
+    pub sizes : SizeFacts geo st
+    pub counts : CountFacts geo st
+    pub waiting-below : Below (st .rec .blocks) (st .waiting) (st .rec .waiting)
+    pub lists : st .rec .mode ≡ openMode → ListFacts geo st
 
-pub sound : (st : State) → wrongSizes st ≡ false → wrongRecord st ≡ false → Checked st
-sound st s r =
-    let l = neither _ _ r in
-    let c = neither _ _ (l .0) in
-    record {
-      sizes = sizes-facts st s;
-      counts = counts-facts st (c .0);
-      waiting-below = waiting-facts st (c .1);
-      lists = λ o. lists-facts st (other _ _ (l .1) (eq-eqb _ _ o));
-    }
+  pub sound : (st : State) → wrongSizes geo st ≡ false → wrongRecord geo st ≡ false → Checked st
+  sound st s r =
+      let l = neither _ _ r in
+      let c = neither _ _ (l .0) in
+      record {
+        sizes = sizes-facts geo st s;
+        counts = counts-facts geo st (c .0);
+        waiting-below = waiting-facts st (c .1);
+        lists = λ o. lists-facts geo st (other _ _ (l .1) (eq-eqb _ _ o));
+      }
 
 -- ---- what a call has of the shared rows, and its own behind them
 
@@ -177,40 +180,41 @@ restOf (ofBytes own rest) = rest
 restOf (ofRecord own rest) = rest
 restOf (ofOpen own rest) = rest
 
-abbrev pub readsRecord : Request → Bool
-readsRecord q = readsOf (rules q)
+module _ (geo : Geometry) where
+  abbrev pub readsRecord : Request → Bool
+  readsRecord q = readsOf (rules geo q)
 
-abbrev pub needsOpen : Request → Bool
-needsOpen q = opensOf (rules q)
+  abbrev pub needsOpen : Request → Bool
+  needsOpen q = opensOf (rules geo q)
 
-abbrev pub ownRows : Request → List Row
-ownRows q = restOf (rules q)
+  abbrev pub ownRows : Request → List Row
+  ownRows q = restOf (rules geo q)
 
--- a call's own rows have numbers over 2
-pub own-over : (q : Request) → All (λ r. 2 < r .number) (ownRows q)
-own-over format = omega arith
-own-over (power k) = omega arith
-own-over (put a b) = omega arith
-own-over (get a) = omega arith
-own-over commit = omega arith
-own-over abandon = omega arith
-own-over sync = omega arith
-own-over apply = omega arith
-own-over recover = omega arith
-own-over (cut ms) = omega arith
+  -- a call's own rows have numbers over 2
+  pub own-over : (q : Request) → All (λ r. 2 < r .number) (ownRows q)
+  own-over format = omega arith
+  own-over (power k) = omega arith
+  own-over (put a b) = omega arith
+  own-over (get a) = omega arith
+  own-over commit = omega arith
+  own-over abandon = omega arith
+  own-over sync = omega arith
+  own-over apply = omega arith
+  own-over recover = omega arith
+  own-over (cut ms) = omega arith
 
--- ---- a call that no row refuses
+  -- ---- a call that no row refuses
 
-pub record PassesRules (r : Rules) (st : State) : Type 0 where
-  pub sizes : wrongSizes st ≡ false
-  pub block : ownSize r ≡ false
-  pub counts : readsOf r && wrongRecord st ≡ false
-  pub not-closed : opensOf r && eqb (st .rec .mode) closed ≡ false
-  pub not-down : opensOf r && eqb (st .rec .mode) down ≡ false
-  pub own : All (λ row. row .test st ≡ false) (restOf r)
+  pub record PassesRules (r : Rules) (st : State) : Type 0 where
+    pub sizes : wrongSizes geo st ≡ false
+    pub block : ownSize r ≡ false
+    pub counts : readsOf r && wrongRecord geo st ≡ false
+    pub not-closed : opensOf r && eqb (st .rec .mode) closed ≡ false
+    pub not-down : opensOf r && eqb (st .rec .mode) down ≡ false
+    pub own : All (λ row. row .test st ≡ false) (restOf r)
 
-abbrev pub Passes : Request → State → Type 0
-Passes q st = PassesRules (rules q) st
+  abbrev pub Passes : Request → State → Type 0
+  Passes q st = PassesRules (rules geo q) st
 
 -- a row that does not apply
 passed : (t : Bool) (k rest : ℕ) → 0 < k → cond t k rest ≡ 0 → (t ≡ false) × (rest ≡ 0)
@@ -224,42 +228,43 @@ all-passed (r ∷ rs) st a e =
     let p = passed (r .test st) (r .number) (first rs st) (omega arith) e in
     (p .0, all-passed rs st (a .1) (p .1))
 
-rules-pass : (r : Rules) (st : State) → All (λ row. 2 < row .number) (restOf r) → first (rows r) st ≡ 0 → PassesRules r st
-rules-pass (ofBytes own rest) st o e =
-    let a = passed _ 1 _ (omega arith) e in
-    let l = neither _ _ (a .0) in
-    record { sizes = l .0; block = l .1; counts = refl; not-closed = refl; not-down = refl; own = all-passed rest st o (a .1) }
-rules-pass (ofRecord own rest) st o e =
-    let a = passed _ 1 _ (omega arith) e in
-    let b = passed _ 2 _ (omega arith) (a .1) in
-    let l = neither _ _ (a .0) in
-    record { sizes = l .0; block = l .1; counts = b .0; not-closed = refl; not-down = refl; own = all-passed rest st o (b .1) }
-rules-pass (ofOpen own rest) st o e =
-    let a = passed _ 1 _ (omega arith) e in
-    let b = passed _ 2 _ (omega arith) (a .1) in
-    let c = passed _ 3 _ (omega arith) (b .1) in
-    let d = passed _ 4 _ (omega arith) (c .1) in
-    let l = neither _ _ (a .0) in
-    record { sizes = l .0; block = l .1; counts = b .0; not-closed = c .0; not-down = d .0; own = all-passed rest st o (d .1) }
+module _ (geo : Geometry) where
+  rules-pass : (r : Rules) (st : State) → All (λ row. 2 < row .number) (restOf r) → first (rows geo r) st ≡ 0 → PassesRules geo r st
+  rules-pass (ofBytes own rest) st o e =
+      let a = passed _ 1 _ (omega arith) e in
+      let l = neither _ _ (a .0) in
+      record { sizes = l .0; block = l .1; counts = refl; not-closed = refl; not-down = refl; own = all-passed rest st o (a .1) }
+  rules-pass (ofRecord own rest) st o e =
+      let a = passed _ 1 _ (omega arith) e in
+      let b = passed _ 2 _ (omega arith) (a .1) in
+      let l = neither _ _ (a .0) in
+      record { sizes = l .0; block = l .1; counts = b .0; not-closed = refl; not-down = refl; own = all-passed rest st o (b .1) }
+  rules-pass (ofOpen own rest) st o e =
+      let a = passed _ 1 _ (omega arith) e in
+      let b = passed _ 2 _ (omega arith) (a .1) in
+      let c = passed _ 3 _ (omega arith) (b .1) in
+      let d = passed _ 4 _ (omega arith) (c .1) in
+      let l = neither _ _ (a .0) in
+      record { sizes = l .0; block = l .1; counts = b .0; not-closed = c .0; not-down = d .0; own = all-passed rest st o (d .1) }
 
--- n being the number that was computed
-pub cause-passes : (q : Request) (st : State) (n : ℕ) → n ≡ cause q st → n ≡ 0 → Passes q st
-cause-passes q st n e z = rules-pass (rules q) st (own-over q) (sym e ∙ z)
+  -- n being the number that was computed
+  pub cause-passes : (q : Request) (st : State) (n : ℕ) → n ≡ cause geo q st → n ≡ 0 → Passes geo q st
+  cause-passes q st n e z = rules-pass (rules geo q) st (own-over geo q) (sym e ∙ z)
 
--- a call that reads the record and passes finds it sound
-pub passes-sound : (q : Request) (st : State) (n : ℕ) → readsRecord q ≡ true → n ≡ cause q st → n ≡ 0 → Checked st
-passes-sound q st n r e z = let p = cause-passes q st n e z in sound st (p .sizes) (other _ _ (p .counts) r)
+  -- a call that reads the record and passes finds it sound
+  pub passes-sound : (q : Request) (st : State) (n : ℕ) → readsRecord geo q ≡ true → n ≡ cause geo q st → n ≡ 0 → Checked geo st
+  passes-sound q st n r e z = let p = cause-passes q st n e z in sound geo st (p .sizes) (other _ _ (p .counts) r)
 
--- ---- the first rows, shared by the calls
+  -- ---- the first rows, shared by the calls
 
--- a put's block of a wrong length is 1
-pub cause-block : (q : Request) (st : State) → wrongBlock q ≡ true → cause q st ≡ 1
-cause-block q st = go (rules q)
-  where
-    go : (r : Rules) → ownSize r ≡ true → first (rows r) st ≡ 1
-    go (ofBytes own rest) b = rw (b, or-true)
-    go (ofRecord own rest) b = rw (b, or-true)
-    go (ofOpen own rest) b = rw (b, or-true)
+  -- a put's block of a wrong length is 1
+  pub cause-block : (q : Request) (st : State) → wrongBlock geo q ≡ true → cause geo q st ≡ 1
+  cause-block q st = go (rules geo q)
+    where
+      go : (r : Rules) → ownSize r ≡ true → first (rows geo r) st ≡ 1
+      go (ofBytes own rest) b = rw (b, or-true)
+      go (ofRecord own rest) b = rw (b, or-true)
+      go (ofOpen own rest) b = rw (b, or-true)
 
 -- rows 1 and 2, and the rest
 rows-2 : (a b : Bool) (n rest : ℕ) → n ≡ cond a 1 (cond b 2 0) → cond a 1 (cond b 2 rest) ≡ cond (eqb n 0) rest n
@@ -276,11 +281,12 @@ rows-4 false false true d n rest e = rw e
 rows-4 false false false true n rest e = rw e
 rows-4 false false false false n rest e = rw e
 
-module _ (st : State) (n : ℕ) (rest : List Row) where
-  -- power has rows 1 and 2 alone. n is what they come to: a call that reads the record gives it, or what its own rows come to
-  pub cause-2 : n ≡ cause (power 0) st → first (rows (ofRecord false rest)) st ≡ cond (eqb n 0) (first rest st) n
-  cause-2 e = rows-2 (wrongSizes st || false) (wrongRecord st) n _ e
+module _ (geo : Geometry) where
+  module _ (st : State) (n : ℕ) (rest : List Row) where
+    -- power has rows 1 and 2 alone. n is what they come to: a call that reads the record gives it, or what its own rows come to
+    pub cause-2 : n ≡ cause geo (power 0) st → first (rows geo (ofRecord false rest)) st ≡ cond (eqb n 0) (first rest st) n
+    cause-2 e = rows-2 (wrongSizes geo st || false) (wrongRecord geo st) n _ e
 
-  -- abandon has rows 1 to 4 alone: likewise for a call that needs an open record
-  pub cause-4 : (own : Bool) → own ≡ false → n ≡ cause abandon st → first (rows (ofOpen own rest)) st ≡ cond (eqb n 0) (first rest st) n
-  cause-4 own block e = rw block (rows-4 (wrongSizes st || false) (wrongRecord st) (eqb (st .rec .mode) closed) (eqb (st .rec .mode) down) n _ e)
+    -- abandon has rows 1 to 4 alone: likewise for a call that needs an open record
+    pub cause-4 : (own : Bool) → own ≡ false → n ≡ cause geo abandon st → first (rows geo (ofOpen own rest)) st ≡ cond (eqb n 0) (first rest st) n
+    cause-4 own block e = rw block (rows-4 (wrongSizes geo st || false) (wrongRecord geo st) (eqb (st .rec .mode) closed) (eqb (st .rec .mode) down) n _ e)

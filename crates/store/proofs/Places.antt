@@ -7,6 +7,7 @@ use native.Mathlib.Omega.{arith}
 use borrow.Author.Tests.{eqb-true, ltb-true, not-false}
 use denote.Ref.{RefT}
 use lib.Dec.{eqb, leb, ltb}
+use Rattle.journal.specs.Geometry.{Geometry}
 use Rattle.journal.specs.declared.lookup.Found.{Found}
 use Rattle.journal.specs.declared.lookup.Found.the-variants.{At, Absent}
 use Rattle.journal.specs.Layout.{isData, firstData}
@@ -25,37 +26,38 @@ use Rattle.store.specs.Get.{logPlace, groupPlace, openPlace, newest, get
 use Rattle.store.proofs.Causes.{Checked, cause-passes, passes-sound}
 use Rattle.store.proofs.Lookups.{last-at, find-at}
 
--- the address of a data block is below N
-pub data-lt : (N a : ℕ) → isData N a ≡ true → a < N
-data-lt N a d = ltb-true a N (both (leb firstData a) (ltb a N) d .1)
+module _ (geo : Geometry) where
+  -- the address of a data block is below N
+  pub data-lt : (N a : ℕ) → isData geo N a ≡ true → a < N
+  data-lt N a d = ltb-true a N (both (leb (firstData geo) a) (ltb a N) d .1)
 
-pub newest-within : (a : ℕ) (st : State) → Checked st → isData (st .rec .blocks) a ≡ true → HoldsBlock (newest a st) (st .settled) (st .work)
-unfolding newest
-newest-within a st s d = in-open (find (st .work) openFrom (st .rec .opened) a) refl
-  where
-    in-log : (f : Found) → lastSlot (st .settled) a (st .rec .logged) ≡ f → HoldsBlock (logPlace a f) (st .settled) (st .work)
-    in-log (At k) e = let inside = last-at (slotAddress (st .settled)) a (st .rec .logged) k e in omega arith
-    in-log Absent e = let inside = data-lt (st .rec .blocks) a d in omega arith
+  pub newest-within : (a : ℕ) (st : State) → Checked geo st → isData geo (st .rec .blocks) a ≡ true → HoldsBlock (newest geo a st) (st .settled) (st .work)
+  unfolding newest
+  newest-within a st s d = in-open (find (st .work) openFrom (st .rec .opened) a) refl
+    where
+      in-log : (f : Found) → lastSlot (st .settled) a (st .rec .logged) ≡ f → HoldsBlock (logPlace geo a f) (st .settled) (st .work)
+      in-log (At k) e = let inside = last-at (slotAddress (st .settled)) a (st .rec .logged) k e in omega arith
+      in-log Absent e = let inside = data-lt (st .rec .blocks) a d in omega arith
 
-    in-group : (f : Found) → find (st .work) groupFrom (st .rec .grouped) a ≡ f
-        → HoldsBlock (groupPlace f (logPlace a (lastSlot (st .settled) a (st .rec .logged)))) (st .settled) (st .work)
-    in-group (At j) e = let inside = find-at (st .work) groupFrom (st .rec .grouped) a j e in omega arith
-    in-group Absent e = in-log (lastSlot (st .settled) a (st .rec .logged)) refl
+      in-group : (f : Found) → find (st .work) (groupFrom geo) (st .rec .grouped) a ≡ f
+          → HoldsBlock (groupPlace geo f (logPlace geo a (lastSlot (st .settled) a (st .rec .logged)))) (st .settled) (st .work)
+      in-group (At j) e = let inside = find-at (st .work) (groupFrom geo) (st .rec .grouped) a j e in omega arith
+      in-group Absent e = in-log (lastSlot (st .settled) a (st .rec .logged)) refl
 
-    in-open : (f : Found) → find (st .work) openFrom (st .rec .opened) a ≡ f
-        → HoldsBlock (openPlace f (groupPlace (find (st .work) groupFrom (st .rec .grouped) a) (logPlace a (lastSlot (st .settled) a (st .rec .logged))))) (st .settled) (st .work)
-    in-open (At i) e = let inside = find-at (st .work) openFrom (st .rec .opened) a i e in omega arith
-    in-open Absent e = in-group (find (st .work) groupFrom (st .rec .grouped) a) refl
+      in-open : (f : Found) → find (st .work) openFrom (st .rec .opened) a ≡ f
+          → HoldsBlock (openPlace f (groupPlace geo (find (st .work) (groupFrom geo) (st .rec .grouped) a) (logPlace geo a (lastSlot (st .settled) a (st .rec .logged))))) (st .settled) (st .work)
+      in-open (At i) e = let inside = find-at (st .work) openFrom (st .rec .opened) a i e in omega arith
+      in-open Absent e = in-group (find (st .work) (groupFrom geo) (st .rec .grouped) a) refl
 
-pub get-within : (a : ℕ) (st : State) → HoldsBlock (getPlace a st) (st .settled) (st .work)
-unfolding getPlace
-get-within a st = go (eqb (cause (get a) st) 0) refl
-  where
-    go : (t : Bool) → eqb (cause (get a) st) 0 ≡ t → HoldsBlock (cond t (newest a st) Nowhere) (st .settled) (st .work)
-    go true e =
-        let z : cause (get a) st ≡ 0 = eqb-true _ _ e in
-        newest-within a st (passes-sound (get a) st 0 refl (sym z) refl) (not-false _ (cause-passes (get a) st 0 (sym z) refl .own .0))
-    go false e = tt
+  pub get-within : (a : ℕ) (st : State) → HoldsBlock (getPlace geo a st) (st .settled) (st .work)
+  unfolding getPlace
+  get-within a st = go (eqb (cause geo (get a) st) 0) refl
+    where
+      go : (t : Bool) → eqb (cause geo (get a) st) 0 ≡ t → HoldsBlock (cond t (newest geo a st) Nowhere) (st .settled) (st .work)
+      go true e =
+          let z : cause geo (get a) st ≡ 0 = eqb-true _ _ e in
+          newest-within a st (passes-sound geo (get a) st 0 refl (sym z) refl) (not-false _ (cause-passes geo (get a) st 0 (sym z) refl .own .0))
+      go false e = tt
 
 pub part-bytes : (p : Place) (r : Record) (settled work : RefT (List ℕ)) (w : List ℕ) → partAt p settled work .bytes ≡ bytesAt p (stateOf r (settled .now) w (work .now))
 part-bytes (Settled o) r s k w = refl

@@ -19,9 +19,9 @@ use Rattle.card.specs.Card as Card
 use Rattle.card.specs.Card.{Card, Order, write, flush, order, run, blocksIn}
 use Rattle.card.specs.CodeQueue.{cardOf}
 use Rattle.card.proofs.Runs.{run-nil, run-one, run-append, run-power}
+use Rattle.journal.specs.Geometry.{Geometry}
 use Rattle.journal.specs.declared.choice.Choice.{Choice}
 use Rattle.journal.specs.declared.choice.Choice.the-variants.{Whole, Fallback, Foreign, Neither}
-use Rattle.journal.specs.Layout.{slots}
 use Rattle.journal.specs.Header.{emptyHeader}
 use Rattle.journal.specs.Log.{slotAddress, entries, sumOf}
 use Rattle.journal.specs.Orders.{checkpointOrders, appendOrders, applyOrders, syncOrders}
@@ -134,22 +134,23 @@ same-counts os st x y w p = go (leb (length os) (st .rec .power))
 
 -- ---- apply
 
-pub apply-none : (st : State) → st .rec .logged ≡ 0 → completed st ≡ cond (eqb (st .rec .logged) 0) (completed st) (emptying st)
-apply-none st n = rw (eq-eqb _ _ n)
+module _ (geo : Geometry) where
+  pub apply-none : (st : State) → st .rec .logged ≡ 0 → completed st ≡ cond (eqb (st .rec .logged) 0) (completed st) (emptying geo st)
+  apply-none st n = rw (eq-eqb _ _ n)
 
-pub apply-some : (st : State) → st .rec .logged ≢ 0 → emptying st ≡ cond (eqb (st .rec .logged) 0) (completed st) (emptying st)
-apply-some st n = rw (ne-eqb _ _ n)
+  pub apply-some : (st : State) → st .rec .logged ≢ 0 → emptying geo st ≡ cond (eqb (st .rec .logged) 0) (completed st) (emptying geo st)
+  apply-some st n = rw (ne-eqb _ _ n)
 
--- with a log or without, its orders are carried out
-pub apply-carried : (st : State) → cond (eqb (st .rec .logged) 0) (completed st) (emptying st)
-    ≡ carried (applyOrders (st .rec .blocks) (st .settled) (st .rec .logged)) (cond (eqb (st .rec .logged) 0) (st .rec) (withLog 0 start (st .rec))) (st .rec) st
-unfolding applyOrders
-apply-carried st = go (eqb (st .rec .logged) 0)
-  where
-    go : (t : Bool) → cond t (completed st) (emptying st)
-        ≡ carried (cond t [] (checkpointOrders (st .rec .blocks) (entries (st .settled) (st .rec .logged)))) (cond t (st .rec) (withLog 0 start (st .rec))) (st .rec) st
-    go true = sym (carried-none (st .rec) (st .rec) st)
-    go false = refl
+  -- with a log or without, its orders are carried out
+  pub apply-carried : (st : State) → cond (eqb (st .rec .logged) 0) (completed st) (emptying geo st)
+      ≡ carried (applyOrders geo (st .rec .blocks) (st .settled) (st .rec .logged)) (cond (eqb (st .rec .logged) 0) (st .rec) (withLog 0 start (st .rec))) (st .rec) st
+  unfolding applyOrders
+  apply-carried st = go (eqb (st .rec .logged) 0)
+    where
+      go : (t : Bool) → cond t (completed st) (emptying geo st)
+          ≡ carried (cond t [] (checkpointOrders (st .rec .blocks) (entries geo (st .settled) (st .rec .logged)))) (cond t (st .rec) (withLog 0 start (st .rec))) (st .rec) st
+      go true = sym (carried-none (st .rec) (st .rec) st)
+      go false = refl
 
 -- ---- sync
 
@@ -163,96 +164,97 @@ checkpoint-idle N es c h =
     let live : 0 < run front c .power = rw (run-power) (omega arith) in
     ap (λ (os : List Order). run os c .count) ends ∙ ap (λ (x : Card). x .count) (run-append front (flush ∷ []) c ∙ run-one flush (run front c) live)
 
--- the orders of an apply
-abbrev checkpoint : State → List Order
-checkpoint st = checkpointOrders (st .rec .blocks) (entries (st .settled) (st .rec .logged))
+module _ (geo : Geometry) where
+  -- the orders of an apply
+  abbrev checkpoint : State → List Order
+  checkpoint st = checkpointOrders (st .rec .blocks) (entries geo (st .settled) (st .rec .logged))
 
--- what they leave when all of them happened
-abbrev checkpointed : State → State
-checkpointed st = withCard (run (checkpoint st) (cardIn st)) (withRecord (withLog 0 start (st .rec)) st)
+  -- what they leave when all of them happened
+  abbrev checkpointed : State → State
+  checkpointed st = withCard (run (checkpoint st) (cardIn st)) (withRecord (withLog 0 start (st .rec)) st)
 
-module _ (st : State) where
-  pub group-size : length (groupOf st) ≡ st .rec .grouped
-  group-size = length-upTo (listed (st .work) groupFrom) (st .rec .grouped)
+  module _ (st : State) where
+    pub group-size : length (groupOf geo st) ≡ st .rec .grouped
+    group-size = length-upTo (listed (st .work) (groupFrom geo)) (st .rec .grouped)
 
-  -- no group
-  pub sync-none : st .rec .grouped ≡ 0 → st ≡ syncing st .state
-  unfolding syncOrders
-  sync-none none =
-      rw (group-size, eq-eqb _ _ none)
-      ((λ j. withRecord (withQueue (st .rec .waiting) (st .rec .power) (withGrouped (none j) (withLog (more j) (sum j) (st .rec)))) st)
-      ∙ ap (λ (o : Outcome). o .state) (sym (carried-none (withGrouped 0 (withLog (st .rec .logged + st .rec .grouped) (sumOf (st .rec .sum) (groupOf st)) (st .rec))) _ st)))
-    where
-      more : st .rec .logged ≡ st .rec .logged + st .rec .grouped
-      more = omega arith
-
-      sum : st .rec .sum ≡ sumOf (st .rec .sum) (groupOf st)
-      sum = sym (ap (λ (m : ℕ). sumOf (st .rec .sum) (upTo (listed (st .work) groupFrom) m)) none ∙ sumOf-nil (st .rec .sum))
-
-  -- its number and its orders
-  pub sync-ends : st .rec .mode ≢ down → (r : Record) (s w k : List ℕ) → stateOf r s w k ≡ syncing st .state
-      → outcomeOf (cond (eqb (r .mode) down) 4 0) (st .rec .power - r .power) r s w k ≡ syncing st
-  sync-ends live r s w k e = carried-ends _ _ _ st (λ m. live (sym (mode (applies st)) ∙ m)) r s w k e
-    where
-      mode : (t : Bool) → cond t (withLog 0 start (st .rec)) (st .rec) .mode ≡ st .rec .mode
-      mode true = refl
-      mode false = refl
-
-  module _ (some : st .rec .grouped ≢ 0) where
-    -- room for it
-    pub sync-room : st .rec .logged + st .rec .grouped ≤ slots → appending st ≡ syncing st
+    -- no group
+    pub sync-none : st .rec .grouped ≡ 0 → st ≡ syncing geo st .state
     unfolding syncOrders
-    sync-room room = rw (group-size, ne-eqb _ _ some, le-leb _ _ room, le-leb 0 (st .rec .power) (omega arith))
+    sync-none none =
+        rw (group-size, eq-eqb _ _ none)
+        ((λ j. withRecord (withQueue (st .rec .waiting) (st .rec .power) (withGrouped (none j) (withLog (more j) (sum j) (st .rec)))) st)
+        ∙ ap (λ (o : Outcome). o .state) (sym (carried-none (withGrouped 0 (withLog (st .rec .logged + st .rec .grouped) (sumOf (st .rec .sum) (groupOf geo st)) (st .rec))) _ st)))
+      where
+        more : st .rec .logged ≡ st .rec .logged + st .rec .grouped
+        more = omega arith
 
-    module _ (over : slots < st .rec .logged + st .rec .grouped) (live : st .rec .mode ≢ down) (x : State) (first : x ≡ emptying st .state) where
-      -- the apply runs out of power
-      pub sync-dead : x .rec .mode ≡ down → x ≡ syncing st .state
+        sum : st .rec .sum ≡ sumOf (st .rec .sum) (groupOf geo st)
+        sum = sym (ap (λ (m : ℕ). sumOf (st .rec .sum) (upTo (listed (st .work) (groupFrom geo)) m)) none ∙ sumOf-nil (st .rec .sum))
+
+    -- its number and its orders
+    pub sync-ends : st .rec .mode ≢ down → (r : Record) (s w k : List ℕ) → stateOf r s w k ≡ syncing geo st .state
+        → outcomeOf (cond (eqb (r .mode) down) 4 0) (st .rec .power - r .power) r s w k ≡ syncing geo st
+    sync-ends live r s w k e = carried-ends _ _ _ st (λ m. live (sym (mode (applies geo st)) ∙ m)) r s w k e
+      where
+        mode : (t : Bool) → cond t (withLog 0 start (st .rec)) (st .rec) .mode ≡ st .rec .mode
+        mode true = refl
+        mode false = refl
+
+    module _ (some : st .rec .grouped ≢ 0) where
+      -- room for it
+      pub sync-room : st .rec .logged + st .rec .grouped ≤ geo .slots → appending geo st ≡ syncing geo st
       unfolding syncOrders
-      sync-dead dead =
-          let end = carried-dead (checkpoint st) (withLog 0 start (st .rec)) (st .rec) st live x first dead in
-          rw (group-size, ne-eqb _ _ some, lt-leb _ _ over, lt-leb _ _ (end .0)) (end .1 ∙ step-dead _ _ st _ (st .rec) (end .0))
+      sync-room room = rw (group-size, ne-eqb _ _ some, le-leb _ _ room, le-leb 0 (st .rec .power) (omega arith))
 
-      -- it does not, and the group meets an empty log
-      pub sync-on : x .rec .mode ≢ down → (x .rec .logged ≡ 0) × (x .rec .grouped ≡ st .rec .grouped) × (x .rec .waiting ≡ 0)
-      sync-on on =
-          let end = carried-live (checkpoint st) (withLog 0 start (st .rec)) (st .rec) st x first on in (
-            ap (λ (y : State). y .rec .logged) (end .1),
-            ap (λ (y : State). y .rec .grouped) (end .1),
-            ap (λ (y : State). y .rec .waiting) (end .1) ∙ checkpoint-idle (st .rec .blocks) (entries (st .settled) (st .rec .logged)) (cardIn st) (end .0),
-          )
+      module _ (over : geo .slots < st .rec .logged + st .rec .grouped) (live : st .rec .mode ≢ down) (x : State) (first : x ≡ emptying geo st .state) where
+        -- the apply runs out of power
+        pub sync-dead : x .rec .mode ≡ down → x ≡ syncing geo st .state
+        unfolding syncOrders
+        sync-dead dead =
+            let end = carried-dead (checkpoint st) (withLog 0 start (st .rec)) (st .rec) st live x first dead in
+            rw (group-size, ne-eqb _ _ some, lt-leb _ _ over, lt-leb _ _ (end .0)) (end .1 ∙ step-dead _ _ st _ (st .rec) (end .0))
 
-      pub sync-live : x .rec .mode ≢ down → (y : State) → y ≡ appending x .state → y ≡ syncing st .state
-      unfolding syncOrders
-      sync-live on y next =
-          let end = carried-live (checkpoint st) (withLog 0 start (st .rec)) (st .rec) st x first on in
-          let q = run (checkpoint st) (cardIn st) in
-          let own = appendOrders (st .rec .blocks) (st .settled) 0 start (groupOf st) in
-          let done = withGrouped 0 (withLog (0 + st .rec .grouped) (sumOf start (groupOf st)) (st .rec)) in
-          rw (group-size, ne-eqb _ _ some, lt-leb _ _ over, le-leb _ _ (end .0))
-          (next
-          ∙ ap (λ (z : State). appending z .state) (end .1)
-          ∙ ap (λ (os : List Order). carried os (withQueue (q .count) (q .power) done) (checkpointed st .rec) (checkpointed st) .state) (append-afresh (st .rec .blocks) (q .settled) (st .settled) start (groupOf st))
-          ∙ step-live (checkpoint st) own st (withQueue (q .count) (q .power) done) (checkpointed st .rec) (end .0) (withLog 0 start (st .rec))
-          ∙ same-counts (checkpoint st ++ own) st done (withLog 0 start (st .rec)) (q .count) (q .power))
+        -- it does not, and the group meets an empty log
+        pub sync-on : x .rec .mode ≢ down → (x .rec .logged ≡ 0) × (x .rec .grouped ≡ st .rec .grouped) × (x .rec .waiting ≡ 0)
+        sync-on on =
+            let end = carried-live (checkpoint st) (withLog 0 start (st .rec)) (st .rec) st x first on in (
+              ap (λ (y : State). y .rec .logged) (end .1),
+              ap (λ (y : State). y .rec .grouped) (end .1),
+              ap (λ (y : State). y .rec .waiting) (end .1) ∙ checkpoint-idle (st .rec .blocks) (entries geo (st .settled) (st .rec .logged)) (cardIn st) (end .0),
+            )
 
--- ---- recover
+        pub sync-live : x .rec .mode ≢ down → (y : State) → y ≡ appending geo x .state → y ≡ syncing geo st .state
+        unfolding syncOrders
+        sync-live on y next =
+            let end = carried-live (checkpoint st) (withLog 0 start (st .rec)) (st .rec) st x first on in
+            let q = run (checkpoint st) (cardIn st) in
+            let own = appendOrders geo (st .rec .blocks) (st .settled) 0 start (groupOf geo st) in
+            let done = withGrouped 0 (withLog (0 + st .rec .grouped) (sumOf start (groupOf geo st)) (st .rec)) in
+            rw (group-size, ne-eqb _ _ some, lt-leb _ _ over, le-leb _ _ (end .0))
+            (next
+            ∙ ap (λ (z : State). appending geo z .state) (end .1)
+            ∙ ap (λ (os : List Order). carried os (withQueue (q .count) (q .power) done) (checkpointed st .rec) (checkpointed st) .state) (append-afresh geo (st .rec .blocks) (q .settled) (st .settled) start (groupOf geo st))
+            ∙ step-live (checkpoint st) own st (withQueue (q .count) (q .power) done) (checkpointed st .rec) (end .0) (withLog 0 start (st .rec))
+            ∙ same-counts (checkpoint st ++ own) st done (withLog 0 start (st .rec)) (q .count) (q .power))
 
--- its cause, once the rows of the record and of the mode have passed
-recover-cause : (st : State) (n : ℕ) → n ≡ cause (power 0) st → n ≡ 0 → st .rec .mode ≢ down → st .rec .mode ≢ openMode
-    → cause recover st ≡ choiceNumber (choose (st .rec .blocks) (st .settled))
-recover-cause st n e z d o =
-    cause-2 st n (ownRows recover) e ∙ rw (eq-eqb _ _ z, ne-eqb _ _ d, ne-eqb _ _ o) (go (choose (st .rec .blocks) (st .settled)))
-  where
-    go : (c : Choice) → cond (eqb (choiceNumber c) 8) 8 (cond (eqb (choiceNumber c) 9) 9 0) ≡ choiceNumber c
-    go (Whole k h) = refl
-    go (Fallback k h) = refl
-    go Foreign = refl
-    go Neither = refl
+  -- ---- recover
 
-pub recover-call : (st : State) (n : ℕ) → n ≡ cause (power 0) st → n ≡ 0 → st .rec .mode ≢ down → st .rec .mode ≢ openMode
-    → unless (choiceNumber (choose (st .rec .blocks) (st .settled))) st (recovering (choose (st .rec .blocks) (st .settled)) st) ≡ recoverCall st
-unfolding recoverCall
-recover-call st n e z d o = ap (λ (k : ℕ). unless k st (recovering (choose (st .rec .blocks) (st .settled)) st)) (sym (recover-cause st n e z d o))
+  -- its cause, once the rows of the record and of the mode have passed
+  recover-cause : (st : State) (n : ℕ) → n ≡ cause geo (power 0) st → n ≡ 0 → st .rec .mode ≢ down → st .rec .mode ≢ openMode
+      → cause geo recover st ≡ choiceNumber (choose geo (st .rec .blocks) (st .settled))
+  recover-cause st n e z d o =
+      cause-2 geo st n (ownRows geo recover) e ∙ rw (eq-eqb _ _ z, ne-eqb _ _ d, ne-eqb _ _ o) (go (choose geo (st .rec .blocks) (st .settled)))
+    where
+      go : (c : Choice) → cond (eqb (choiceNumber c) 8) 8 (cond (eqb (choiceNumber c) 9) 9 0) ≡ choiceNumber c
+      go (Whole k h) = refl
+      go (Fallback k h) = refl
+      go Foreign = refl
+      go Neither = refl
+
+  pub recover-call : (st : State) (n : ℕ) → n ≡ cause geo (power 0) st → n ≡ 0 → st .rec .mode ≢ down → st .rec .mode ≢ openMode
+      → unless (choiceNumber (choose geo (st .rec .blocks) (st .settled))) st (recovering (choose geo (st .rec .blocks) (st .settled)) st) ≡ recoverCall geo st
+  unfolding recoverCall
+  recover-call st n e z d o = ap (λ (k : ℕ). unless k st (recovering (choose geo (st .rec .blocks) (st .settled)) st)) (sym (recover-cause st n e z d o))
 
 -- ---- cut
 
@@ -267,35 +269,36 @@ cut-state ms done st q s p d r queue card whole e =
 
 -- ---- a call that no row refuses
 
--- nothing waits unless the record is down
-pub idle : (st : State) → Checked st → st .rec .mode ≢ down → st .rec .waiting ≡ 0
-idle st s live = go (ℕ-discrete (st .rec .waiting) 0)
-  where
-    go : Dec (st .rec .waiting ≡ 0) → st .rec .waiting ≡ 0
-    go (yes e) = e
-    go (no e) = absurd (live (s .counts .waiting-down e))
+module _ (geo : Geometry) where
+  -- nothing waits unless the record is down
+  pub idle : (st : State) → Checked geo st → st .rec .mode ≢ down → st .rec .waiting ≡ 0
+  idle st s live = go (ℕ-discrete (st .rec .waiting) 0)
+    where
+      go : Dec (st .rec .waiting ≡ 0) → st .rec .waiting ≡ 0
+      go (yes e) = e
+      go (no e) = absurd (live (s .counts .waiting-down e))
 
--- what sync and apply may count on: they have the rows of abandon
-pub record Ready (st : State) : Type 0 where
-  pub sound : Checked st
-  pub mode : st .rec .mode ≡ openMode
-  pub live : st .rec .mode ≢ down
-  pub waiting : st .rec .waiting ≡ 0
-  pub homes : (i : ℕ) → i < st .rec .logged → slotAddress (st .settled) i < blocksIn (st .settled)
+  -- what sync and apply may count on: they have the rows of abandon
+  pub record Ready (st : State) : Type 0 where
+    pub sound : Checked geo st
+    pub mode : st .rec .mode ≡ openMode
+    pub live : st .rec .mode ≢ down
+    pub waiting : st .rec .waiting ≡ 0
+    pub homes : (i : ℕ) → i < st .rec .logged → slotAddress (st .settled) i < blocksIn (st .settled)
 
-pub ready : (st : State) (n : ℕ) → n ≡ cause abandon st → n ≡ 0 → Ready st
-ready st n e z =
-    let p = cause-passes abandon st n e z in
-    let s = passes-sound abandon st n refl e z in
-    let live : st .rec .mode ≢ down = eqb-false _ _ (p .not-down) in
-    let mode : st .rec .mode ≡ openMode = only (st .rec .mode) (s .counts .mode) (eqb-false _ _ (p .not-closed)) live in
-    record {
-      sound = s;
-      mode = mode;
-      live = live;
-      waiting = idle st s live;
-      homes = λ i h. let inside = data-lt (st .rec .blocks) (slotAddress (st .settled) i) (s .lists mode .log-data i h) in omega (arith, s .counts .blocks);
-    }
-  where
-    only : (m : ℕ) → m ≤ down → m ≢ closed → m ≢ down → m ≡ openMode
-    only m l c d = omega arith
+  pub ready : (st : State) (n : ℕ) → n ≡ cause geo abandon st → n ≡ 0 → Ready st
+  ready st n e z =
+      let p = cause-passes geo abandon st n e z in
+      let s = passes-sound geo abandon st n refl e z in
+      let live : st .rec .mode ≢ down = eqb-false _ _ (p .not-down) in
+      let mode : st .rec .mode ≡ openMode = only (st .rec .mode) (s .counts .mode) (eqb-false _ _ (p .not-closed)) live in
+      record {
+        sound = s;
+        mode = mode;
+        live = live;
+        waiting = idle st s live;
+        homes = λ i h. let inside = data-lt geo (st .rec .blocks) (slotAddress (st .settled) i) (s .lists mode .log-data i h) in omega (arith, s .counts .blocks);
+      }
+    where
+      only : (m : ℕ) → m ≤ down → m ≢ closed → m ≢ down → m ≡ openMode
+      only m l c d = omega arith

@@ -6,10 +6,12 @@ use mathlib.Core.List.{List, [], _∷_}
 use lib.Dec.{eqb, leb, ltb}
 use lib.ListN.{length}
 use Rattle.cells.specs.Entry.{blockBytes, entryBytes, entryAt}
-use Rattle.card.specs.Card.{places, blocksIn}
+use Rattle.card.specs.Card.{blocksIn}
+use Rattle.card.specs.Marks.{marksFit}
+use Rattle.journal.specs.Geometry.{Geometry}
 use Rattle.journal.specs.declared.lookup.Found.{Found}
 use Rattle.journal.specs.declared.lookup.Found.the-variants.{At, Absent}
-use Rattle.journal.specs.Layout.{slots, isData, wrongSize}
+use Rattle.journal.specs.Layout.{isData, wrongSize}
 use Rattle.journal.specs.Log.{entries, allData}
 use Rattle.journal.specs.Choice.{choose, choiceNumber}
 use Rattle.store.specs.State.{State, closed, openMode, down}
@@ -18,13 +20,14 @@ use Rattle.store.specs.Request.{Request, format, power, put, get, commit
 
 -- ---- the sizes
 
--- "34 places of 516 bytes (17,544 in all)"
-abbrev pub waitingBytes : ℕ
-waitingBytes = entryBytes * places
+module _ (geo : Geometry) where
+  -- "34 places of 516 bytes (17,544 in all)"
+  abbrev pub waitingBytes : ℕ
+  waitingBytes = entryBytes * geo .places
 
--- "Work memory is 33,024 bytes: 32 open entries, then 32 group entries"
-abbrev pub workBytes : ℕ
-workBytes = entryBytes * (slots + slots)
+  -- "Work memory is 33,024 bytes: 32 open entries, then 32 group entries"
+  abbrev pub workBytes : ℕ
+  workBytes = entryBytes * (geo .slots + geo .slots)
 
 -- a row of the table: its number and its test
 pub record Row : Type 0 where
@@ -33,15 +36,16 @@ pub record Row : Type 0 where
 
 -- ---- 1: "a lent buffer's length is wrong, N out of bounds"
 
-unfoldable pub wrongSizes : State → Bool
-wrongSizes st =
-    wrongSize (st .settled)
-    || not (eqb (length (st .waiting)) waitingBytes)
-    || not (eqb (length (st .work)) workBytes)
+module _ (geo : Geometry) where
+  unfoldable pub wrongSizes : State → Bool
+  wrongSizes st =
+      wrongSize geo (st .settled)
+      || not (eqb (length (st .waiting)) (waitingBytes geo))
+      || not (eqb (length (st .work)) (workBytes geo))
 
--- the lent buffers, and what the call's own arguments have wrong: "a put block not 512 bytes"
-abbrev pub sizeRow : Bool → Row
-sizeRow own = record { number = 1; test = λ st. wrongSizes st || own }
+  -- the lent buffers, and what the call's own arguments have wrong: "a put block not 512 bytes"
+  abbrev pub sizeRow : Bool → Row
+  sizeRow own = record { number = 1; test = λ st. wrongSizes st || own }
 
 -- ---- 2
 
@@ -50,24 +54,26 @@ unfoldable pub some : (ℕ → Bool) → ℕ → Bool
 some f zero = false
 some f (suc n) = some f n || f n
 
--- "mode over 2, open, group or log count over 32, waiting over 34, waiting not 0 unless down, N not the buffer's"
-unfoldable pub wrongCounts : State → Bool
-wrongCounts st =
-    ltb down (st .rec .mode)
-    || ltb slots (st .rec .opened)
-    || ltb slots (st .rec .grouped)
-    || ltb slots (st .rec .logged)
-    || ltb places (st .rec .waiting)
-    || (not (eqb (st .rec .waiting) 0) && not (eqb (st .rec .mode) down))
-    || not (eqb (st .rec .blocks) (blocksIn (st .settled)))
+module _ (geo : Geometry) where
+  -- "mode over 2, open, group or log count over 32, waiting over 34, waiting not 0 unless down, N not the buffer's"
+  unfoldable pub wrongCounts : State → Bool
+  wrongCounts st =
+      ltb down (st .rec .mode)
+      || ltb (geo .slots) (st .rec .opened)
+      || ltb (geo .slots) (st .rec .grouped)
+      || ltb (geo .slots) (st .rec .logged)
+      || ltb (geo .places) (st .rec .waiting)
+      || (not (eqb (st .rec .waiting) 0) && not (eqb (st .rec .mode) down))
+      || not (eqb (st .rec .blocks) (blocksIn (st .settled)))
 
 -- "a listed or waiting address out of place": "waiting ones below N"
 unfoldable pub wrongWaiting : State → Bool
 wrongWaiting st = some (λ i. not (ltb (entryAt (st .waiting) i .address) (st .rec .blocks))) (st .rec .waiting)
 
--- "open, group and log addresses must be data blocks"
-abbrev pub strays : List ℕ → ℕ → ℕ → ℕ → Bool
-strays work N from n = some (λ i. not (isData N (listed work from i .address))) n
+module _ (geo : Geometry) where
+  -- "open, group and log addresses must be data blocks"
+  abbrev pub strays : List ℕ → ℕ → ℕ → ℕ → Bool
+  strays work N from n = some (λ i. not (isData geo N (listed work from i .address))) n
 
 -- "an address twice in open or twice in group"
 abbrev pub isFound : Found → Bool
@@ -77,20 +83,21 @@ isFound Absent = false
 abbrev pub twice : List ℕ → ℕ → ℕ → Bool
 twice work from n = some (λ i. isFound (find work from i (listed work from i .address))) n
 
--- "read when open"
-unfoldable pub wrongLists : State → Bool
-wrongLists st =
-    strays (st .work) (st .rec .blocks) openFrom (st .rec .opened)
-    || strays (st .work) (st .rec .blocks) groupFrom (st .rec .grouped)
-    || not (allData (st .rec .blocks) (entries (st .settled) (st .rec .logged)))
-    || twice (st .work) openFrom (st .rec .opened)
-    || twice (st .work) groupFrom (st .rec .grouped)
+module _ (geo : Geometry) where
+  -- "read when open"
+  unfoldable pub wrongLists : State → Bool
+  wrongLists st =
+      strays geo (st .work) (st .rec .blocks) openFrom (st .rec .opened)
+      || strays geo (st .work) (st .rec .blocks) (groupFrom geo) (st .rec .grouped)
+      || not (allData geo (st .rec .blocks) (entries geo (st .settled) (st .rec .logged)))
+      || twice (st .work) openFrom (st .rec .opened)
+      || twice (st .work) (groupFrom geo) (st .rec .grouped)
 
-abbrev pub wrongRecord : State → Bool
-wrongRecord st = wrongCounts st || wrongWaiting st || (eqb (st .rec .mode) openMode && wrongLists st)
+  abbrev pub wrongRecord : State → Bool
+  wrongRecord st = wrongCounts geo st || wrongWaiting st || (eqb (st .rec .mode) openMode && wrongLists st)
 
-abbrev pub recordRow : Row
-recordRow = record { number = 2; test = wrongRecord }
+  abbrev pub recordRow : Row
+  recordRow = record { number = 2; test = wrongRecord }
 
 -- ---- 3: "mode closed (put, get, commit, abandon, sync, apply)"
 
@@ -109,42 +116,39 @@ openRow = record { number = 5; test = λ st. eqb (st .rec .mode) openMode }
 
 -- ---- 6: "put or get address not a data block"
 
-abbrev pub addressRow : ℕ → Row
-addressRow a = record { number = 6; test = λ st. not (isData (st .rec .blocks) a) }
+module _ (geo : Geometry) where
+  abbrev pub addressRow : ℕ → Row
+  addressRow a = record { number = 6; test = λ st. not (isData geo (st .rec .blocks) a) }
 
--- ---- 7: "put of a new address with 32 open"
+  -- ---- 7: "put of a new address with 32 open"
 
-abbrev pub openFullRow : ℕ → Row
-openFullRow a = record { number = 7; test = λ st. not (isFound (find (st .work) openFrom (st .rec .opened) a)) && leb slots (st .rec .opened) }
+  abbrev pub openFullRow : ℕ → Row
+  openFullRow a = record { number = 7; test = λ st. not (isFound (find (st .work) openFrom (st .rec .opened) a)) && leb (geo .slots) (st .rec .opened) }
 
--- "commit giving over 32"
+  -- "commit giving over 32"
 
--- how many of the first n open entries have an address that the group lacks
-unfoldable pub newcomers : List ℕ → ℕ → ℕ → ℕ
-newcomers work g zero = 0
-newcomers work g (suc n) = newcomers work g n + cond (isFound (find work groupFrom g (listed work openFrom n .address))) 0 1
+  -- how many of the first n open entries have an address that the group lacks
+  unfoldable pub newcomers : List ℕ → ℕ → ℕ → ℕ
+  newcomers work g zero = 0
+  newcomers work g (suc n) = newcomers work g n + cond (isFound (find work (groupFrom geo) g (listed work openFrom n .address))) 0 1
 
-abbrev pub groupFullRow : Row
-groupFullRow = record { number = 7; test = λ st. ltb slots (st .rec .grouped + newcomers (st .work) (st .rec .grouped) (st .rec .opened)) }
+  abbrev pub groupFullRow : Row
+  groupFullRow = record { number = 7; test = λ st. ltb (geo .slots) (st .rec .grouped + newcomers (st .work) (st .rec .grouped) (st .rec .opened)) }
 
--- ---- 8: "recover: format not 1, other N, n over 32 or p over n"
+  -- ---- 8: "recover: format not 1, other N, n over 32 or p over n"
 
-abbrev pub foreignRow : Row
-foreignRow = record { number = 8; test = λ st. eqb (choiceNumber (choose (st .rec .blocks) (st .settled))) 8 }
+  abbrev pub foreignRow : Row
+  foreignRow = record { number = 8; test = λ st. eqb (choiceNumber (choose geo (st .rec .blocks) (st .settled))) 8 }
 
--- ---- 9: "recover: neither list good"
+  -- ---- 9: "recover: neither list good"
 
-abbrev pub unsoundRow : Row
-unsoundRow = record { number = 9; test = λ st. eqb (choiceNumber (choose (st .rec .blocks) (st .settled))) 9 }
+  abbrev pub unsoundRow : Row
+  unsoundRow = record { number = 9; test = λ st. eqb (choiceNumber (choose geo (st .rec .blocks) (st .settled))) 9 }
 
 -- ---- 10: "cut: marks not as many as waiting, or a mark over 1"
 
-unfoldable pub overOne : List ℕ → Bool
-overOne [] = false
-overOne (m ∷ ms) = ltb 1 m || overOne ms
-
 abbrev pub marksRow : List ℕ → Row
-marksRow ms = record { number = 10; test = λ st. not (eqb (length ms) (st .rec .waiting)) || overOne ms }
+marksRow ms = record { number = 10; test = λ st. not (marksFit ms (st .rec .waiting)) }
 
 -- ---- the rows of a call
 
@@ -155,23 +159,24 @@ pub data Rules : Type 0 where
   ofRecord : Bool → List Row → Rules
   ofOpen : Bool → List Row → Rules
 
--- "Format checks 1 only; power and cut 1 and 2." A call that needs an open record has 3 and 4 as well
-abbrev pub rows : Rules → List Row
-rows (ofBytes own rest) = sizeRow own ∷ rest
-rows (ofRecord own rest) = sizeRow own ∷ recordRow ∷ rest
-rows (ofOpen own rest) = sizeRow own ∷ recordRow ∷ closedRow ∷ downRow ∷ rest
+module _ (geo : Geometry) where
+  -- "Format checks 1 only; power and cut 1 and 2." A call that needs an open record has 3 and 4 as well
+  abbrev pub rows : Rules → List Row
+  rows (ofBytes own rest) = sizeRow geo own ∷ rest
+  rows (ofRecord own rest) = sizeRow geo own ∷ recordRow geo ∷ rest
+  rows (ofOpen own rest) = sizeRow geo own ∷ recordRow geo ∷ closedRow ∷ downRow ∷ rest
 
-abbrev pub rules : Request → Rules
-rules format = ofBytes false []
-rules (power k) = ofRecord false []
-rules (put a b) = ofOpen (not (eqb (length b) blockBytes)) (addressRow a ∷ openFullRow a ∷ [])
-rules (get a) = ofOpen false (addressRow a ∷ [])
-rules commit = ofOpen false (groupFullRow ∷ [])
-rules abandon = ofOpen false []
-rules sync = ofOpen false []
-rules apply = ofOpen false []
-rules recover = ofRecord false (downRow ∷ openRow ∷ foreignRow ∷ unsoundRow ∷ [])
-rules (cut ms) = ofRecord false (marksRow ms ∷ [])
+  abbrev pub rules : Request → Rules
+  rules format = ofBytes false []
+  rules (power k) = ofRecord false []
+  rules (put a b) = ofOpen (not (eqb (length b) blockBytes)) (addressRow geo a ∷ openFullRow geo a ∷ [])
+  rules (get a) = ofOpen false (addressRow geo a ∷ [])
+  rules commit = ofOpen false (groupFullRow geo ∷ [])
+  rules abandon = ofOpen false []
+  rules sync = ofOpen false []
+  rules apply = ofOpen false []
+  rules recover = ofRecord false (downRow ∷ openRow ∷ foreignRow geo ∷ unsoundRow geo ∷ [])
+  rules (cut ms) = ofRecord false (marksRow ms ∷ [])
 
 -- the call's own arguments have a wrong size: "a put block not 512 bytes"
 abbrev pub ownSize : Rules → Bool
@@ -179,8 +184,9 @@ ownSize (ofBytes own rest) = own
 ownSize (ofRecord own rest) = own
 ownSize (ofOpen own rest) = own
 
-abbrev pub wrongBlock : Request → Bool
-wrongBlock q = ownSize (rules q)
+module _ (geo : Geometry) where
+  abbrev pub wrongBlock : Request → Bool
+  wrongBlock q = ownSize (rules geo q)
 
 -- ---- the cause: the first row that applies, 0 for none
 
@@ -188,5 +194,6 @@ abbrev pub first : List Row → State → ℕ
 first [] st = 0
 first (r ∷ rs) st = cond (r .test st) (r .number) (first rs st)
 
-abbrev pub cause : Request → State → ℕ
-cause q st = first (rows (rules q)) st
+module _ (geo : Geometry) where
+  abbrev pub cause : Request → State → ℕ
+  cause q st = first (rows geo (rules geo q)) st

@@ -2,6 +2,7 @@
 use Prim.Native.Nat.{ℕ, zero, suc, _+_}
 use mathlib.Core.List.{List}
 use Rattle.cells.specs.Entry.{Entry, setEntry}
+use Rattle.journal.specs.Geometry.{Geometry}
 use Rattle.journal.specs.declared.lookup.Found.{Found}
 use Rattle.journal.specs.declared.lookup.Found.the-variants.{At, Absent}
 use Rattle.store.specs.State.{State, Outcome, withOpened, withGrouped, withRecord, withWork}
@@ -15,21 +16,22 @@ pub record Group : Type 0 where
   pub work : List ℕ
   pub count : ℕ
 
-abbrev pub joinAt : Found → Entry → Group → Group
-joinAt (At i) e g = record { work = setEntry (g .work) (groupFrom + i) e; count = g .count }
-joinAt Absent e g = record { work = setEntry (g .work) (groupFrom + g .count) e; count = g .count + 1 }
+module _ (geo : Geometry) where
+  abbrev pub joinAt : Found → Entry → Group → Group
+  joinAt (At i) e g = record { work = setEntry (g .work) (groupFrom geo + i) e; count = g .count }
+  joinAt Absent e g = record { work = setEntry (g .work) (groupFrom geo + g .count) e; count = g .count + 1 }
 
--- one entry replaces the group's entry of its address or joins at the end
-unfoldable pub join : Entry → Group → Group
-join e g = joinAt (find (g .work) groupFrom (g .count) (e .address)) e g
+  -- one entry replaces the group's entry of its address or joins at the end
+  unfoldable pub join : Entry → Group → Group
+  join e g = joinAt (find (g .work) (groupFrom geo) (g .count) (e .address)) e g
 
--- the first n open entries, in turn
-unfoldable pub joined : ℕ → Group → Group
-joined zero g = g
-joined (suc n) g = join (listed (g .work) openFrom n) (joined n g)
+  -- the first n open entries, in turn
+  unfoldable pub joined : ℕ → Group → Group
+  joined zero g = g
+  joined (suc n) g = join (listed (g .work) openFrom n) (joined n g)
 
-unfoldable pub commitCall : State → Outcome
-commitCall st =
-    let g = joined (st .rec .opened) (record { work = st .work; count = st .rec .grouped }) in
-    unless (cause commit st) st
-    (completed (withRecord (withOpened 0 (withGrouped (g .count) (st .rec))) (withWork (g .work) st)))
+  unfoldable pub commitCall : State → Outcome
+  commitCall st =
+      let g = joined (st .rec .opened) (record { work = st .work; count = st .rec .grouped }) in
+      unless (cause geo commit st) st
+      (completed (withRecord (withOpened 0 (withGrouped (g .count) (st .rec))) (withWork (g .work) st)))

@@ -4,6 +4,7 @@ use lib.ListN.{length, replicate}
 use Rattle.cells.specs.Cell.{setCell}
 use Rattle.cells.specs.Entry.{blockBytes}
 use Rattle.card.specs.Card.{blocksIn}
+use Rattle.journal.specs.Geometry.{Geometry}
 use Rattle.journal.specs.Layout.{headerAt}
 use Rattle.journal.specs.Header.{encode, emptyHeader}
 use Rattle.store.specs.State.{State, Outcome}
@@ -22,5 +23,6 @@ formatted st =
       work = replicate (length (st .work)) 0;
     }
 
-unfoldable pub formatCall : State → Outcome
-formatCall st = unless (cause format st) st (completed (formatted st))
+module _ (geo : Geometry) where
+  unfoldable pub formatCall : State → Outcome
+  formatCall st = unless (cause geo format st) st (completed (formatted st))

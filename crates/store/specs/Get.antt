@@ -8,6 +8,7 @@ use lib.Dec.{eqb}
 use lib.ListN.{take, drop}
 use Rattle.cells.specs.Entry.{blockBytes, entryBytes}
 use Rattle.cells.specs.Part.{View, partOf}
+use Rattle.journal.specs.Geometry.{Geometry}
 use Rattle.journal.specs.declared.lookup.Found.{Found}
 use Rattle.journal.specs.declared.lookup.Found.the-variants.{At, Absent}
 use Rattle.journal.specs.Layout.{slotAt, placeOf}
@@ -23,28 +24,30 @@ use Rattle.store.specs.Causes.{cause}
 abbrev pub listedPlace : ℕ → ℕ → ℕ
 listedPlace from i = entryBytes * (from + i) + 4
 
--- in the log's last slot with that address, else at home
-abbrev pub logPlace : ℕ → Found → Place
-logPlace a (At i) = Settled (placeOf (slotAt i))
-logPlace a Absent = Settled (placeOf a)
+module _ (geo : Geometry) where
+  -- in the log's last slot with that address, else at home
+  abbrev pub logPlace : ℕ → Found → Place
+  logPlace a (At i) = Settled (placeOf (slotAt geo i))
+  logPlace a Absent = Settled (placeOf a)
 
-abbrev pub groupPlace : Found → Place → Place
-groupPlace (At i) older = Work (listedPlace groupFrom i)
-groupPlace Absent older = older
+  abbrev pub groupPlace : Found → Place → Place
+  groupPlace (At i) older = Work (listedPlace (groupFrom geo) i)
+  groupPlace Absent older = older
 
 abbrev pub openPlace : Found → Place → Place
 openPlace (At i) older = Work (listedPlace openFrom i)
 openPlace Absent older = older
 
--- the newest
-unfoldable pub newest : ℕ → State → Place
-newest a st =
-    openPlace (find (st .work) openFrom (st .rec .opened) a)
-    (groupPlace (find (st .work) groupFrom (st .rec .grouped) a)
-    (logPlace a (lastSlot (st .settled) a (st .rec .logged))))
+module _ (geo : Geometry) where
+  -- the newest
+  unfoldable pub newest : ℕ → State → Place
+  newest a st =
+      openPlace (find (st .work) openFrom (st .rec .opened) a)
+      (groupPlace geo (find (st .work) (groupFrom geo) (st .rec .grouped) a)
+      (logPlace geo a (lastSlot (st .settled) a (st .rec .logged))))
 
-unfoldable pub getPlace : ℕ → State → Place
-getPlace a st = cond (eqb (cause (get a) st) 0) (newest a st) Nowhere
+  unfoldable pub getPlace : ℕ → State → Place
+  getPlace a st = cond (eqb (cause geo (get a) st) 0) (newest a st) Nowhere
 
 -- the bytes at a place
 abbrev pub bytesAt : Place → State → List ℕ

@@ -3,16 +3,17 @@ use Prim.Native.Nat.{ℕ, _+_}
 use mathlib.Core.List.{List}
 use Rattle.cells.specs.Upto.{upTo}
 use Rattle.cells.specs.Entry.{Entry, entryAt}
+use Rattle.journal.specs.Geometry.{Geometry}
 use Rattle.journal.specs.declared.lookup.Found.{Found}
-use Rattle.journal.specs.Layout.{slots}
 use Rattle.journal.specs.Lookup.{lastOf}
 
 -- a list starts at an entry of work memory: open at the first, group after the 32 of open
 abbrev pub openFrom : ℕ
 openFrom = 0
 
-abbrev pub groupFrom : ℕ
-groupFrom = slots
+module _ (geo : Geometry) where
+  abbrev pub groupFrom : ℕ
+  groupFrom = geo .slots
 
 -- the i-th entry of the list that starts at from
 abbrev pub listed : List ℕ → ℕ → ℕ → Entry

@@ -2,6 +2,7 @@
 use Prim.Native.Nat.{ℕ, _+_}
 use mathlib.Core.List.{List}
 use Rattle.cells.specs.Entry.{Entry, setEntry}
+use Rattle.journal.specs.Geometry.{Geometry}
 use Rattle.journal.specs.declared.lookup.Found.{Found}
 use Rattle.journal.specs.declared.lookup.Found.the-variants.{At, Absent}
 use Rattle.store.specs.State.{State, Outcome, withOpened, withRecord, withWork}
@@ -14,10 +15,11 @@ abbrev pub putAt : Found → Entry → State → State
 putAt (At i) e st = withWork (setEntry (st .work) i e) st
 putAt Absent e st = withRecord (withOpened (st .rec .opened + 1) (st .rec)) (withWork (setEntry (st .work) (st .rec .opened) e) st)
 
-unfoldable pub putCall : ℕ → List ℕ → State → Outcome
-putCall a b st =
-    unless (cause (put a b) st) st
-    (completed (putAt (find (st .work) openFrom (st .rec .opened) a) (record { address = a; block = b }) st))
+module _ (geo : Geometry) where
+  unfoldable pub putCall : ℕ → List ℕ → State → Outcome
+  putCall a b st =
+      unless (cause geo (put a b) st) st
+      (completed (putAt (find (st .work) openFrom (st .rec .opened) a) (record { address = a; block = b }) st))
 
-unfoldable pub abandonCall : State → Outcome
-abandonCall st = unless (cause abandon st) st (completed (withRecord (withOpened 0 (st .rec)) st))
+  unfoldable pub abandonCall : State → Outcome
+  abandonCall st = unless (cause geo abandon st) st (completed (withRecord (withOpened 0 (st .rec)) st))

@@ -8,8 +8,8 @@ use Rattle.cells.specs.Entry.{Entry}
 use Rattle.fnv.specs.Fnv.{start}
 use Rattle.card.specs.Card as Card
 use Rattle.card.specs.Card.{Order, run}
+use Rattle.journal.specs.Geometry.{Geometry}
 use Rattle.journal.specs.declared.choice.Choice.{Choice}
-use Rattle.journal.specs.Layout.{slots}
 use Rattle.journal.specs.Log.{entries, sumOf}
 use Rattle.journal.specs.Orders.{checkpointOrders, appendOrders, syncOrders}
 use Rattle.journal.specs.Choice.{choose, takenCount, takenSum, recoverOrders}
@@ -32,24 +32,25 @@ carried os done gone st =
 
 -- ---- the steps, each as it goes on from the state that it is given
 
--- "n home blocks in slot order, flush, an empty log's header, flush": the log is empty then
-abbrev pub emptying : State → Outcome
-emptying st =
-    carried (checkpointOrders (st .rec .blocks) (entries (st .settled) (st .rec .logged)))
-    (withLog 0 start (st .rec))
-    (st .rec)
-    st
+module _ (geo : Geometry) where
+  -- "n home blocks in slot order, flush, an empty log's header, flush": the log is empty then
+  abbrev pub emptying : State → Outcome
+  emptying st =
+      carried (checkpointOrders (st .rec .blocks) (entries geo (st .settled) (st .rec .logged)))
+      (withLog 0 start (st .rec))
+      (st .rec)
+      st
 
-abbrev pub groupOf : State → List Entry
-groupOf st = listOf (st .work) groupFrom (st .rec .grouped)
+  abbrev pub groupOf : State → List Entry
+  groupOf st = listOf (st .work) (groupFrom geo) (st .rec .grouped)
 
--- the group is appended to the log: "The group becomes empty; open stays. Sums continue from the record's."
-abbrev pub appending : State → Outcome
-appending st =
-    carried (appendOrders (st .rec .blocks) (st .settled) (st .rec .logged) (st .rec .sum) (groupOf st))
-    (withGrouped 0 (withLog (st .rec .logged + st .rec .grouped) (sumOf (st .rec .sum) (groupOf st)) (st .rec)))
-    (st .rec)
-    st
+  -- the group is appended to the log: "The group becomes empty; open stays. Sums continue from the record's."
+  abbrev pub appending : State → Outcome
+  appending st =
+      carried (appendOrders geo (st .rec .blocks) (st .settled) (st .rec .logged) (st .rec .sum) (groupOf st))
+      (withGrouped 0 (withLog (st .rec .logged + st .rec .grouped) (sumOf (st .rec .sum) (groupOf st)) (st .rec)))
+      (st .rec)
+      st
 
 -- "Done, the mode is open, open and group are empty, n and sum those of the list taken."
 abbrev pub reopened : ℕ → ℕ → Record → Record
@@ -61,46 +62,47 @@ recovering c st = carried (recoverOrders (st .rec .blocks) c) (reopened (takenCo
 
 -- ---- sync
 
--- "If n+m > 32, apply runs first"
-abbrev pub applies : State → Bool
-applies st = not (eqb (st .rec .grouped) 0) && not (leb (st .rec .logged + st .rec .grouped) slots)
+module _ (geo : Geometry) where
+  -- "If n+m > 32, apply runs first"
+  abbrev pub applies : State → Bool
+  applies st = not (eqb (st .rec .grouped) 0) && not (leb (st .rec .logged + st .rec .grouped) (geo .slots))
 
--- the record's n and sum as the sync's own part meets them
-abbrev pub metByAppend : State → Record
-metByAppend st = cond (applies st) (withLog 0 start (st .rec)) (st .rec)
+  -- the record's n and sum as the sync's own part meets them
+  abbrev pub metByAppend : State → Record
+  metByAppend st = cond (applies st) (withLog 0 start (st .rec)) (st .rec)
 
--- the orders of the apply inside
-abbrev pub innerOrders : State → List Order
-innerOrders st = cond (applies st) (checkpointOrders (st .rec .blocks) (entries (st .settled) (st .rec .logged))) []
+  -- the orders of the apply inside
+  abbrev pub innerOrders : State → List Order
+  innerOrders st = cond (applies st) (checkpointOrders (st .rec .blocks) (entries geo (st .settled) (st .rec .logged))) []
 
--- "The group becomes empty; open stays. Sums continue from the record's." Cut short, the record keeps n and sum "as before the
--- call, or as a sync's apply left them if all that apply's orders happened"
-abbrev pub syncing : State → Outcome
-syncing st =
-    let r = metByAppend st in
-    carried (syncOrders (st .rec .blocks) (st .settled) (st .rec .logged) (st .rec .sum) (groupOf st))
-    (withGrouped 0 (withLog (r .logged + st .rec .grouped) (sumOf (r .sum) (groupOf st)) r))
-    (cond (leb (length (innerOrders st)) (st .rec .power)) r (st .rec))
-    st
+  -- "The group becomes empty; open stays. Sums continue from the record's." Cut short, the record keeps n and sum "as before the
+  -- call, or as a sync's apply left them if all that apply's orders happened"
+  abbrev pub syncing : State → Outcome
+  syncing st =
+      let r = metByAppend st in
+      carried (syncOrders geo (st .rec .blocks) (st .settled) (st .rec .logged) (st .rec .sum) (groupOf geo st))
+      (withGrouped 0 (withLog (r .logged + st .rec .grouped) (sumOf (r .sum) (groupOf geo st)) r))
+      (cond (leb (length (innerOrders st)) (st .rec .power)) r (st .rec))
+      st
 
-unfoldable pub syncCall : State → Outcome
-syncCall st = unless (cause sync st) st (syncing st)
+  unfoldable pub syncCall : State → Outcome
+  syncCall st = unless (cause geo sync st) st (syncing st)
 
--- ---- apply
+  -- ---- apply
 
--- "n = 0: done, no orders."
-unfoldable pub applyCall : State → Outcome
-applyCall st = unless (cause apply st) st (cond (eqb (st .rec .logged) 0) (completed st) (emptying st))
+  -- "n = 0: done, no orders."
+  unfoldable pub applyCall : State → Outcome
+  applyCall st = unless (cause geo apply st) st (cond (eqb (st .rec .logged) 0) (completed st) (emptying geo st))
 
--- ---- recover
+  -- ---- recover
 
-unfoldable pub recoverCall : State → Outcome
-recoverCall st = unless (cause recover st) st (recovering (choose (st .rec .blocks) (st .settled)) st)
+  unfoldable pub recoverCall : State → Outcome
+  recoverCall st = unless (cause geo recover st) st (recovering (choose geo (st .rec .blocks) (st .settled)) st)
 
--- ---- cut: "The queue is emptied, the record closed, its open, group and log counts 0, its sum the empty list's. N and the power
--- count stay."
+  -- ---- cut: "The queue is emptied, the record closed, its open, group and log counts 0, its sum the empty list's. N and the power
+  -- count stay."
 
-unfoldable pub cutCall : List ℕ → State → Outcome
-cutCall marks st =
-    unless (cause (cut marks) st) st
-    (completed (withCard (Card.cut marks (cardIn st)) (withRecord (withMode closed (withOpened 0 (withGrouped 0 (withLog 0 start (st .rec))))) st)))
+  unfoldable pub cutCall : List ℕ → State → Outcome
+  cutCall marks st =
+      unless (cause geo (cut marks) st) st
+      (completed (withCard (Card.cut marks (cardIn st)) (withRecord (withMode closed (withOpened 0 (withGrouped 0 (withLog 0 start (st .rec))))) st)))

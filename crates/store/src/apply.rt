@@ -7,7 +7,8 @@ ghost use mathlib.Core.List.{List};
 ghost use Prim.Native.Nat.{ℕ, _≤_, _<_};
 ghost use lib.ListN.{length};
 ghost use Rattle.card.specs.Card.{blocksIn};
-ghost use Rattle.journal.specs.Layout.{slots, firstData};
+ghost use Rattle.journal.specs.Geometry.{trap};
+ghost use Rattle.journal.specs.Layout.{firstData};
 ghost use Rattle.journal.specs.Log.{slotAddress};
 ghost use Rattle.store.specs.CodeState.{stateOf, outcomeOf};
 ghost use Rattle.store.specs.Causes.{waitingBytes};
@@ -15,7 +16,7 @@ ghost use Rattle.store.specs.Saves.{emptying, applyCall};
 
 impl Record {
     pub fn apply(self, settled: &mut [u8], waiting: &mut [u8], work: &[u8]) -> Saved
-        ensures { λ r. ⌜ outcomeOf (r .number) (r .orders) (r .rec) (now (settled .exit)) (now (waiting .exit)) (now (work .entry)) ≡ applyCall (stateOf self (now (settled .entry)) (now (waiting .entry)) (now (work .entry))) ⌝ }
+        ensures { λ r. ⌜ outcomeOf (r .number) (r .orders) (r .rec) (now (settled .exit)) (now (waiting .exit)) (now (work .entry)) ≡ applyCall trap (stateOf self (now (settled .entry)) (now (waiting .entry)) (now (work .entry))) ⌝ }
     {
         let number = self.not_open(settled, waiting, work);
         if number != 0 {
@@ -29,12 +30,12 @@ impl Record {
 
     // Its orders, for a log that is not empty. A sync whose group has no room begins with them.
     pub(crate) fn emptied(self, settled: &mut [u8], waiting: &mut [u8]) -> Record
-        requires { ⌜ firstData < blocksIn (now settled) ⌝ }
-        requires { ⌜ self .logged ≤ slots ⌝ }
+        requires { ⌜ firstData trap < blocksIn (now settled) ⌝ }
+        requires { ⌜ self .logged ≤ trap .slots ⌝ }
         requires { ⌜ ((i : ℕ) → i < self .logged → slotAddress (now settled) i < blocksIn (now settled)) ⌝ }
         requires { ⌜ self .waiting ≡ 0 ⌝ }
-        requires { ⌜ waitingBytes ≤ length (now waiting) ⌝ }
-        ensures { λ r. ⌜ ((k : List ℕ) → stateOf r (now (settled .exit)) (now (waiting .exit)) k ≡ emptying (stateOf self (now (settled .entry)) (now (waiting .entry)) k) .state) ⌝ }
+        requires { ⌜ waitingBytes trap ≤ length (now waiting) ⌝ }
+        ensures { λ r. ⌜ ((k : List ℕ) → stateOf r (now (settled .exit)) (now (waiting .exit)) k ≡ emptying trap (stateOf self (now (settled .entry)) (now (waiting .entry)) k) .state) ⌝ }
     {
         let ordered = checkpoint(self.queue(), settled, waiting, self.blocks, self.logged);
         self.after(ordered, self.with_log(0, fnv::START))

@@ -9,7 +9,7 @@ use crate::record::CLOSED;
 use crate::record::DOWN;
 use crate::record::OPEN_MODE;
 use crate::record::Record;
-use card::PLACES;
+use journal::PLACES;
 use card::settled::blocks_in;
 use journal::SLOTS;
 use journal::log::all_data;
@@ -21,7 +21,8 @@ ghost use Prim.Native.Nat.{ℕ, _+_, _*_, _≤_, _<_};
 ghost use lib.ListN.{length};
 ghost use Rattle.cells.specs.Entry.{entryBytes};
 ghost use Rattle.card.specs.Card.{blocksIn};
-ghost use Rattle.journal.specs.Layout.{slots, firstData};
+ghost use Rattle.journal.specs.Geometry.{trap};
+ghost use Rattle.journal.specs.Layout.{firstData};
 ghost use Rattle.store.specs.declared.record.Record as Declared;
 ghost use Rattle.store.specs.CodeState.{stateOf};
 ghost use Rattle.store.specs.Request as Request;
@@ -30,7 +31,7 @@ ghost use Rattle.store.specs.Causes.{cause, workBytes};
 
 // Row 1: the lengths of the lent buffers and N.
 pub(crate) fn wrong_sizes(settled: &[u8], waiting: &[u8], work: &[u8]) -> bool
-    ensures { λ r. ⌜ ((q : Declared.Record) → r ≡ Causes.wrongSizes (stateOf q (now (settled .entry)) (now (waiting .entry)) (now (work .entry)))) ⌝ }
+    ensures { λ r. ⌜ ((q : Declared.Record) → r ≡ Causes.wrongSizes trap (stateOf q (now (settled .entry)) (now (waiting .entry)) (now (work .entry)))) ⌝ }
 {
     if wrong_size(settled) {
         return true;
@@ -44,7 +45,7 @@ pub(crate) fn wrong_sizes(settled: &[u8], waiting: &[u8], work: &[u8]) -> bool
 // Row 2, a list in work memory: an address that is not that of a data block.
 fn strays(work: &[u8], blocks: u32, from: usize, n: u32) -> bool
     requires { ⌜ entryBytes * (from + n) ≤ length (now work) ⌝ }
-    ensures { λ r. ⌜ r ≡ Causes.strays (now (work .entry)) blocks from n ⌝ }
+    ensures { λ r. ⌜ r ≡ Causes.strays trap (now (work .entry)) blocks from n ⌝ }
 {
     let mut i = n;
     while 0 < i {
@@ -74,7 +75,7 @@ fn twice(work: &[u8], from: usize, n: u32) -> bool
 impl Record {
     // Row 2: the mode, the counts, and N.
     fn wrong_counts(self, settled: &[u8]) -> bool
-        ensures { λ r. ⌜ ((w k : List ℕ) → r ≡ Causes.wrongCounts (stateOf self (now (settled .entry)) w k)) ⌝ }
+        ensures { λ r. ⌜ ((w k : List ℕ) → r ≡ Causes.wrongCounts trap (stateOf self (now (settled .entry)) w k)) ⌝ }
     {
         if DOWN < self.mode {
             return true;
@@ -114,10 +115,10 @@ impl Record {
 
     // Row 2: open, group and log, read when open.
     fn wrong_lists(self, settled: &[u8], work: &[u8]) -> bool
-        requires { ⌜ firstData < blocksIn (now settled) ⌝ }
-        requires { ⌜ workBytes ≤ length (now work) ⌝ }
-        requires { ⌜ (self .opened ≤ slots) × (self .grouped ≤ slots) × (self .logged ≤ slots) ⌝ }
-        ensures { λ r. ⌜ ((w : List ℕ) → r ≡ Causes.wrongLists (stateOf self (now (settled .entry)) w (now (work .entry)))) ⌝ }
+        requires { ⌜ firstData trap < blocksIn (now settled) ⌝ }
+        requires { ⌜ workBytes trap ≤ length (now work) ⌝ }
+        requires { ⌜ (self .opened ≤ trap .slots) × (self .grouped ≤ trap .slots) × (self .logged ≤ trap .slots) ⌝ }
+        ensures { λ r. ⌜ ((w : List ℕ) → r ≡ Causes.wrongLists trap (stateOf self (now (settled .entry)) w (now (work .entry)))) ⌝ }
     {
         if strays(work, self.blocks, OPEN, self.opened) {
             return true;
@@ -136,7 +137,7 @@ impl Record {
 
     // Rows 1 and 2, which are all that power has.
     pub(crate) fn bad_record(self, settled: &[u8], waiting: &[u8], work: &[u8]) -> u32
-        ensures { λ r. ⌜ r ≡ cause (Request.power 0) (stateOf self (now (settled .entry)) (now (waiting .entry)) (now (work .entry))) ⌝ }
+        ensures { λ r. ⌜ r ≡ cause trap (Request.power 0) (stateOf self (now (settled .entry)) (now (waiting .entry)) (now (work .entry))) ⌝ }
     {
         if wrong_sizes(settled, waiting, work) {
             return 1;
@@ -158,7 +159,7 @@ impl Record {
 
     // Rows 1 to 4, which are all that abandon has.
     pub(crate) fn not_open(self, settled: &[u8], waiting: &[u8], work: &[u8]) -> u32
-        ensures { λ r. ⌜ r ≡ cause Request.abandon (stateOf self (now (settled .entry)) (now (waiting .entry)) (now (work .entry))) ⌝ }
+        ensures { λ r. ⌜ r ≡ cause trap Request.abandon (stateOf self (now (settled .entry)) (now (waiting .entry)) (now (work .entry))) ⌝ }
     {
         let number = self.bad_record(settled, waiting, work);
         if number != 0 {

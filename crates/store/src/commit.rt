@@ -12,7 +12,7 @@ use journal::lookup::Found;
 ghost use mathlib.Core.Path.{_≡_};
 ghost use Prim.Native.Nat.{_+_, _≤_, _<_};
 ghost use lib.ListN.{length};
-ghost use Rattle.journal.specs.Layout.{slots};
+ghost use Rattle.journal.specs.Geometry.{trap};
 ghost use Rattle.journal.specs.declared.lookup.Found.the-variants.{Absent};
 ghost use Rattle.store.specs.CodeState.{stateOf, outcomeOf};
 ghost use Rattle.store.specs.Lists as Lists;
@@ -25,7 +25,7 @@ ghost use Rattle.store.specs.Commit.{joined, commitCall};
 
 impl Record {
     pub fn commit(self, settled: &[u8], waiting: &[u8], work: &mut [u8]) -> Answer
-        ensures { λ r. ⌜ outcomeOf (r .number) 0 (r .rec) (now (settled .entry)) (now (waiting .entry)) (now (work .exit)) ≡ commitCall (stateOf self (now (settled .entry)) (now (waiting .entry)) (now (work .entry))) ⌝ }
+        ensures { λ r. ⌜ outcomeOf (r .number) 0 (r .rec) (now (settled .entry)) (now (waiting .entry)) (now (work .exit)) ≡ commitCall trap (stateOf self (now (settled .entry)) (now (waiting .entry)) (now (work .entry))) ⌝ }
     {
         let number = self.commit_number(settled, waiting, work);
         if number != 0 {
@@ -37,7 +37,7 @@ impl Record {
 
     // Its cause. Row 7 is counted before anything is copied.
     fn commit_number(self, settled: &[u8], waiting: &[u8], work: &[u8]) -> u32
-        ensures { λ r. ⌜ r ≡ cause Request.commit (stateOf self (now (settled .entry)) (now (waiting .entry)) (now (work .entry))) ⌝ }
+        ensures { λ r. ⌜ r ≡ cause trap Request.commit (stateOf self (now (settled .entry)) (now (waiting .entry)) (now (work .entry))) ⌝ }
     {
         let number = self.not_open(settled, waiting, work);
         if number != 0 {
@@ -53,9 +53,9 @@ impl Record {
 
 // How many of the first n open entries have an address that a group of g lacks.
 fn newcomers(work: &[u8], g: u32, n: u32) -> u32
-    requires { ⌜ workBytes ≤ length (now work) ⌝ }
-    requires { ⌜ (g ≤ slots) × (n ≤ slots) ⌝ }
-    ensures { λ r. ⌜ (r ≡ Causes.newcomers (now (work .entry)) g n) × (r ≤ n) ⌝ }
+    requires { ⌜ workBytes trap ≤ length (now work) ⌝ }
+    requires { ⌜ (g ≤ trap .slots) × (n ≤ trap .slots) ⌝ }
+    ensures { λ r. ⌜ (r ≡ Causes.newcomers trap (now (work .entry)) g n) × (r ≤ n) ⌝ }
 {
     let mut count = 0;
     let mut i = 0;
@@ -70,9 +70,9 @@ fn newcomers(work: &[u8], g: u32, n: u32) -> u32
 
 // The first n open entries, in turn, replace or join a group of g; its new count.
 fn join_all(work: &mut [u8], g: u32, n: u32) -> u32
-    requires { ⌜ workBytes ≤ length (now work) ⌝ }
-    requires { ⌜ (g ≤ slots) × (n ≤ slots) × (g + Causes.newcomers (now work) g n ≤ slots) ⌝ }
-    ensures { λ r. ⌜ _≡_ {A = Commit.Group} (record { work = now (work .exit); count = r }) (joined n (record { work = now (work .entry); count = g })) ⌝ }
+    requires { ⌜ workBytes trap ≤ length (now work) ⌝ }
+    requires { ⌜ (g ≤ trap .slots) × (n ≤ trap .slots) × (g + Causes.newcomers trap (now work) g n ≤ trap .slots) ⌝ }
+    ensures { λ r. ⌜ _≡_ {A = Commit.Group} (record { work = now (work .exit); count = r }) (joined trap n (record { work = now (work .entry); count = g })) ⌝ }
 {
     let mut count = g;
     let mut i = 0;
@@ -85,10 +85,10 @@ fn join_all(work: &mut [u8], g: u32, n: u32) -> u32
 
 // The i-th open entry replaces the entry of its address in a group of g, or joins at the end; the group's new count.
 fn join(work: &mut [u8], g: u32, i: u32) -> u32
-    requires { ⌜ workBytes ≤ length (now work) ⌝ }
-    requires { ⌜ (g ≤ slots) × (i < slots) ⌝ }
-    requires { ⌜ (Lists.find (now work) groupFrom g (listed (now work) openFrom i .address) ≡ Absent → g < slots) ⌝ }
-    ensures { λ r. ⌜ _≡_ {A = Commit.Group} (record { work = now (work .exit); count = r }) (Commit.join (listed (now (work .entry)) openFrom i) (record { work = now (work .entry); count = g })) ⌝ }
+    requires { ⌜ workBytes trap ≤ length (now work) ⌝ }
+    requires { ⌜ (g ≤ trap .slots) × (i < trap .slots) ⌝ }
+    requires { ⌜ (Lists.find (now work) (groupFrom trap) g (listed (now work) openFrom i .address) ≡ Absent → g < trap .slots) ⌝ }
+    ensures { λ r. ⌜ _≡_ {A = Commit.Group} (record { work = now (work .exit); count = r }) (Commit.join trap (listed (now (work .entry)) openFrom i) (record { work = now (work .entry); count = g })) ⌝ }
 {
     let a = address(work, OPEN, i);
     let from = OPEN + (i as usize);

@@ -4,15 +4,17 @@ use crate::record::CLOSED;
 use crate::record::Record;
 ghost use mathlib.Core.Path.{_≡_};
 ghost use Rattle.fnv.specs.Fnv.{start};
+ghost use Rattle.journal.specs.Geometry.{trap};
 ghost use Rattle.store.specs.State.{closed, withMode, withOpened, withGrouped, withLog};
 ghost use Rattle.store.specs.CodeState.{stateOf, outcomeOf};
 ghost use Rattle.store.specs.Request as Request;
-ghost use Rattle.store.specs.Causes.{overOne, cause};
+ghost use Rattle.card.specs.Marks.{overOne};
+ghost use Rattle.store.specs.Causes.{cause};
 ghost use Rattle.store.specs.Saves.{cutCall};
 
 impl Record {
     pub fn cut(self, settled: &mut [u8], waiting: &[u8], work: &[u8], marks: &[u8]) -> Answer
-        ensures { λ r. ⌜ outcomeOf (r .number) 0 (r .rec) (now (settled .exit)) (now (waiting .entry)) (now (work .entry)) ≡ cutCall (now (marks .entry)) (stateOf self (now (settled .entry)) (now (waiting .entry)) (now (work .entry))) ⌝ }
+        ensures { λ r. ⌜ outcomeOf (r .number) 0 (r .rec) (now (settled .exit)) (now (waiting .entry)) (now (work .entry)) ≡ cutCall trap (now (marks .entry)) (stateOf self (now (settled .entry)) (now (waiting .entry)) (now (work .entry))) ⌝ }
     {
         let number = self.cut_number(settled, waiting, work, marks);
         if number != 0 {
@@ -24,7 +26,7 @@ impl Record {
 
     // Its cause.
     fn cut_number(self, settled: &[u8], waiting: &[u8], work: &[u8], marks: &[u8]) -> u32
-        ensures { λ r. ⌜ r ≡ cause (Request.cut (now (marks .entry))) (stateOf self (now (settled .entry)) (now (waiting .entry)) (now (work .entry))) ⌝ }
+        ensures { λ r. ⌜ r ≡ cause trap (Request.cut (now (marks .entry))) (stateOf self (now (settled .entry)) (now (waiting .entry)) (now (work .entry))) ⌝ }
     {
         let number = self.bad_record(settled, waiting, work);
         if number != 0 {

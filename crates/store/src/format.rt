@@ -14,6 +14,7 @@ ghost use Prim.Native.Nat.{_<_};
 ghost use Rattle.cells.specs.Cell.{setCell};
 ghost use Rattle.cells.specs.Entry.{blockBytes};
 ghost use Rattle.card.specs.Card.{blocksIn};
+ghost use Rattle.journal.specs.Geometry.{trap};
 ghost use Rattle.journal.specs.Layout.{headerAt};
 ghost use Rattle.journal.specs.Header.{encode, emptyHeader};
 ghost use Rattle.store.specs.CodeState.{stateOf, outcomeOf};
@@ -22,7 +23,7 @@ ghost use Rattle.store.specs.Format.{formatCall};
 impl Record {
     // format: zeros everywhere, an empty log's header, and a fresh record. What the old record holds plays no part.
     pub fn format(self, settled: &mut [u8], waiting: &mut [u8], work: &mut [u8]) -> Answer
-        ensures { λ r. ⌜ outcomeOf (r .number) 0 (r .rec) (now (settled .exit)) (now (waiting .exit)) (now (work .exit)) ≡ formatCall (stateOf self (now (settled .entry)) (now (waiting .entry)) (now (work .entry))) ⌝ }
+        ensures { λ r. ⌜ outcomeOf (r .number) 0 (r .rec) (now (settled .exit)) (now (waiting .exit)) (now (work .exit)) ≡ formatCall trap (stateOf self (now (settled .entry)) (now (waiting .entry)) (now (work .entry))) ⌝ }
     {
         if wrong_sizes(settled, waiting, work) {
             return self.answer(1);

@@ -20,7 +20,8 @@ ghost use Prim.Native.Nat.{ℕ, _≤_, _<_};
 ghost use lib.ListN.{length};
 ghost use Rattle.cells.specs.Part.{viewOf};
 ghost use Rattle.card.specs.Card.{blocksIn};
-ghost use Rattle.journal.specs.Layout.{slots, firstData};
+ghost use Rattle.journal.specs.Geometry.{trap};
+ghost use Rattle.journal.specs.Layout.{firstData};
 ghost use Rattle.store.specs.CodeState.{stateOf, HoldsBlock};
 ghost use Rattle.store.specs.Request as Request;
 ghost use Rattle.store.specs.Causes.{cause, workBytes};
@@ -30,7 +31,7 @@ ghost use Rattle.store.specs.Get.{getPlace, partAt};
 impl Record {
     // The number of a get with the same inputs.
     pub fn get_number(self, settled: &[u8], waiting: &[u8], work: &[u8], address: u32) -> u32
-        ensures { λ r. ⌜ r ≡ cause (Request.get address) (stateOf self (now (settled .entry)) (now (waiting .entry)) (now (work .entry))) ⌝ }
+        ensures { λ r. ⌜ r ≡ cause trap (Request.get address) (stateOf self (now (settled .entry)) (now (waiting .entry)) (now (work .entry))) ⌝ }
     {
         let number = self.not_open(settled, waiting, work);
         if number != 0 {
@@ -44,7 +45,7 @@ impl Record {
 
     // Where a get finds its block.
     pub fn get_place(self, settled: &[u8], waiting: &[u8], work: &[u8], address: u32) -> Place
-        ensures { λ r. ⌜ r ≡ getPlace address (stateOf self (now (settled .entry)) (now (waiting .entry)) (now (work .entry))) ⌝ }
+        ensures { λ r. ⌜ r ≡ getPlace trap address (stateOf self (now (settled .entry)) (now (waiting .entry)) (now (work .entry))) ⌝ }
     {
         if self.get_number(settled, waiting, work, address) != 0 {
             return Place::Nowhere;
@@ -60,7 +61,7 @@ impl Record {
         work: &'a [u8],
         address: u32,
     ) -> &'a [u8]
-        ensures { λ r. ⌜ viewOf r ≡ partAt (getPlace address (stateOf self (now (settled .entry)) (now (waiting .entry)) (now (work .entry)))) (settled .entry) (work .entry) ⌝ }
+        ensures { λ r. ⌜ viewOf r ≡ partAt (getPlace trap address (stateOf self (now (settled .entry)) (now (waiting .entry)) (now (work .entry)))) (settled .entry) (work .entry) ⌝ }
     {
         part(
             self.get_place(settled, waiting, work, address),
@@ -71,10 +72,10 @@ impl Record {
 
     // The newest: in open, in the group, in the log's last slot with that address, at home.
     fn newest(self, settled: &[u8], work: &[u8], address: u32) -> Place
-        requires { ⌜ firstData < blocksIn (now settled) ⌝ }
-        requires { ⌜ workBytes ≤ length (now work) ⌝ }
-        requires { ⌜ (self .opened ≤ slots) × (self .grouped ≤ slots) × (self .logged ≤ slots) ⌝ }
-        ensures { λ r. ⌜ ((w : List ℕ) → r ≡ Get.newest address (stateOf self (now (settled .entry)) w (now (work .entry)))) ⌝ }
+        requires { ⌜ firstData trap < blocksIn (now settled) ⌝ }
+        requires { ⌜ workBytes trap ≤ length (now work) ⌝ }
+        requires { ⌜ (self .opened ≤ trap .slots) × (self .grouped ≤ trap .slots) × (self .logged ≤ trap .slots) ⌝ }
+        ensures { λ r. ⌜ ((w : List ℕ) → r ≡ Get.newest trap address (stateOf self (now (settled .entry)) w (now (work .entry)))) ⌝ }
     {
         let Found::At(i) = find(work, OPEN, self.opened, address) else {
             let Found::At(j) = find(work, GROUP, self.grouped, address) else {

@@ -14,7 +14,7 @@ pub mod recover;
 pub mod saved;
 pub mod sync;
 
-use card::PLACES;
+use journal::PLACES;
 use cells::ENTRY;
 use journal::SLOTS;
 

@@ -10,7 +10,7 @@ ghost use mathlib.Core.Path.{_≡_};
 ghost use Prim.Native.Nat.{_+_, _*_, _≤_, _<_};
 ghost use lib.ListN.{length};
 ghost use Rattle.cells.specs.Entry.{entryBytes, entryAt, setEntry};
-ghost use Rattle.journal.specs.Layout.{slots};
+ghost use Rattle.journal.specs.Geometry.{trap};
 ghost use Rattle.store.specs.Lists as Lists;
 ghost use Rattle.store.specs.Lists.{listed};
 ghost use Rattle.store.specs.Causes.{isFound};
@@ -31,7 +31,7 @@ pub(crate) fn address(work: &[u8], from: usize, i: u32) -> u32
 
 // The byte at which its block starts.
 pub(crate) fn place_of(from: usize, i: u32) -> usize
-    requires { ⌜ from + i < slots + slots ⌝ }
+    requires { ⌜ from + i < trap .slots + trap .slots ⌝ }
     ensures { λ r. ⌜ r ≡ listedPlace from i ⌝ }
 {
     ENTRY * (from + (i as usize)) + ADDRESS

@@ -14,7 +14,7 @@ ghost use mathlib.Core.List.{List};
 ghost use Prim.Native.Nat.{ℕ, _*_, _≤_, _<_};
 ghost use lib.ListN.{length};
 ghost use Rattle.cells.specs.Entry.{blockBytes, entryBytes};
-ghost use Rattle.journal.specs.Layout.{slots};
+ghost use Rattle.journal.specs.Geometry.{trap};
 ghost use Rattle.journal.specs.declared.lookup.Found.the-variants.{Absent};
 ghost use Rattle.store.specs.CodeState.{stateOf, outcomeOf};
 ghost use Rattle.store.specs.Lists as Lists;
@@ -33,7 +33,7 @@ impl Record {
         address: u32,
         block: &[u8],
     ) -> Answer
-        ensures { λ r. ⌜ outcomeOf (r .number) 0 (r .rec) (now (settled .entry)) (now (waiting .entry)) (now (work .exit)) ≡ putCall address (now (block .entry)) (stateOf self (now (settled .entry)) (now (waiting .entry)) (now (work .entry))) ⌝ }
+        ensures { λ r. ⌜ outcomeOf (r .number) 0 (r .rec) (now (settled .entry)) (now (waiting .entry)) (now (work .exit)) ≡ putCall trap address (now (block .entry)) (stateOf self (now (settled .entry)) (now (waiting .entry)) (now (work .entry))) ⌝ }
     {
         let number = self.put_number(settled, waiting, work, address, block);
         if number != 0 {
@@ -51,7 +51,7 @@ impl Record {
         address: u32,
         block: &[u8],
     ) -> u32
-        ensures { λ r. ⌜ r ≡ cause (Request.put address (now (block .entry))) (stateOf self (now (settled .entry)) (now (waiting .entry)) (now (work .entry))) ⌝ }
+        ensures { λ r. ⌜ r ≡ cause trap (Request.put address (now (block .entry))) (stateOf self (now (settled .entry)) (now (waiting .entry)) (now (work .entry))) ⌝ }
     {
         if block.len() != BLOCK {
             return 1;
@@ -75,9 +75,9 @@ impl Record {
     // The entry itself.
     fn put_entry(self, work: &mut [u8], address: u32, block: &[u8]) -> Record
         requires { ⌜ length (now block) ≡ blockBytes ⌝ }
-        requires { ⌜ entryBytes * slots ≤ length (now work) ⌝ }
-        requires { ⌜ self .opened ≤ slots ⌝ }
-        requires { ⌜ (Lists.find (now work) openFrom (self .opened) address ≡ Absent → self .opened < slots) ⌝ }
+        requires { ⌜ entryBytes * trap .slots ≤ length (now work) ⌝ }
+        requires { ⌜ self .opened ≤ trap .slots ⌝ }
+        requires { ⌜ (Lists.find (now work) openFrom (self .opened) address ≡ Absent → self .opened < trap .slots) ⌝ }
         ensures { λ r. ⌜ ((s w : List ℕ) → stateOf r s w (now (work .exit)) ≡ putAt (Lists.find (now (work .entry)) openFrom (self .opened) address) (record { address = address; block = now (block .entry) }) (stateOf self s w (now (work .entry)))) ⌝ }
     {
         let Found::At(i) = find(work, OPEN, self.opened, address) else {
@@ -90,7 +90,7 @@ impl Record {
 
     // abandon: empties open.
     pub fn abandon(self, settled: &[u8], waiting: &[u8], work: &[u8]) -> Answer
-        ensures { λ r. ⌜ outcomeOf (r .number) 0 (r .rec) (now (settled .entry)) (now (waiting .entry)) (now (work .entry)) ≡ abandonCall (stateOf self (now (settled .entry)) (now (waiting .entry)) (now (work .entry))) ⌝ }
+        ensures { λ r. ⌜ outcomeOf (r .number) 0 (r .rec) (now (settled .entry)) (now (waiting .entry)) (now (work .entry)) ≡ abandonCall trap (stateOf self (now (settled .entry)) (now (waiting .entry)) (now (work .entry))) ⌝ }
     {
         let number = self.not_open(settled, waiting, work);
         if number != 0 {

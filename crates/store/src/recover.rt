@@ -11,6 +11,7 @@ ghost use mathlib.Core.List.{List};
 ghost use Prim.Native.Nat.{ℕ, _≤_, _<_};
 ghost use lib.ListN.{length};
 ghost use Rattle.card.specs.Card.{blocksIn};
+ghost use Rattle.journal.specs.Geometry.{trap};
 ghost use Rattle.journal.specs.Layout.{firstData};
 ghost use Rattle.journal.specs.Choice.{choiceNumber};
 ghost use Rattle.store.specs.CodeState.{stateOf, outcomeOf};
@@ -21,7 +22,7 @@ ghost use Rattle.store.specs.Saves.{recovering, recoverCall};
 
 impl Record {
     pub fn recover(self, settled: &mut [u8], waiting: &mut [u8], work: &[u8]) -> Saved
-        ensures { λ r. ⌜ outcomeOf (r .number) (r .orders) (r .rec) (now (settled .exit)) (now (waiting .exit)) (now (work .entry)) ≡ recoverCall (stateOf self (now (settled .entry)) (now (waiting .entry)) (now (work .entry))) ⌝ }
+        ensures { λ r. ⌜ outcomeOf (r .number) (r .orders) (r .rec) (now (settled .exit)) (now (waiting .exit)) (now (work .entry)) ≡ recoverCall trap (stateOf self (now (settled .entry)) (now (waiting .entry)) (now (work .entry))) ⌝ }
     {
         let number = self.bad_record(settled, waiting, work);
         if number != 0 {
@@ -39,9 +40,9 @@ impl Record {
 
     // By the choice that was made.
     fn recovered(self, choice: Choice, settled: &mut [u8], waiting: &mut [u8]) -> Saved
-        requires { ⌜ firstData < blocksIn (now settled) ⌝ }
+        requires { ⌜ firstData trap < blocksIn (now settled) ⌝ }
         requires { ⌜ self .waiting ≡ 0 ⌝ }
-        requires { ⌜ waitingBytes ≤ length (now waiting) ⌝ }
+        requires { ⌜ waitingBytes trap ≤ length (now waiting) ⌝ }
         ensures { λ r. ⌜ ((k : List ℕ) → outcomeOf (r .number) (r .orders) (r .rec) (now (settled .exit)) (now (waiting .exit)) k ≡ unless (choiceNumber choice) (stateOf self (now (settled .entry)) (now (waiting .entry)) k) (recovering choice (stateOf self (now (settled .entry)) (now (waiting .entry)) k))) ⌝ }
     {
         match choice {

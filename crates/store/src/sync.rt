@@ -12,7 +12,8 @@ ghost use mathlib.Core.Path.{_≡_};
 ghost use Prim.Native.Nat.{ℕ, _+_, _≤_, _<_};
 ghost use lib.ListN.{length};
 ghost use Rattle.card.specs.Card.{blocksIn};
-ghost use Rattle.journal.specs.Layout.{slots, firstData};
+ghost use Rattle.journal.specs.Geometry.{trap};
+ghost use Rattle.journal.specs.Layout.{firstData};
 ghost use Rattle.journal.specs.Log.{slotAddress};
 ghost use Rattle.store.specs.State.{openMode};
 ghost use Rattle.store.specs.CodeState.{stateOf, outcomeOf};
@@ -21,7 +22,7 @@ ghost use Rattle.store.specs.Saves.{appending, syncing, syncCall};
 
 impl Record {
     pub fn sync(self, settled: &mut [u8], waiting: &mut [u8], work: &[u8]) -> Saved
-        ensures { λ r. ⌜ outcomeOf (r .number) (r .orders) (r .rec) (now (settled .exit)) (now (waiting .exit)) (now (work .entry)) ≡ syncCall (stateOf self (now (settled .entry)) (now (waiting .entry)) (now (work .entry))) ⌝ }
+        ensures { λ r. ⌜ outcomeOf (r .number) (r .orders) (r .rec) (now (settled .exit)) (now (waiting .exit)) (now (work .entry)) ≡ syncCall trap (stateOf self (now (settled .entry)) (now (waiting .entry)) (now (work .entry))) ⌝ }
     {
         let number = self.not_open(settled, waiting, work);
         if number != 0 {
@@ -32,12 +33,12 @@ impl Record {
 
     // Its orders: none for an empty group; an apply first where the log has no room.
     fn synced(self, settled: &mut [u8], waiting: &mut [u8], work: &[u8]) -> Record
-        requires { ⌜ firstData < blocksIn (now settled) ⌝ }
+        requires { ⌜ firstData trap < blocksIn (now settled) ⌝ }
         requires { ⌜ (self .mode ≡ openMode) × (self .waiting ≡ 0) ⌝ }
-        requires { ⌜ (self .grouped ≤ slots) × (self .logged ≤ slots) ⌝ }
+        requires { ⌜ (self .grouped ≤ trap .slots) × (self .logged ≤ trap .slots) ⌝ }
         requires { ⌜ ((i : ℕ) → i < self .logged → slotAddress (now settled) i < blocksIn (now settled)) ⌝ }
-        requires { ⌜ (waitingBytes ≤ length (now waiting)) × (workBytes ≤ length (now work)) ⌝ }
-        ensures { λ r. ⌜ stateOf r (now (settled .exit)) (now (waiting .exit)) (now (work .entry)) ≡ syncing (stateOf self (now (settled .entry)) (now (waiting .entry)) (now (work .entry))) .state ⌝ }
+        requires { ⌜ (waitingBytes trap ≤ length (now waiting)) × (workBytes trap ≤ length (now work)) ⌝ }
+        ensures { λ r. ⌜ stateOf r (now (settled .exit)) (now (waiting .exit)) (now (work .entry)) ≡ syncing trap (stateOf self (now (settled .entry)) (now (waiting .entry)) (now (work .entry))) .state ⌝ }
     {
         if self.grouped == 0 {
             return self;
@@ -54,12 +55,12 @@ impl Record {
 
     // Its own part: the group behind the record's log.
     fn appended(self, settled: &mut [u8], waiting: &mut [u8], work: &[u8]) -> Record
-        requires { ⌜ firstData < blocksIn (now settled) ⌝ }
-        requires { ⌜ self .logged + self .grouped ≤ slots ⌝ }
+        requires { ⌜ firstData trap < blocksIn (now settled) ⌝ }
+        requires { ⌜ self .logged + self .grouped ≤ trap .slots ⌝ }
         requires { ⌜ self .waiting ≡ 0 ⌝ }
-        requires { ⌜ waitingBytes ≤ length (now waiting) ⌝ }
-        requires { ⌜ workBytes ≤ length (now work) ⌝ }
-        ensures { λ r. ⌜ stateOf r (now (settled .exit)) (now (waiting .exit)) (now (work .entry)) ≡ appending (stateOf self (now (settled .entry)) (now (waiting .entry)) (now (work .entry))) .state ⌝ }
+        requires { ⌜ waitingBytes trap ≤ length (now waiting) ⌝ }
+        requires { ⌜ workBytes trap ≤ length (now work) ⌝ }
+        ensures { λ r. ⌜ stateOf r (now (settled .exit)) (now (waiting .exit)) (now (work .entry)) ≡ appending trap (stateOf self (now (settled .entry)) (now (waiting .entry)) (now (work .entry))) .state ⌝ }
     {
         let log = Log {
             blocks: self.blocks,

@@ -5,6 +5,7 @@ use mathlib.Core.Bool.{Bool, not}
 use mathlib.Core.List.{List}
 use native.Mathlib.Omega.{arith}
 use borrow.Author.Needs.{needs}
+use Rattle.journal.specs.Geometry.{trap}
 use Rattle.journal.specs.Layout.{isData}
 use Rattle.store.specs.Lists.{listed}
 use Rattle.store.specs.Causes.{strays}
@@ -12,11 +13,12 @@ use Rattle.store.proofs.Causes.{search-hit, search-on, search-over}
 use Rattle.store.proofs.check.strays.Statement.{statement}
 use Rattle.store.proofs.check.strays.Tie as tie
 
+
 abbrev stray : List ℕ → ℕ → ℕ → ℕ → Bool
-stray work N from i = not (isData N (listed work from i .address))
+stray work N from i = not (isData trap N (listed work from i .address))
 
 abbrev Inv-loop : tie.InvT-loop
-Inv-loop work blocks from n i₀ i = (i ≤ n) × (strays work blocks from i ≡ strays work blocks from n)
+Inv-loop work blocks from n i₀ i = (i ≤ n) × (strays trap work blocks from i ≡ strays trap work blocks from n)
 
 abbrev μ-loop : tie.MeasureT-loop
 μ-loop work blocks from n i₀ i = i

@@ -5,6 +5,7 @@ use mathlib.Core.Bool.{true, false}
 use mathlib.Core.Logic.{⊎-elim}
 use native.Mathlib.Omega.{arith}
 use borrow.Author.Tests.{not-true, not-false}
+use Rattle.journal.specs.Geometry.{trap}
 use Rattle.store.specs.Lists.{openFrom, groupFrom, listed, find}
 use Rattle.store.specs.Causes.{isFound, newcomers}
 use Rattle.store.proofs.Commits.{newcomers-more}
@@ -12,7 +13,7 @@ use Rattle.store.proofs.commit.newcomers.Statement.{statement}
 use Rattle.store.proofs.commit.newcomers.Tie as tie
 
 abbrev Inv-loop : tie.InvT-loop
-Inv-loop work g n count₀ i₀ count i = (i ≤ n) × (count ≡ newcomers work g i) × (count ≤ i)
+Inv-loop work g n count₀ i₀ count i = (i ≤ n) × (count ≡ newcomers trap work g i) × (count ≤ i)
 
 abbrev μ-loop : tie.MeasureT-loop
 μ-loop work g n count₀ i₀ count i = n - i
@@ -25,6 +26,7 @@ address-requires : tie.Need-address-requires Inv-loop μ-loop
 address-requires c κs = omega arith
 
 holds-requires : tie.Need-holds-requires Inv-loop μ-loop
+unfolding trap
 holds-requires c κs = omega arith
 
 add-count : tie.Need-add-count Inv-loop μ-loop
@@ -38,21 +40,22 @@ loop-less c = omega arith
 
 -- whether the group has the address
 told : (c : tie.Joined1 Inv-loop μ-loop) → let a = c .before .before .before .before .before .before .args in
-    isFound (find (a .work .now) groupFrom (a .g) (listed (a .work .now) openFrom (c .before .before .before .before .loop .i) .address)) ≡ c .before .holds .result
+    isFound (find (a .work .now) (groupFrom trap) (a .g) (listed (a .work .now) openFrom (c .before .before .before .before .loop .i) .address)) ≡ c .before .holds .result
+unfolding trap
 told c = rw (← c .before .before .address .ensures) (sym (c .before .holds .ensures))
 
 loop-again : tie.Need-loop-again Inv-loop μ-loop
 loop-again c =
     let l = c .before .before .before .before .loop in
     let a = c .before .before .before .before .before .before .args in
-    let more = newcomers-more (a .work .now) (a .g) (l .i) in
+    let more = newcomers-more trap (a .work .now) (a .g) (l .i) in
     ⊎-elim
     (λ w.
-    let new : isFound (find (a .work .now) groupFrom (a .g) (listed (a .work .now) openFrom (l .i) .address)) ≡ false = told c ∙ not-true _ (w .0 .taken) in
+    let new : isFound (find (a .work .now) (groupFrom trap) (a .g) (listed (a .work .now) openFrom (l .i) .address)) ≡ false = told c ∙ not-true _ (w .0 .taken) in
     let one = rw new at more in
     omega (arith, w .1))
     (λ w.
-    let old : isFound (find (a .work .now) groupFrom (a .g) (listed (a .work .now) openFrom (l .i) .address)) ≡ true = told c ∙ not-false _ (w .0 .left) in
+    let old : isFound (find (a .work .now) (groupFrom trap) (a .g) (listed (a .work .now) openFrom (l .i) .address)) ≡ true = told c ∙ not-false _ (w .0 .left) in
     let none = rw old at more in
     omega (arith, w .1))
     (c .if1 .came)

@@ -9,7 +9,7 @@ use borrow.Author.Tests.{lt-ltb, le-ltb}
 use lib.Dec.{ltb}
 use lib.ListN.{length, getD, drop, drop-of-length-le}
 use lib.Seq.{drop-cons}
-use Rattle.store.specs.Causes.{overOne}
+use Rattle.card.specs.Marks.{overOne}
 use Rattle.store.proofs.cut.over_one.Statement.{statement}
 use Rattle.store.proofs.cut.over_one.Tie as tie
 

@@ -3,6 +3,7 @@ use Prim.Native.Nat.{ℕ, _+_}
 use mathlib.Core.Path.{_≡_, ap, _∙_}
 use native.Mathlib.Omega.{arith}
 use Rattle.card.specs.declared.queue.Queue.{Queue}
+use Rattle.journal.specs.Geometry.{trap}
 use Rattle.journal.specs.Orders.{appendOrders}
 use Rattle.journal.specs.Log.{sumOf}
 use Rattle.journal.proofs.OrderLists.{length-append-orders}
@@ -21,12 +22,14 @@ queue-requires : tie.Need-queue-requires
 queue-requires c κs = search needs
 
 append-requires : tie.Need-append-requires
+unfolding trap
 append-requires c κs =
     let start = c .before .before .before .before .before .before in
     let none : c .before .before .queue .result .waiting ≡ 0 = ap (λ (q : Queue). q .waiting) (c .before .before .queue .ensures) ∙ start .pre .1 .1 .0 in
     (start .pre .0, (start .pre .1 .0, (omega arith, (omega arith, (λ i h. absurd (omega arith), omega arith)))))
 
 add-with-log : tie.Need-add-with-log
+unfolding trap
 add-with-log c = search needs
 
 with-log-requires : tie.Need-with-log-requires
@@ -45,14 +48,15 @@ same-length-2 : tie.Need-same-length-2
 same-length-2 c = search needs
 
 returns : tie.Need-returns
+unfolding trap
 returns c =
     let k = c .before .before .before .before .before .before .before .before .before in
     let a = k .before .before .before .before .before .before .before .args in
     let st = stateOf (a .self) (a .settled .now) (a .waiting .now) (a .work .now) in
-    let size = length-append-orders (a .self .blocks) (a .settled .now) (a .self .logged) (a .self .sum) (groupOf st) ∙ ap (λ (n : ℕ). n + 3) (group-size st) in
+    let size = length-append-orders trap (a .self .blocks) (a .settled .now) (a .self .logged) (a .self .sum) (groupOf trap st) ∙ ap (λ (n : ℕ). n + 3) (group-size trap st) in
     let whole = c .before .with-grouped .ensures ∙ ap (withGrouped 0) (c .before .before .with-log .ensures ∙ ap (λ (h : ℕ). withLog (a .self .logged + a .self .grouped) h (a .self)) (k .append .ensures .1 .1)) in
-    given (appendOrders (a .self .blocks) (a .settled .now) (a .self .logged) (a .self .sum) (groupOf st)) (a .self .grouped + 3)
-    (withGrouped 0 (withLog (a .self .logged + a .self .grouped) (sumOf (a .self .sum) (groupOf st)) (a .self))) (a .self) st
+    given (appendOrders trap (a .self .blocks) (a .settled .now) (a .self .logged) (a .self .sum) (groupOf trap st)) (a .self .grouped + 3)
+    (withGrouped 0 (withLog (a .self .logged + a .self .grouped) (sumOf (a .self .sum) (groupOf trap st)) (a .self))) (a .self) st
     _ _ _ (record { happened = k .append .result .done; queue = k .append .result .queue }) _ _ size (k .before .before .before .queue .ensures)
     (k .append .ensures .0) (k .append .ensures .1 .0) whole (c .after .ensures)
 

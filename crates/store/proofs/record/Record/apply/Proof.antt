@@ -2,6 +2,7 @@
 use mathlib.Core.Path.{ap, sym, _∙_}
 use mathlib.Core.List.{[]}
 use native.Mathlib.Omega.{arith}
+use Rattle.journal.specs.Geometry.{trap}
 use Rattle.store.specs.State.{State, Outcome}
 use Rattle.store.specs.CodeState.{stateOf}
 use Rattle.store.specs.Saves.{applyCall}
@@ -11,12 +12,13 @@ use borrow.Author.Needs.{needs}
 use Rattle.store.proofs.record.Record.apply.Statement.{statement}
 use Rattle.store.proofs.record.Record.apply.Tie as tie
 
+
 abbrev given : tie.Start → State
 given c = stateOf (c .args .self) (c .args .settled .now) (c .args .waiting .now) (c .args .work .now)
 
 -- what the table has shown
-checked : (c : tie.Else1) → Ready (given (c .before .before .before .before .before .before .before))
-checked c = ready (given (c .before .before .before .before .before .before .before)) (c .before .not-open .result) (c .before .not-open .ensures) (c .if1 .left)
+checked : (c : tie.Else1) → Ready trap (given (c .before .before .before .before .before .before .before))
+checked c = ready trap (given (c .before .before .before .before .before .before .before)) (c .before .not-open .result) (c .before .not-open .ensures) (c .if1 .left)
 
 not-open-requires : tie.Need-not-open-requires
 not-open-requires c κs = search needs
@@ -50,7 +52,7 @@ returns-2 c =
     let st = given (k .before .before .before .before .before .before .before) in
     rw (c .saved .ensures)
     (carried-ends [] (st .rec) (st .rec) st (checked k .live) _ _ _ _ (sym (ap (λ (o : Outcome). o .state) (carried-none (st .rec) (st .rec) st)))
-    ∙ carried-none (st .rec) (st .rec) st ∙ apply-none st (c .before .if2 .taken) ∙ call-done _ _ _ _ (k .before .not-open .ensures) (k .if1 .left))
+    ∙ carried-none (st .rec) (st .rec) st ∙ apply-none trap st (c .before .if2 .taken) ∙ call-done _ _ _ _ (k .before .not-open .ensures) (k .if1 .left))
 
 emptied-requires : tie.Need-emptied-requires
 emptied-requires c κs =
@@ -76,7 +78,7 @@ returns-3 c =
     let st = given (k .before .before .before .before .before .before .before) in
     rw (c .saved2 .ensures)
     (carried-ends _ _ _ st (checked k .live) _ _ _ _ (e .emptied .ensures (st .work))
-    ∙ apply-some st (e .before .before .before .if2 .left) ∙ call-done _ _ _ _ (k .before .not-open .ensures) (k .if1 .left))
+    ∙ apply-some trap st (e .before .before .before .if2 .left) ∙ call-done _ _ _ _ (k .before .not-open .ensures) (k .if1 .left))
 
 pub apply-spec : {M : Type 1} → statement M
 apply-spec =

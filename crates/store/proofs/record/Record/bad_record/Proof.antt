@@ -3,6 +3,7 @@ use mathlib.Core.Path.{_≡_, sym, _∙_}
 use mathlib.Core.Bool.{false}
 use native.Mathlib.Omega.{arith}
 use borrow.Author.Tests.{eq-eqb, ne-eqb}
+use Rattle.journal.specs.Geometry.{trap}
 use Rattle.store.specs.State.{State}
 use Rattle.store.specs.CodeState.{stateOf}
 use Rattle.store.specs.Causes.{wrongSizes, wrongCounts, wrongWaiting}
@@ -11,14 +12,15 @@ use borrow.Author.Needs.{needs}
 use Rattle.store.proofs.record.Record.bad_record.Statement.{statement}
 use Rattle.store.proofs.record.Record.bad_record.Tie as tie
 
+
 abbrev given : tie.Start → State
 given c = stateOf (c .args .self) (c .args .settled .now) (c .args .waiting .now) (c .args .work .now)
 
 -- what the tests on the way have shown
-sized : (c : tie.Else1) → wrongSizes (given (c .before .before .before .before .before)) ≡ false
+sized : (c : tie.Else1) → wrongSizes trap (given (c .before .before .before .before .before)) ≡ false
 sized c = sym (c .before .wrong-sizes .ensures _) ∙ c .if1 .left
 
-counted : (c : tie.Else2) → wrongCounts (given (c .before .before .before .before .before .before .before)) ≡ false
+counted : (c : tie.Else2) → wrongCounts trap (given (c .before .before .before .before .before .before .before)) ≡ false
 counted c = sym (c .before .wrong-counts .ensures _ _) ∙ c .if2 .left
 
 queued : (c : tie.Else3) → wrongWaiting (given (c .before .before .before .before .before .before .before .before .before)) ≡ false
@@ -38,8 +40,8 @@ returns-2 c = rw (sized (c .before .before), ← c .before .wrong-counts .ensure
 
 wrong-waiting-requires : tie.Need-wrong-waiting-requires
 wrong-waiting-requires c κs =
-    let s = sizes-facts (given (c .before .before .before .before .before .before .before)) (sized (c .before .before)) in
-    let n = counts-facts (given (c .before .before .before .before .before .before .before)) (counted c) in
+    let s = sizes-facts trap (given (c .before .before .before .before .before .before .before)) (sized (c .before .before)) in
+    let n = counts-facts trap (given (c .before .before .before .before .before .before .before)) (counted c) in
     omega arith
 
 returns-3 : tie.Need-returns-3
@@ -50,8 +52,8 @@ returns-4 c = rw (sized (c .before .before .before .before .before .before), cou
 
 wrong-lists-requires : tie.Need-wrong-lists-requires
 wrong-lists-requires c κs =
-    let s = sizes-facts (given (c .before .before .before .before .before .before .before .before .before .before .before)) (sized (c .before .before .before .before .before .before)) in
-    let n = counts-facts (given (c .before .before .before .before .before .before .before .before .before .before .before)) (counted (c .before .before .before .before)) in
+    let s = sizes-facts trap (given (c .before .before .before .before .before .before .before .before .before .before .before)) (sized (c .before .before .before .before .before .before)) in
+    let n = counts-facts trap (given (c .before .before .before .before .before .before .before .before .before .before .before)) (counted (c .before .before .before .before)) in
     omega arith
 
 returns-5 : tie.Need-returns-5

@@ -2,6 +2,7 @@
 use mathlib.Core.Path.{refl, ap, _∙_}
 use native.Mathlib.Omega.{arith}
 use borrow.Author.Tests.{ltb-false}
+use Rattle.journal.specs.Geometry.{trap}
 use Rattle.store.specs.State.{withOpened, withGrouped, withRecord, withWork}
 use Rattle.store.specs.CodeState.{stateOf}
 use Rattle.store.specs.Request.{commit}
@@ -13,6 +14,7 @@ use Rattle.store.proofs.Causes.{cause-passes, passes-sound}
 use borrow.Author.Needs.{needs}
 use Rattle.store.proofs.record.Record.commit.Statement.{statement}
 use Rattle.store.proofs.record.Record.commit.Tie as tie
+
 
 commit-number-requires : tie.Need-commit-number-requires
 commit-number-requires c κs = search needs
@@ -32,8 +34,8 @@ join-all-requires c κs =
     let a = c .before .before .before .before .before .before .before .args in
     let n = c .before .before .commit-number in
     let st = stateOf (a .self) (a .settled .now) (a .waiting .now) (a .work .now) in
-    let p = cause-passes commit st (n .result) (n .ensures) (c .before .if1 .left) in
-    let s = passes-sound commit st (n .result) refl (n .ensures) (c .before .if1 .left) in
+    let p = cause-passes trap commit st (n .result) (n .ensures) (c .before .if1 .left) in
+    let s = passes-sound trap commit st (n .result) refl (n .ensures) (c .before .if1 .left) in
     (omega arith, (omega arith, omega arith, ltb-false _ _ (p .own .0)))
 
 with-grouped-requires : tie.Need-with-grouped-requires
@@ -55,7 +57,7 @@ returns-2 c =
     let st = stateOf (a .self) (a .settled .now) (a .waiting .now) (a .work .now) in
     rw (c .answer2 .ensures, c .before .with-opened .ensures, c .before .before .with-grouped .ensures)
     (ap (λ (g : Group). completed (withRecord (withOpened 0 (withGrouped (g .count) (a .self))) (withWork (g .work) st))) (c .before .before .before .before .before .join-all .ensures)
-    ∙ call-done _ (cause commit st) st _ (c .before .before .before .before .before .before .before .before .commit-number .ensures) (c .before .before .before .before .before .before .before .if1 .left))
+    ∙ call-done _ (cause trap commit st) st _ (c .before .before .before .before .before .before .before .before .commit-number .ensures) (c .before .before .before .before .before .before .before .if1 .left))
 
 pub commit-spec : {M : Type 1} → statement M
 commit-spec =

@@ -11,6 +11,8 @@ use Rattle.store.specs.Request.{cut}
 use Rattle.store.specs.Outcomes.{completed}
 use Rattle.store.specs.Saves.{cutCall}
 use Rattle.store.proofs.Calls.{call-refused, call-done}
+use Rattle.card.proofs.Leaves.{fits-length}
+use Rattle.journal.specs.Geometry.{trap}
 use Rattle.journal.proofs.Logs.{neither}
 use Rattle.store.proofs.Causes.{cause-passes, passes-sound}
 use Rattle.store.proofs.Saves.{cut-state}
@@ -43,9 +45,9 @@ cut-requires c κs =
     let start = e .before .before .before .before .before .before .before in
     let st = given start in
     let n = e .before .cut-number in
-    let p = cause-passes (cut (start .args .marks .now)) st (n .result) (n .ensures) (e .if1 .left) in
-    let s = passes-sound (cut (start .args .marks .now)) st (n .result) refl (n .ensures) (e .if1 .left) in
-    let many : length (start .args .marks .now) ≡ start .args .self .waiting = eqb-true _ _ (not-false _ (neither _ _ (p .own .0) .0)) in
+    let p = cause-passes trap (cut (start .args .marks .now)) st (n .result) (n .ensures) (e .if1 .left) in
+    let s = passes-sound trap (cut (start .args .marks .now)) st (n .result) refl (n .ensures) (e .if1 .left) in
+    let many : length (start .args .marks .now) ≡ start .args .self .waiting = fits-length (start .args .marks .now) (start .args .self .waiting) (not-false _ (p .own .0)) in
     let held : c .before .queue .result .waiting ≡ start .args .self .waiting = ap (λ (q : Queue). q .waiting) (c .before .queue .ensures) in
     (omega arith, (λ i h. let inside : i < start .args .self .waiting = omega arith in omega (arith, s .waiting-below i inside), omega arith))
 

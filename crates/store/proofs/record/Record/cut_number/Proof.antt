@@ -6,6 +6,8 @@ use native.Mathlib.Omega.{arith}
 use borrow.Author.Tests.{eq-eqb, ne-eqb}
 use lib.Dec.{eqb}
 use lib.ListN.{length}
+use Rattle.card.specs.Marks.{marksFit}
+use Rattle.journal.specs.Geometry.{trap}
 use Rattle.store.specs.State.{State}
 use Rattle.store.specs.CodeState.{stateOf}
 use Rattle.store.specs.Request.{cut}
@@ -20,10 +22,10 @@ given c = stateOf (c .args .self) (c .args .settled .now) (c .args .waiting .now
 
 -- the table once rows 1 and 2 are known
 table-of : (c : tie.After-bad-record) → let start = c .before .before .before .before .before in
-    cause (cut (start .args .marks .now)) (given start) ≡ cond (eqb (c .bad-record .result) 0) (first (ownRows (cut (start .args .marks .now))) (given start)) (c .bad-record .result)
+    cause trap (cut (start .args .marks .now)) (given start) ≡ cond (eqb (c .bad-record .result) 0) (first (ownRows trap (cut (start .args .marks .now))) (given start)) (c .bad-record .result)
 table-of c =
     let start = c .before .before .before .before .before in
-    cause-2 (given start) (c .bad-record .result) (ownRows (cut (start .args .marks .now))) (c .bad-record .ensures)
+    cause-2 trap (given start) (c .bad-record .result) (ownRows trap (cut (start .args .marks .now))) (c .bad-record .ensures)
 
 as-many : (c : tie.Else2) → length (c .before .before .before .before .before .before .before .before .args .marks .now) ≡ c .before .before .before .before .before .before .before .before .args .self .waiting
 as-many c = omega arith
@@ -38,6 +40,7 @@ cast-if2 : tie.Need-cast-if2
 cast-if2 c = search needs
 
 returns-2 : tie.Need-returns-2
+unfolding marksFit
 returns-2 c =
     let a = c .before .before .before .before .before .before .before .before .args in
     let unlike : length (a .marks .now) ≢ a .self .waiting = λ e. omega arith in
@@ -47,11 +50,13 @@ over-one-requires : tie.Need-over-one-requires
 over-one-requires c κs = search needs
 
 returns-3 : tie.Need-returns-3
+unfolding marksFit
 returns-3 c =
     let many = as-many (c .before .before) in
     rw (table-of (c .before .before .before .before .before), eq-eqb _ _ (c .before .before .before .before .if1 .left), eq-eqb _ _ many, ← c .before .over-one .ensures, c .if3 .taken)
 
 returns-4 : tie.Need-returns-4
+unfolding marksFit
 returns-4 c =
     let many = as-many (c .before .before) in
     rw (table-of (c .before .before .before .before .before), eq-eqb _ _ (c .before .before .before .before .if1 .left), eq-eqb _ _ many, ← c .before .over-one .ensures, c .if3 .left)

@@ -5,6 +5,7 @@ use native.Mathlib.Omega.{arith}
 use Rattle.card.specs.declared.queue.Queue.{Queue}
 use Rattle.cells.specs.Upto.Laws.{length-upTo}
 use Rattle.fnv.specs.Fnv.{start}
+use Rattle.journal.specs.Geometry.{trap}
 use Rattle.journal.specs.Log.{slotEntry, entries}
 use Rattle.journal.specs.Orders.{checkpointOrders}
 use Rattle.journal.proofs.OrderLists.{length-checkpoint}
@@ -19,6 +20,7 @@ queue-requires : tie.Need-queue-requires
 queue-requires c κs = search needs
 
 checkpoint-requires : tie.Need-checkpoint-requires
+unfolding trap
 checkpoint-requires c κs =
     let start = c .before .before .before .before .before in
     let none : c .before .before .queue .result .waiting ≡ 0 = ap (λ (q : Queue). q .waiting) (c .before .before .queue .ensures) ∙ start .pre .1 .1 .1 .0 in
@@ -40,8 +42,8 @@ returns : tie.Need-returns
 returns c =
     let k = c .before .before .before .before .before .before in
     let a = k .before .before .before .before .before .before .args in
-    let size = length-checkpoint (a .self .blocks) (entries (a .settled .now) (a .self .logged)) ∙ ap (λ (n : ℕ). n + 3) (length-upTo (slotEntry (a .settled .now)) (a .self .logged)) in
-    λ work. given (checkpointOrders (a .self .blocks) (entries (a .settled .now) (a .self .logged))) (a .self .logged + 3) (withLog 0 start (a .self)) (a .self)
+    let size = length-checkpoint (a .self .blocks) (entries trap (a .settled .now) (a .self .logged)) ∙ ap (λ (n : ℕ). n + 3) (length-upTo (slotEntry trap (a .settled .now)) (a .self .logged)) in
+    λ work. given (checkpointOrders (a .self .blocks) (entries trap (a .settled .now) (a .self .logged))) (a .self .logged + 3) (withLog 0 start (a .self)) (a .self)
     (stateOf (a .self) (a .settled .now) (a .waiting .now) work) _ _ _ (k .checkpoint .result) _ _ size (k .before .before .before .queue .ensures)
     (k .checkpoint .ensures .0) (k .checkpoint .ensures .1) (c .before .with-log .ensures) (c .after .ensures)
 

@@ -4,6 +4,7 @@ use mathlib.Core.Bool.{true, false}
 use native.Mathlib.Omega.{arith}
 use lib.ListN.{length, replicate, length-replicate}
 use Rattle.card.specs.Card.{blocksIn}
+use Rattle.journal.specs.Geometry.{trap}
 use Rattle.store.specs.State.{State}
 use Rattle.store.specs.CodeState.{stateOf}
 use Rattle.store.specs.Request.{format}
@@ -15,10 +16,11 @@ use borrow.Author.Needs.{needs}
 use Rattle.store.proofs.record.Record.format.Statement.{statement}
 use Rattle.store.proofs.record.Record.format.Tie as tie
 
+
 abbrev given : tie.Start → State
 given c = stateOf (c .args .self) (c .args .settled .now) (c .args .waiting .now) (c .args .work .now)
 
-sized : (c : tie.Else1) → wrongSizes (given (c .before .before .before .before .before .before .before .before)) ≡ false
+sized : (c : tie.Else1) → wrongSizes trap (given (c .before .before .before .before .before .before .before .before)) ≡ false
 sized c = sym (c .before .wrong-sizes .ensures _) ∙ c .if1 .left
 
 wrong-sizes-requires : tie.Need-wrong-sizes-requires
@@ -39,8 +41,8 @@ same-length-3 c = search needs
 returns : tie.Need-returns
 unfolding formatCall
 returns c =
-    let e : wrongSizes (given (c .before .before .before .before .before .before .before .before .before)) ≡ true = sym (c .before .before .wrong-sizes .ensures _) ∙ c .before .if1 .taken in
-    rw (c .answer .ensures) (call-refused 1 (cause format (given (c .before .before .before .before .before .before .before .before .before))) (given (c .before .before .before .before .before .before .before .before .before)) _ (rw e) (λ z. omega arith))
+    let e : wrongSizes trap (given (c .before .before .before .before .before .before .before .before .before)) ≡ true = sym (c .before .before .wrong-sizes .ensures _) ∙ c .before .if1 .taken in
+    rw (c .answer .ensures) (call-refused 1 (cause trap format (given (c .before .before .before .before .before .before .before .before .before))) (given (c .before .before .before .before .before .before .before .before .before)) _ (rw e) (λ z. omega arith))
 
 blocks-in-requires : tie.Need-blocks-in-requires
 blocks-in-requires c κs = search needs
@@ -50,7 +52,7 @@ cast-blocks c =
     let e = c .before .before in
     let st = given (e .before .before .before .before .before .before .before .before) in
     let told : c .blocks-in .result ≡ blocksIn (st .settled) = c .blocks-in .ensures in
-    let s = sizes-facts st (sized e) in
+    let s = sizes-facts trap st (sized e) in
     omega arith
 
 wipe-requires : tie.Need-wipe-requires
@@ -59,7 +61,7 @@ wipe-requires c κs = search needs
 settle-header-requires : tie.Need-settle-header-requires
 settle-header-requires c κs =
     let e = c .before .before .before .before .before .before .before .before .before .before in
-    let s = sizes-facts (given (e .before .before .before .before .before .before .before .before)) (sized e) in
+    let s = sizes-facts trap (given (e .before .before .before .before .before .before .before .before)) (sized e) in
     let zeros : c .before .before .before .before .before .wipe .last .0 ≡ replicate (length (e .before .before .before .before .before .before .before .before .args .settled .now)) 0 = c .before .before .before .before .before .wipe .ensures .0 in
     rw (zeros, length-replicate) (omega arith)
 
@@ -89,7 +91,7 @@ returns-2 c =
     let e = b .before .before in
     let empty : wiped .wipe .last .1 .0 ≡ replicate (length (given (e .before .before .before .before .before .before .before .before) .waiting)) 0 = wiped .wipe .ensures .1 in
     rw (c .answer2 .ensures, c .before .fresh .ensures, c .before .before .before .before .before .before .before .before .settle-header .ensures, b .blocks-in .ensures, wiped .wipe .ensures .0, empty, c .before .before .before .before .zero .ensures)
-    (call-done 0 (cause format (given (e .before .before .before .before .before .before .before .before))) (given (e .before .before .before .before .before .before .before .before)) _ (rw (sized e)) refl)
+    (call-done 0 (cause trap format (given (e .before .before .before .before .before .before .before .before))) (given (e .before .before .before .before .before .before .before .before)) _ (rw (sized e)) refl)
 
 pub format-spec : {M : Type 1} → statement M
 format-spec =

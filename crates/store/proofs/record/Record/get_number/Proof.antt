@@ -3,6 +3,7 @@ use mathlib.Core.Path.{_≡_, refl}
 use mathlib.Core.Bool.{false, cond}
 use borrow.Author.Tests.{eq-eqb, ne-eqb}
 use lib.Dec.{eqb}
+use Rattle.journal.specs.Geometry.{trap}
 use Rattle.store.specs.State.{State}
 use Rattle.store.specs.CodeState.{stateOf}
 use Rattle.store.specs.Request.{get}
@@ -12,15 +13,16 @@ use borrow.Author.Needs.{needs}
 use Rattle.store.proofs.record.Record.get_number.Statement.{statement}
 use Rattle.store.proofs.record.Record.get_number.Tie as tie
 
+
 abbrev given : tie.Start → State
 given c = stateOf (c .args .self) (c .args .settled .now) (c .args .waiting .now) (c .args .work .now)
 
 -- the table once rows 1 to 4 are known
 table-of : (c : tie.After-not-open) → let start = c .before .before .before .before in
-    cause (get (start .args .address)) (given start) ≡ cond (eqb (c .not-open .result) 0) (first (ownRows (get (start .args .address))) (given start)) (c .not-open .result)
+    cause trap (get (start .args .address)) (given start) ≡ cond (eqb (c .not-open .result) 0) (first (ownRows trap (get (start .args .address))) (given start)) (c .not-open .result)
 table-of c =
     let start = c .before .before .before .before in
-    cause-4 (given start) (c .not-open .result) (ownRows (get (start .args .address))) false refl (c .not-open .ensures)
+    cause-4 trap (given start) (c .not-open .result) (ownRows trap (get (start .args .address))) false refl (c .not-open .ensures)
 
 not-open-requires : tie.Need-not-open-requires
 not-open-requires c κs = search needs

@@ -2,6 +2,7 @@
 use mathlib.Core.Path.{refl}
 use native.Mathlib.Omega.{arith}
 use borrow.Author.Tests.{eq-eqb, ne-eqb}
+use Rattle.journal.specs.Geometry.{trap}
 use Rattle.store.specs.CodeState.{stateOf}
 use Rattle.store.specs.Request.{get}
 use Rattle.store.specs.Get.{getPlace}
@@ -9,6 +10,7 @@ use Rattle.store.proofs.Causes.{passes-sound}
 use borrow.Author.Needs.{needs}
 use Rattle.store.proofs.record.Record.get_place.Statement.{statement}
 use Rattle.store.proofs.record.Record.get_place.Tie as tie
+
 
 get-number-requires : tie.Need-get-number-requires
 get-number-requires c κs = search needs
@@ -21,7 +23,7 @@ newest-requires : tie.Need-newest-requires
 newest-requires c κs =
     let a = c .before .before .before .before .before .args in
     let n = c .before .get-number in
-    let s = passes-sound (get (a .address)) (stateOf (a .self) (a .settled .now) (a .waiting .now) (a .work .now)) (n .result) refl (n .ensures) (c .if1 .left) in
+    let s = passes-sound trap (get (a .address)) (stateOf (a .self) (a .settled .now) (a .waiting .now) (a .work .now)) (n .result) refl (n .ensures) (c .if1 .left) in
     omega arith
 
 returns-2 : tie.Need-returns-2

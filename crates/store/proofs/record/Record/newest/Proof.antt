@@ -1,6 +1,7 @@
 -- `store::record::Record::newest` meets its contract.
 use mathlib.Core.Path.{_≡_, sym, _∙_}
 use native.Mathlib.Omega.{arith}
+use Rattle.journal.specs.Geometry.{trap}
 use Rattle.journal.specs.declared.lookup.Found.{Found}
 use Rattle.journal.specs.declared.lookup.Found.the-variants.{At, Absent}
 use Rattle.journal.specs.Log.{slotAddress}
@@ -17,7 +18,7 @@ abbrev open-lookup : tie.Start → Found
 open-lookup c = find (c .args .work .now) openFrom (c .args .self .opened) (c .args .address)
 
 abbrev group-lookup : tie.Start → Found
-group-lookup c = find (c .args .work .now) groupFrom (c .args .self .grouped) (c .args .address)
+group-lookup c = find (c .args .work .now) (groupFrom trap) (c .args .self .grouped) (c .args .address)
 
 abbrev log-lookup : tie.Start → Found
 log-lookup c = lastSlot (c .args .settled .now) (c .args .address) (c .args .self .logged)
@@ -30,9 +31,11 @@ no-open : (c : tie.After-enum-told) → open-lookup (c .before .before .before .
 no-open c = sym (c .before .before .find .ensures) ∙ c .enum-told .given .1
 
 in-group : (c : tie.After-j) → group-lookup (c .before .before .before .before .before .before .before .before) ≡ At (c .j .given .0 .0)
+unfolding trap
 in-group c = sym (c .before .before .find2 .ensures) ∙ c .j .given .1
 
 no-group : (c : tie.After-enum-told2) → group-lookup (c .before .before .before .before .before .before .before .before) ≡ Absent
+unfolding trap
 no-group c = sym (c .before .before .find2 .ensures) ∙ c .enum-told2 .given .1
 
 in-log : (c : tie.After-k) → log-lookup (c .before .before .before .before .before .before .before .before .before .before .before) ≡ At (c .k .given .0 .0)
@@ -48,6 +51,7 @@ enum-told : tie.Need-enum-told
 enum-told c = search needs
 
 find-requires-2 : tie.Need-find-requires-2
+unfolding trap
 find-requires-2 c κs = search needs
 
 enum-known-j : tie.Need-enum-known-j
@@ -73,6 +77,7 @@ unfolding newest
 returns c = λ w. rw (no-open (c .before .before .before .before .before .before), no-group (c .before .before .before), ← c .before .before .last-slot .ensures, c .enum-told3 .given .1)
 
 add-t13 : tie.Need-add-t13
+unfolding trap
 add-t13 c =
     let a = c .before .before .before .before .before .before .before .before .before .before .before .before .args in
     let inside = last-at (slotAddress (a .settled .now)) (a .address) (a .self .logged) (c .before .k .given .0 .0) (in-log (c .before)) in
@@ -85,17 +90,18 @@ mul-t15 : tie.Need-mul-t15
 mul-t15 c = search needs
 
 returns-2 : tie.Need-returns-2
-unfolding newest
+unfolding newest trap
 returns-2 c = λ w. rw (no-open (c .before .before .before .before .before .before .before), no-group (c .before .before .before .before), in-log (c .before))
 
 place-of-requires : tie.Need-place-of-requires
+unfolding trap
 place-of-requires c κs =
     let a = c .before .before .before .before .before .before .before .before .before .args in
-    let inside = find-at (a .work .now) groupFrom (a .self .grouped) (a .address) (c .before .j .given .0 .0) (in-group (c .before)) in
+    let inside = find-at (a .work .now) (groupFrom trap) (a .self .grouped) (a .address) (c .before .j .given .0 .0) (in-group (c .before)) in
     omega arith
 
 returns-3 : tie.Need-returns-3
-unfolding newest
+unfolding newest trap
 returns-3 c = λ w. rw (no-open (c .before .before .before .before .before), in-group (c .before .before), c .place-of .ensures)
 
 place-of-requires-2 : tie.Need-place-of-requires-2

@@ -4,6 +4,7 @@ use mathlib.Core.Bool.{cond}
 use mathlib.Core.List.{List, [], _∷_}
 use borrow.Author.Tests.{eq-eqb, ne-eqb}
 use lib.Dec.{eqb}
+use Rattle.journal.specs.Geometry.{trap}
 use Rattle.store.specs.State.{State}
 use Rattle.store.specs.CodeState.{stateOf}
 use Rattle.store.specs.Request.{abandon}
@@ -13,6 +14,7 @@ use borrow.Author.Needs.{needs}
 use Rattle.store.proofs.record.Record.not_open.Statement.{statement}
 use Rattle.store.proofs.record.Record.not_open.Tie as tie
 
+
 abbrev given : tie.Start → State
 given c = stateOf (c .args .self) (c .args .settled .now) (c .args .waiting .now) (c .args .work .now)
 
@@ -20,8 +22,8 @@ abbrev modes : List Row
 modes = closedRow ∷ downRow ∷ []
 
 -- the table once rows 1 and 2 are known
-table-of : (c : tie.After-bad-record) → cause abandon (given (c .before .before .before .before)) ≡ cond (eqb (c .bad-record .result) 0) (first modes (given (c .before .before .before .before))) (c .bad-record .result)
-table-of c = cause-2 (given (c .before .before .before .before)) (c .bad-record .result) modes (c .bad-record .ensures)
+table-of : (c : tie.After-bad-record) → cause trap abandon (given (c .before .before .before .before)) ≡ cond (eqb (c .bad-record .result) 0) (first modes (given (c .before .before .before .before))) (c .bad-record .result)
+table-of c = cause-2 trap (given (c .before .before .before .before)) (c .bad-record .result) modes (c .bad-record .ensures)
 
 bad-record-requires : tie.Need-bad-record-requires
 bad-record-requires c κs = search needs

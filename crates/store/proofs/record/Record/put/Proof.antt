@@ -5,9 +5,9 @@ use mathlib.Core.Bool.{false, not, _&&_}
 use native.Mathlib.Omega.{arith}
 use borrow.Author.Tests.{eqb-true, leb-false, not-false}
 use lib.Dec.{leb}
+use Rattle.journal.specs.Geometry.{trap}
 use Rattle.journal.specs.declared.lookup.Found.{Found}
 use Rattle.journal.specs.declared.lookup.Found.the-variants.{Absent}
-use Rattle.journal.specs.Layout.{slots}
 use Rattle.store.specs.CodeState.{stateOf}
 use Rattle.store.specs.Lists.{openFrom, find}
 use Rattle.store.specs.Request.{put}
@@ -20,8 +20,9 @@ use borrow.Author.Needs.{needs}
 use Rattle.store.proofs.record.Record.put.Statement.{statement}
 use Rattle.store.proofs.record.Record.put.Tie as tie
 
+
 -- a new address has room
-room-put : (f : Found) (n : ℕ) → not (isFound f) && leb slots n ≡ false → f ≡ Absent → n < slots
+room-put : (f : Found) (n : ℕ) → not (isFound f) && leb (trap .slots) n ≡ false → f ≡ Absent → n < trap .slots
 room-put f n e absent = leb-false _ _ (rw absent at e)
 
 put-number-requires : tie.Need-put-number-requires
@@ -42,8 +43,8 @@ put-entry-requires c κs =
     let a = c .before .before .before .before .before .before .before .before .args in
     let n = c .before .before .put-number in
     let st = stateOf (a .self) (a .settled .now) (a .waiting .now) (a .work .now) in
-    let p = cause-passes (put (a .address) (a .block .now)) st (n .result) (n .ensures) (c .before .if1 .left) in
-    let s = passes-sound (put (a .address) (a .block .now)) st (n .result) refl (n .ensures) (c .before .if1 .left) in
+    let p = cause-passes trap (put (a .address) (a .block .now)) st (n .result) (n .ensures) (c .before .if1 .left) in
+    let s = passes-sound trap (put (a .address) (a .block .now)) st (n .result) refl (n .ensures) (c .before .if1 .left) in
     (eqb-true _ _ (not-false _ (p .block)), (omega arith, (omega arith, room-put (find (a .work .now) openFrom (a .self .opened) (a .address)) (a .self .opened) (p .own .1 .0))))
 
 answer-requires-2 : tie.Need-answer-requires-2

@@ -2,9 +2,9 @@
 use Prim.Native.Nat.{_<_}
 use mathlib.Core.Path.{_≡_, sym, _∙_}
 use native.Mathlib.Omega.{arith}
+use Rattle.journal.specs.Geometry.{trap}
 use Rattle.journal.specs.declared.lookup.Found.{Found}
 use Rattle.journal.specs.declared.lookup.Found.the-variants.{At, Absent}
-use Rattle.journal.specs.Layout.{slots}
 use Rattle.store.specs.Lists.{openFrom, find}
 use Rattle.store.proofs.Lookups.{find-at}
 use borrow.Author.Needs.{needs}
@@ -35,10 +35,11 @@ cast-set c = search needs
 set-requires : tie.Need-set-requires
 set-requires c κs =
     let start = c .before .before .before .before .before .before .before .before in
-    let less : start .args .self .opened < slots = start .pre .1 .1 .1 (missing (c .before .before)) in
+    let less : start .args .self .opened < trap .slots = start .pre .1 .1 .1 (missing (c .before .before)) in
     (omega arith, start .pre .0)
 
 add-with-opened : tie.Need-add-with-opened
+unfolding trap
 add-with-opened c = search needs
 
 with-opened-requires : tie.Need-with-opened-requires

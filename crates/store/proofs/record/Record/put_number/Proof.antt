@@ -4,6 +4,7 @@ use mathlib.Core.Bool.{cond, not, and-false}
 use native.Mathlib.Omega.{arith}
 use borrow.Author.Tests.{eq-eqb, ne-eqb, le-leb, lt-leb}
 use lib.Dec.{eqb}
+use Rattle.journal.specs.Geometry.{trap}
 use Rattle.store.specs.State.{State}
 use Rattle.store.specs.CodeState.{stateOf}
 use Rattle.store.specs.Request.{Request, put, abandon}
@@ -21,15 +22,15 @@ request c = put (c .args .address) (c .args .block .now)
 
 -- the table once rows 1 to 4 are known
 table-of : (c : tie.After-not-open) → let start = c .before .before .before .before .before .before in
-    cause (request start) (given start) ≡ cond (eqb (c .not-open .result) 0) (first (ownRows (request start)) (given start)) (c .not-open .result)
+    cause trap (request start) (given start) ≡ cond (eqb (c .not-open .result) 0) (first (ownRows trap (request start)) (given start)) (c .not-open .result)
 table-of c =
     let start = c .before .before .before .before .before .before in
-    cause-4 (given start) (c .not-open .result) (ownRows (request start)) _ (ap not (eq-eqb _ _ (c .before .if1 .left))) (c .not-open .ensures)
+    cause-4 trap (given start) (c .not-open .result) (ownRows trap (request start)) _ (ap not (eq-eqb _ _ (c .before .if1 .left))) (c .not-open .ensures)
 
 returns : tie.Need-returns
 returns c =
     let start = c .before .before .before .before .before in
-    sym (cause-block (request start) (given start) (ap not (ne-eqb _ _ (c .if1 .taken))))
+    sym (cause-block trap (request start) (given start) (ap not (ne-eqb _ _ (c .if1 .taken))))
 
 not-open-requires : tie.Need-not-open-requires
 not-open-requires c κs = search needs
@@ -44,18 +45,20 @@ returns-3 : tie.Need-returns-3
 returns-3 c = rw (table-of (c .before .before .before), eq-eqb _ _ (c .before .before .if2 .left), ← c .before .is-data .ensures, c .if3 .taken)
 
 returns-4 : tie.Need-returns-4
+unfolding trap
 returns-4 c = rw (table-of (c .before .before .before .before .before), eq-eqb _ _ (c .before .before .before .before .if2 .left), ← c .before .before .before .is-data .ensures, c .before .before .if3 .left, lt-leb _ _ (c .if4 .taken), and-false)
 
 holds-requires : tie.Need-holds-requires
 holds-requires c κs =
     let n = c .before .before .before .before .before in
-    let s = passes-sound abandon (given (n .before .before .before .before .before .before)) (n .not-open .result) refl (n .not-open .ensures) (c .before .before .before .before .if2 .left) in
+    let s = passes-sound trap abandon (given (n .before .before .before .before .before .before)) (n .not-open .result) refl (n .not-open .ensures) (c .before .before .before .before .if2 .left) in
     omega arith
 
 returns-5 : tie.Need-returns-5
 returns-5 c = rw (table-of (c .before .before .before .before .before .before .before), eq-eqb _ _ (c .before .before .before .before .before .before .if2 .left), ← c .before .before .before .before .before .is-data .ensures, c .before .before .before .before .if3 .left, ← c .before .holds .ensures, c .if5 .taken)
 
 returns-6 : tie.Need-returns-6
+unfolding trap
 returns-6 c = rw (table-of (c .before .before .before .before .before .before .before), eq-eqb _ _ (c .before .before .before .before .before .before .if2 .left), ← c .before .before .before .before .before .is-data .ensures, c .before .before .before .before .if3 .left, ← c .before .holds .ensures, c .if5 .left, le-leb _ _ (c .before .before .if4 .left))
 
 pub put-number-spec : {M : Type 1} → statement M

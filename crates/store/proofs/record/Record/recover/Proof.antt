@@ -4,6 +4,7 @@ use mathlib.Core.Bool.{cond}
 use native.Mathlib.Omega.{arith}
 use borrow.Author.Tests.{eq-eqb, ne-eqb, eqb-false}
 use lib.Dec.{eqb}
+use Rattle.journal.specs.Geometry.{trap}
 use Rattle.journal.specs.declared.choice.Choice.{Choice}
 use Rattle.journal.specs.Choice.{choiceNumber}
 use Rattle.store.specs.State.{State, down}
@@ -19,15 +20,16 @@ use borrow.Author.Needs.{needs}
 use Rattle.store.proofs.record.Record.recover.Statement.{statement}
 use Rattle.store.proofs.record.Record.recover.Tie as tie
 
+
 abbrev given : tie.Start → State
 given c = stateOf (c .args .self) (c .args .settled .now) (c .args .waiting .now) (c .args .work .now)
 
 -- the table once rows 1 and 2 are known
-table-of : (c : tie.After-bad-record) → cause recover (given (c .before .before .before .before .before .before)) ≡ cond (eqb (c .bad-record .result) 0) (first (ownRows recover) (given (c .before .before .before .before .before .before))) (c .bad-record .result)
-table-of c = cause-2 (given (c .before .before .before .before .before .before)) (c .bad-record .result) (ownRows recover) (c .bad-record .ensures)
+table-of : (c : tie.After-bad-record) → cause trap recover (given (c .before .before .before .before .before .before)) ≡ cond (eqb (c .bad-record .result) 0) (first (ownRows trap recover) (given (c .before .before .before .before .before .before))) (c .bad-record .result)
+table-of c = cause-2 trap (given (c .before .before .before .before .before .before)) (c .bad-record .result) (ownRows trap recover) (c .bad-record .ensures)
 
-checked : (c : tie.Else1) → Checked (given (c .before .before .before .before .before .before .before))
-checked c = passes-sound (power 0) (given (c .before .before .before .before .before .before .before)) (c .before .bad-record .result) refl (c .before .bad-record .ensures) (c .if1 .left)
+checked : (c : tie.Else1) → Checked trap (given (c .before .before .before .before .before .before .before))
+checked c = passes-sound trap (power 0) (given (c .before .before .before .before .before .before .before)) (c .before .bad-record .result) refl (c .before .bad-record .ensures) (c .if1 .left)
 
 bad-record-requires : tie.Need-bad-record-requires
 bad-record-requires c κs = search needs
@@ -84,7 +86,7 @@ choose-requires c κs = let s = checked (c .before .before .before .before .befo
 recovered-requires : tie.Need-recovered-requires
 recovered-requires c κs =
     let s = checked (c .before .before .before .before .before .before .before .before) in
-    (omega arith, (idle (given (c .before .before .before .before .before .before .before .before .before .before .before .before .before .before .before)) s (c .before .before .before .before .before .before .if2 .left), omega arith))
+    (omega arith, (idle trap (given (c .before .before .before .before .before .before .before .before .before .before .before .before .before .before .before)) s (c .before .before .before .before .before .before .if2 .left), omega arith))
 
 same-length-7 : tie.Need-same-length-7
 same-length-7 c = search needs
@@ -98,7 +100,7 @@ returns-4 c =
     let e = r .before .before .before .before .before .before .before .before .before in
     let st = given (r .before .before .before .before .before .before .before .before .before .before .before .before .before .before .before .before) in
     r .recovered .ensures (st .work) ∙ ap (λ (x : Choice). unless (choiceNumber x) st (recovering x st)) (r .before .before .before .choose .ensures)
-    ∙ recover-call st (e .before .bad-record .result) (e .before .bad-record .ensures) (e .if1 .left) (r .before .before .before .before .before .before .before .if2 .left) (r .before .before .before .before .before .if3 .left)
+    ∙ recover-call trap st (e .before .bad-record .result) (e .before .bad-record .ensures) (e .if1 .left) (r .before .before .before .before .before .before .before .if2 .left) (r .before .before .before .before .before .if3 .left)
 
 pub recover-spec : {M : Type 1} → statement M
 recover-spec =

@@ -5,6 +5,7 @@ use mathlib.Core.List.{List, []}
 use native.Mathlib.Omega.{arith}
 use borrow.Author.Tests.{eqb-false}
 use Rattle.card.specs.declared.queue.Queue.{Queue}
+use Rattle.journal.specs.Geometry.{trap}
 use Rattle.journal.specs.Orders.{fallbackOrders}
 use Rattle.journal.specs.declared.choice.Choice.{Choice}
 use Rattle.journal.specs.Choice.{choiceNumber}
@@ -57,6 +58,7 @@ queue-requires : tie.Need-queue-requires
 queue-requires c κs = search needs
 
 fallback-requires : tie.Need-fallback-requires
+unfolding trap
 fallback-requires c κs =
     let start = c .before .before .before .before .before .before .before .before in
     let none : c .before .before .queue .result .waiting ≡ 0 = ap (λ (q : Queue). q .waiting) (c .before .before .queue .ensures) ∙ start .pre .1 .0 in

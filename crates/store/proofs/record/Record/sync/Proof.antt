@@ -1,6 +1,7 @@
 -- `store::record::Record::sync` meets its contract.
 use mathlib.Core.Path.{_∙_}
 use native.Mathlib.Omega.{arith}
+use Rattle.journal.specs.Geometry.{trap}
 use Rattle.store.specs.State.{State}
 use Rattle.store.specs.CodeState.{stateOf}
 use Rattle.store.specs.Saves.{syncCall}
@@ -10,12 +11,13 @@ use borrow.Author.Needs.{needs}
 use Rattle.store.proofs.record.Record.sync.Statement.{statement}
 use Rattle.store.proofs.record.Record.sync.Tie as tie
 
+
 abbrev given : tie.Start → State
 given c = stateOf (c .args .self) (c .args .settled .now) (c .args .waiting .now) (c .args .work .now)
 
 -- what the table has shown
-checked : (c : tie.Else1) → Ready (given (c .before .before .before .before .before .before .before))
-checked c = ready (given (c .before .before .before .before .before .before .before)) (c .before .not-open .result) (c .before .not-open .ensures) (c .if1 .left)
+checked : (c : tie.Else1) → Ready trap (given (c .before .before .before .before .before .before .before))
+checked c = ready trap (given (c .before .before .before .before .before .before .before)) (c .before .not-open .result) (c .before .not-open .ensures) (c .if1 .left)
 
 not-open-requires : tie.Need-not-open-requires
 not-open-requires c κs = search needs
@@ -55,7 +57,7 @@ returns-2 c =
     let k = c .before .before .before .before .before in
     let start = k .before .before .before .before .before .before .before .before .before .before in
     rw (c .saved .ensures)
-    (sync-ends (given start) (checked (k .before .before .before) .live) _ _ _ _ (k .synced .ensures) ∙ call-done _ _ _ _ (k .before .before .before .before .not-open .ensures) (k .before .before .before .if1 .left))
+    (sync-ends trap (given start) (checked (k .before .before .before) .live) _ _ _ _ (k .synced .ensures) ∙ call-done _ _ _ _ (k .before .before .before .before .not-open .ensures) (k .before .before .before .if1 .left))
 
 pub sync-spec : {M : Type 1} → statement M
 sync-spec =

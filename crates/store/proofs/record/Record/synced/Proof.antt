@@ -3,6 +3,7 @@ use mathlib.Core.Path.{ap, refl, sym, _∙_}
 use mathlib.Core.Logic.{_≢_}
 use native.Mathlib.Omega.{arith}
 use borrow.Author.Tests.{eqb-false}
+use Rattle.journal.specs.Geometry.{trap}
 use Rattle.store.specs.State.{State, Outcome, openMode, down}
 use Rattle.store.specs.CodeState.{stateOf}
 use Rattle.store.proofs.Saves.{sync-none, sync-room, sync-dead, sync-on, sync-live}
@@ -23,12 +24,14 @@ left c = stateOf (c .emptied .result) (c .emptied .last .1 .0) (c .emptied .last
 returns : tie.Need-returns
 returns c =
     let a = c .before .before .before .before .before .args in
-    sync-none (stateOf (a .self) (a .settled .now) (a .waiting .now) (a .work .now)) (c .if1 .taken)
+    sync-none trap (stateOf (a .self) (a .settled .now) (a .waiting .now) (a .work .now)) (c .if1 .taken)
 
 add-if2 : tie.Need-add-if2
+unfolding trap
 add-if2 c = search needs
 
 appended-requires : tie.Need-appended-requires
+unfolding trap
 appended-requires c κs = search needs
 
 same-length : tie.Need-same-length
@@ -38,10 +41,11 @@ same-length-2 : tie.Need-same-length-2
 same-length-2 c = search needs
 
 returns-2 : tie.Need-returns-2
+unfolding trap
 returns-2 c =
     let k = c .before .before .before .before in
     let a = k .before .before .before .before .before .before .before .before .before .before .args in
-    k .appended .ensures ∙ ap (λ (o : Outcome). o .state) (sync-room (stateOf (a .self) (a .settled .now) (a .waiting .now) (a .work .now)) (k .before .before .before .before .before .if1 .left) (k .before .before .before .if2 .taken))
+    k .appended .ensures ∙ ap (λ (o : Outcome). o .state) (sync-room trap (stateOf (a .self) (a .settled .now) (a .waiting .now) (a .work .now)) (k .before .before .before .before .before .if1 .left) (k .before .before .before .if2 .taken))
 
 emptied-requires : tie.Need-emptied-requires
 emptied-requires c κs =
@@ -55,15 +59,17 @@ same-length-4 : tie.Need-same-length-4
 same-length-4 c = search needs
 
 returns-3 : tie.Need-returns-3
+unfolding trap
 returns-3 c =
     let k = c .before .before .before .before .before .before in
-    sync-dead (given (k .before .before .before .before .before .before .before .before .before .before)) (k .before .before .before .before .before .if1 .left) (k .before .before .before .if2 .left) (live (k .before .before .before .before .before .before .before .before .before .before)) (left k) (k .emptied .ensures _) (c .if3 .taken)
+    sync-dead trap (given (k .before .before .before .before .before .before .before .before .before .before)) (k .before .before .before .before .before .if1 .left) (k .before .before .before .if2 .left) (live (k .before .before .before .before .before .before .before .before .before .before)) (left k) (k .emptied .ensures _) (c .if3 .taken)
 
 appended-requires-2 : tie.Need-appended-requires-2
+unfolding trap
 appended-requires-2 c κs =
     let k = c .before .before .before .before .before .before .before .before in
     let start = k .before .before .before .before .before .before .before .before .before .before in
-    let x = sync-on (given start) (k .before .before .before .before .before .if1 .left) (k .before .before .before .if2 .left) (live start) (left k) (k .emptied .ensures _) (c .before .before .if3 .left) in
+    let x = sync-on trap (given start) (k .before .before .before .before .before .if1 .left) (k .before .before .before .if2 .left) (live start) (left k) (k .emptied .ensures _) (c .before .before .if3 .left) in
     (omega arith, (omega arith, (omega arith, (omega arith, omega arith))))
 
 same-length-5 : tie.Need-same-length-5
@@ -73,10 +79,11 @@ same-length-6 : tie.Need-same-length-6
 same-length-6 c = search needs
 
 returns-4 : tie.Need-returns-4
+unfolding trap
 returns-4 c =
     let n = c .before .before .before .before in
     let k = n .before .before .before .before .before .before .before .before .before in
-    sync-live (given (k .before .before .before .before .before .before .before .before .before .before)) (k .before .before .before .before .before .if1 .left) (k .before .before .before .if2 .left) (live (k .before .before .before .before .before .before .before .before .before .before)) (left k) (k .emptied .ensures _) (n .before .before .before .if3 .left) _ (n .appended2 .ensures)
+    sync-live trap (given (k .before .before .before .before .before .before .before .before .before .before)) (k .before .before .before .before .before .if1 .left) (k .before .before .before .if2 .left) (live (k .before .before .before .before .before .before .before .before .before .before)) (left k) (k .emptied .ensures _) (n .before .before .before .if3 .left) _ (n .appended2 .ensures)
 
 pub synced-spec : {M : Type 1} → statement M
 synced-spec =
