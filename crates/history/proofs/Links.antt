@@ -14,20 +14,25 @@ use Rattle.card.specs.Card.{Order}
 use Rattle.journal.specs.Log.{entries}
 use Rattle.journal.proofs.Logs.{sumOf-lt}
 use Rattle.store.specs.declared.record.Record.{Record}
+use Rattle.store.specs.Local as Local
+use Rattle.store.specs.Local.{Local}
+use Rattle.store.specs.Save as Save
+use Rattle.store.specs.Save.{Save}
 use Rattle.store.specs.Request as Request
 use Rattle.store.specs.State.{State, Outcome, openMode, down, withMode, withLog}
 use Rattle.store.specs.CodeState.{stateOf}
 use Rattle.store.specs.Causes.{cause}
 use Rattle.store.specs.Format.{formatted, formatCall}
 use Rattle.store.specs.Power.{powerCall}
-use Rattle.store.specs.Saves.{carried, applies, metByAppend, innerOrders, syncing, syncCall, applyCall, recoverCall, cutCall}
+use Rattle.store.specs.Saves.{carried, applies, metByAppend, innerOrders, syncing, syncCall, applyCall, recoverCall}
+use Rattle.store.specs.Cut.{cutCall}
 use Rattle.store.proofs.Saves.{apply-carried}
 use Rattle.store.proofs.Causes.{sizes-facts}
 use Rattle.firmware.specs.Face.{recordBytes, decodeRecord, Face, faced, handed, Got, gotIn, got}
 use Rattle.firmware.proofs.Records.{length-encode, Fitting, decode-encode}
 use Rattle.firmware.proofs.Faces.{faced-length, faced-outcome, got-place}
-use Rattle.history.specs.Call.{Call, requestOf, power, put, get, commit, abandon, sync, apply, recover, cut}
-use Rattle.history.specs.Plain.{Plain, Done, refusal, served, plainStep, plainSync, plainApply, plainRecover, plainCut}
+use Rattle.history.specs.Call.{Call, requestOf, local, save, cut, power, put, commit, abandon}
+use Rattle.history.specs.Plain.{Plain, Done, refusal, locally, saving, served, plainStep, plainSync, plainApply, plainRecover, plainCut}
 use Rattle.history.specs.Dispatch.{dispatch}
 use Rattle.history.specs.Ledger.{Ledger, entered}
 use Rattle.history.specs.History.{World, begun, next, after, foundWritten}
@@ -66,16 +71,22 @@ recover-power d = go (d .F) refl (decLe 2 (d .power))
     go true f (yes q) = rw (recover-fallback d f q) (omega arith)
     go true f (no q) = rw (recover-short d f (omega arith)) (omega arith)
 
+local-power : (c : Local) (d : Plain) → Passable (local c) → d .power < 2 ^ 32 → locally c d .power < 2 ^ 32
+local-power (Local.power k) d p h = p k refl
+local-power (Local.put a b) d p h = h
+local-power (Local.get a) d p h = h
+local-power Local.commit d p h = h
+local-power Local.abandon d p h = h
+
+save-power : (c : Save) (d : Plain) → saving c d .plain .power ≤ d .power
+save-power Save.sync d = sync-power d
+save-power Save.apply d = apply-power d
+save-power Save.recover d = recover-power d
+
 served-power : (c : Call) (t : Bool) (d : Plain) → Passable c → d .power < 2 ^ 32 → served c t d .plain .power < 2 ^ 32
 unfolding plainCut
-served-power (power k) t d p h = p k refl
-served-power (put a b) t d p h = h
-served-power (get a) t d p h = h
-served-power commit t d p h = h
-served-power abandon t d p h = h
-served-power sync t d p h = omega (arith, sync-power d)
-served-power apply t d p h = omega (arith, apply-power d)
-served-power recover t d p h = omega (arith, recover-power d)
+served-power (local c) t d p h = local-power c d p h
+served-power (save c) t d p h = omega (arith, save-power c d)
 served-power (cut ms) t d p h = h
 
 plain-power : (c : Call) (t : Bool) (d : Plain) → Passable c → d .power < 2 ^ 32 → plainStep c t d .plain .power < 2 ^ 32
@@ -142,15 +153,15 @@ module _ (st : State) (l : Ledger) (s : Safe st l) where
 
   served-sums : (c : Call) → cause (requestOf c) st ≡ 0 → Sums st (dispatch c st)
   unfolding powerCall syncCall applyCall recoverCall cutCall
-  served-sums (power k) h = rw (eq-eqb _ 0 h) (_⊎_.inr (_⊎_.inl refl))
-  served-sums (put a b) h = _⊎_.inl (still-open (put a b) (Request.put a b) refl refl h refl)
-  served-sums (get a) h = _⊎_.inr (_⊎_.inl refl)
-  served-sums commit h = _⊎_.inl (still-open commit Request.commit refl refl h refl)
-  served-sums abandon h = _⊎_.inl (still-open abandon Request.abandon refl refl h refl)
-  served-sums sync h =
+  served-sums (local (Local.power k)) h = rw (eq-eqb _ 0 h) (_⊎_.inr (_⊎_.inl refl))
+  served-sums (local (Local.put a b)) h = _⊎_.inl (still-open (put a b) (Request.put a b) refl refl h refl)
+  served-sums (local (Local.get a)) h = _⊎_.inr (_⊎_.inl refl)
+  served-sums (local Local.commit) h = _⊎_.inl (still-open commit Request.commit refl refl h refl)
+  served-sums (local Local.abandon) h = _⊎_.inl (still-open abandon Request.abandon refl refl h refl)
+  served-sums (save Save.sync) h =
       rw (eq-eqb _ 0 h) (sync-sums st (is-open st (s .ledger) (s .plain) (s .sim) Request.sync refl (cause-passes Request.sync st h) .mode))
-  served-sums apply h = rw (eq-eqb _ 0 h, apply-carried st) (apply-sums st _)
-  served-sums recover h = rw (eq-eqb _ 0 h) (carried-sums _ _ _ st (_⊎_.inl refl) (_⊎_.inl refl))
+  served-sums (save Save.apply) h = rw (eq-eqb _ 0 h, apply-carried st) (apply-sums st _)
+  served-sums (save Save.recover) h = rw (eq-eqb _ 0 h) (carried-sums _ _ _ st (_⊎_.inl refl) (_⊎_.inl refl))
   served-sums (cut ms) h = rw (eq-eqb _ 0 h) (_⊎_.inr (_⊎_.inr refl))
 
   sums : (c : Call) → Sums st (dispatch c st)
@@ -234,20 +245,21 @@ linked-call c f st e g = record {
   left = handed-holds (dispatch c st) (faceNext c f) e;
 }
 
-links : (c : Call) (f : Face) (st : State) → BytesOf f st → Fitting (st .rec) → Links c f st
-links (power k) f st h t = linked-call (power k) f st (faced-next (dispatch (power k)) f st h t) (got-next f st h t)
-links (put a b) f st h t = linked-call (put a b) f st (faced-next (dispatch (put a b)) f st h t) (got-next f st h t)
-links (get a) f st h t = record {
+local-links : (c : Local) (f : Face) (st : State) → BytesOf f st → Fitting (st .rec) → Links (local c) f st
+local-links (Local.power k) f st h t = linked-call (power k) f st (faced-next (dispatch (power k)) f st h t) (got-next f st h t)
+local-links (Local.put a b) f st h t = linked-call (put a b) f st (faced-next (dispatch (put a b)) f st h t) (got-next f st h t)
+local-links (Local.get a) f st h t = record {
   number = ap (λ (x : Got). x .number) (got-next f st h t a);
   orders = refl;
   place = got-next f st h t;
   left = record { rec = h .rec; settled = h .settled; waiting = h .waiting; work = h .work };
 }
-links commit f st h t = linked-call commit f st (faced-next (dispatch commit) f st h t) (got-next f st h t)
-links abandon f st h t = linked-call abandon f st (faced-next (dispatch abandon) f st h t) (got-next f st h t)
-links sync f st h t = linked-call sync f st (faced-next (dispatch sync) f st h t) (got-next f st h t)
-links apply f st h t = linked-call apply f st (faced-next (dispatch apply) f st h t) (got-next f st h t)
-links recover f st h t = linked-call recover f st (faced-next (dispatch recover) f st h t) (got-next f st h t)
+local-links Local.commit f st h t = linked-call commit f st (faced-next (dispatch commit) f st h t) (got-next f st h t)
+local-links Local.abandon f st h t = linked-call abandon f st (faced-next (dispatch abandon) f st h t) (got-next f st h t)
+
+links : (c : Call) (f : Face) (st : State) → BytesOf f st → Fitting (st .rec) → Links c f st
+links (local c) f st h t = local-links c f st h t
+links (save c) f st h t = linked-call (save c) f st (faced-next (dispatch (save c)) f st h t) (got-next f st h t)
 links (cut ms) f st h t = linked-call (cut ms) f st (faced-next (dispatch (cut ms)) f st h t) (got-next f st h t)
 
 -- ---- a list of calls

@@ -7,8 +7,12 @@ use native.Mathlib.Omega.{arith}
 use native.Mathlib.Decide.{ℕ-discrete, decLe}
 use borrow.Author.Tests.{eq-eqb, ne-eqb}
 use lib.ListN.{length}
-use Rattle.history.specs.Call.{Call, power, put, get, commit, abandon, sync, apply, recover, cut}
-use Rattle.history.specs.Plain.{Plain, Done, whenOpen, served, plainSync, plainApply, plainRecover, plainCut, syncTakes}
+use Rattle.store.specs.Local as Local
+use Rattle.store.specs.Local.{Local}
+use Rattle.store.specs.Save as Save
+use Rattle.store.specs.Save.{Save}
+use Rattle.history.specs.Call.{Call, local, save, cut}
+use Rattle.history.specs.Plain.{Plain, Done, whenOpen, locally, saving, served, plainSync, plainApply, plainRecover, plainCut, syncTakes}
 use Rattle.history.proofs.PlainLaws.{sync-nothing, sync-finished, sync-short, apply-nothing, apply-finished, apply-short, recover-whole, recover-fallback, recover-short}
 
 abbrev pub Either : ℕ → Type 0
@@ -48,18 +52,30 @@ recover-answer d = go (d .F) refl (decLe 2 (d .power))
     go true f (yes q) = _⊎_.inl (ap (λ (o : Done). o .answer) (recover-fallback d f q))
     go true f (no q) = _⊎_.inr (ap (λ (o : Done). o .answer) (recover-short d f (omega arith)))
 
+pub save-answer : (c : Save) (d : Plain) → Either (saving c d .answer)
+save-answer Save.sync d = sync-answer d
+save-answer Save.apply d = apply-answer d
+save-answer Save.recover d = recover-answer d
+
 -- done or power gone
 pub served-answer : (c : Call) (f : Bool) (d : Plain) → Either (served c f d .answer)
 unfolding plainCut
-served-answer (power k) f d = _⊎_.inl refl
-served-answer (put a b) f d = _⊎_.inl refl
-served-answer (get a) f d = _⊎_.inl refl
-served-answer commit f d = _⊎_.inl refl
-served-answer abandon f d = _⊎_.inl refl
-served-answer sync f d = sync-answer d
-served-answer apply f d = apply-answer d
-served-answer recover f d = recover-answer d
+served-answer (local c) f d = _⊎_.inl refl
+served-answer (save c) f d = save-answer c d
 served-answer (cut ms) f d = _⊎_.inl refl
+
+-- a local call changes the lists and the power alone
+pub record SameBut (d e : Plain) : Type 0 where
+  pub N : e .N ≡ d .N
+  pub S : e .S ≡ d .S
+  pub mode : e .mode ≡ d .mode
+
+pub locally-same : (c : Local) (d : Plain) → SameBut d (locally c d)
+locally-same (Local.power k) d = record { N = refl; S = refl; mode = refl }
+locally-same (Local.put a b) d = record { N = refl; S = refl; mode = refl }
+locally-same (Local.get a) d = record { N = refl; S = refl; mode = refl }
+locally-same Local.commit d = record { N = refl; S = refl; mode = refl }
+locally-same Local.abandon d = record { N = refl; S = refl; mode = refl }
 
 -- ---- modes
 

@@ -18,12 +18,14 @@ use Rattle.journal.specs.declared.choice.Choice.{Choice}
 use Rattle.journal.specs.Log.{headerOf, entries, sumOf}
 use Rattle.journal.specs.Choice.{takenCount}
 use Rattle.journal.proofs.Choices.{both}
+use Rattle.store.specs.Local as Local
+use Rattle.store.specs.Save as Save
 use Rattle.store.specs.Request as Request
 use Rattle.store.specs.State.{State, Outcome, closed, openMode, withQueue, withRecord}
 use Rattle.store.specs.Causes.{cause}
 use Rattle.store.specs.Outcomes.{completed}
 use Rattle.store.specs.Power.{powerCall}
-use Rattle.history.specs.Call.{Call, requestOf, power, put, get, commit, abandon, sync, apply, recover, cut}
+use Rattle.history.specs.Call.{Call, requestOf, local, save, cut, power, sync, recover}
 use Rattle.history.specs.Plain.{Plain, Done, refusal, served, plainStep, plainSync, plainApply, plainRecover}
 use Rattle.history.specs.Dispatch.{dispatch}
 use Rattle.history.specs.Ledger.{Ledger, recoverHeaders, noted, entered, taken, logFound, sameLog}
@@ -41,18 +43,6 @@ use Rattle.history.proofs.ListInduction.{step, next-sim, next-safe, aft
 use Rattle.history.proofs.PlainAnswers.{when-open, sync-cases}
 
 -- ---- a call after which the record is closed, that was no accepted cut, found it so
-
--- the calls that may leave a closed record
-abbrev MayClose : Call → Type 0
-MayClose (power k) = Unit {0}
-MayClose (put a b) = ⊥
-MayClose (get a) = ⊥
-MayClose commit = ⊥
-MayClose abandon = ⊥
-MayClose sync = ⊥
-MayClose apply = ⊥
-MayClose recover = ⊥
-MayClose (cut ms) = Unit {0}
 
 sync-mode : (d : Plain) → d .mode ≢ 0 → plainSync d .plain .mode ≢ 0
 sync-mode d h =
@@ -80,19 +70,6 @@ recover-mode d e = go (d .F) refl (decLe 2 (d .power))
 past : (t : Bool) (k : ℕ) → _≡_ {A = ℕ} (cond t 1 k) 0 → k ≡ 0
 past true k h = absurd (omega arith)
 past false k h = h
-
--- a call that is not refused
-may-close : (c : Call) (f : Bool) (d : Plain) → refusal c d ≡ 0 → served c f d .plain .mode ≡ 0 → MayClose c
-unfolding refusal
-may-close (power k) f d h e = tt
-may-close (put a b) f d h e = when-open d _ (past (not (eqb (length b) blockBytes)) _ h) .0 e
-may-close (get a) f d h e = when-open d _ h .0 e
-may-close commit f d h e = when-open d _ h .0 e
-may-close abandon f d h e = when-open d _ h .0 e
-may-close sync f d h e = sync-mode d (when-open d _ h .0) e
-may-close apply f d h e = apply-mode d (when-open d _ h .0) e
-may-close recover f d h e = recover-mode d e
-may-close (cut ms) f d h e = tt
 
 pub record Unmoved (c : Call) (w : World) : Type 0 where
   pub mode : w .store .rec .mode ≡ closed
@@ -129,16 +106,19 @@ cut-accepted ms w m h =
     let e : dispatch (cut ms) (w .store) .answer ≡ 0 = ap (λ (o : Outcome). o .answer) (served-cut ms w m h) in
     rw e
 
-served-unmoved : (c : Call) (w : World) → WorldSim w → refusal c (w .plain) ≡ 0 → acceptedCut c w ≡ false → storeNext c w .rec .mode ≡ closed → MayClose c → Unmoved c w
-served-unmoved (power k) w m h a z q = power-unmoved k w m z
-served-unmoved (put i b) w m h a z q = absurd q
-served-unmoved (get i) w m h a z q = absurd q
-served-unmoved commit w m h a z q = absurd q
-served-unmoved abandon w m h a z q = absurd q
-served-unmoved sync w m h a z q = absurd q
-served-unmoved apply w m h a z q = absurd q
-served-unmoved recover w m h a z q = absurd q
-served-unmoved (cut ms) w m h a z q = absurd (true≢false (sym (cut-accepted ms w m h) ∙ a))
+-- a call that is not refused: power, or a cut; every other leaves a record that is not closed
+served-unmoved : (c : Call) (w : World) → WorldSim w → refusal c (w .plain) ≡ 0 → acceptedCut c w ≡ false → storeNext c w .rec .mode ≡ closed
+    → served c (foundWritten c w) (w .plain) .plain .mode ≡ 0 → Unmoved c w
+unfolding refusal
+served-unmoved (local (Local.power k)) w m h a z e = power-unmoved k w m z
+served-unmoved (local (Local.put i b)) w m h a z e = absurd (when-open (w .plain) _ (past (not (eqb (length b) blockBytes)) _ h) .0 e)
+served-unmoved (local (Local.get i)) w m h a z e = absurd (when-open (w .plain) _ h .0 e)
+served-unmoved (local Local.commit) w m h a z e = absurd (when-open (w .plain) _ h .0 e)
+served-unmoved (local Local.abandon) w m h a z e = absurd (when-open (w .plain) _ h .0 e)
+served-unmoved (save Save.sync) w m h a z e = absurd (sync-mode (w .plain) (when-open (w .plain) _ h .0) e)
+served-unmoved (save Save.apply) w m h a z e = absurd (apply-mode (w .plain) (when-open (w .plain) _ h .0) e)
+served-unmoved (save Save.recover) w m h a z e = absurd (recover-mode (w .plain) e)
+served-unmoved (cut ms) w m h a z e = absurd (true≢false (sym (cut-accepted ms w m h) ∙ a))
 
 stays : (c : Call) (w : World) → WorldSim w → acceptedCut c w ≡ false → storeNext c w .rec .mode ≡ closed → Unmoved c w
 stays c w m a z = go (ℕ-discrete (refusal c (w .plain)) 0)
@@ -148,7 +128,7 @@ stays c w m a z = go (ℕ-discrete (refusal c (w .plain)) 0)
 
     go : Dec (refusal c (w .plain) ≡ 0) → Unmoved c w
     go (no h) = unmoved-refused c w m h z
-    go (yes h) = served-unmoved c w m h a z (may-close c (foundWritten c w) (w .plain) h (plain-mode h))
+    go (yes h) = served-unmoved c w m h a z (plain-mode h)
 
 -- ---- the card from the last accepted cut to a recovery
 

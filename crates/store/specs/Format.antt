@@ -7,7 +7,7 @@ use Rattle.card.specs.Card.{blocksIn}
 use Rattle.journal.specs.Layout.{headerAt}
 use Rattle.journal.specs.Header.{encode, emptyHeader}
 use Rattle.store.specs.State.{State, Outcome}
-use Rattle.store.specs.CodeState.{fresh}
+use Rattle.store.specs.CodeState.{stateOf, fresh}
 use Rattle.store.specs.Request.{format}
 use Rattle.store.specs.Causes.{cause}
 use Rattle.store.specs.Outcomes.{completed, unless}
@@ -15,12 +15,10 @@ use Rattle.store.specs.Outcomes.{completed, unless}
 unfoldable pub formatted : State → State
 formatted st =
     let N = blocksIn (st .settled) in
-    record {
-      rec = fresh N;
-      settled = setCell blockBytes (replicate (length (st .settled)) 0) headerAt (encode (emptyHeader N));
-      waiting = replicate (length (st .waiting)) 0;
-      work = replicate (length (st .work)) 0;
-    }
+    stateOf (fresh N)
+    (setCell blockBytes (replicate (length (st .settled)) 0) headerAt (encode (emptyHeader N)))
+    (replicate (length (st .waiting)) 0)
+    (replicate (length (st .work)) 0)
 
 unfoldable pub formatCall : State → Outcome
 formatCall st = unless (cause format st) st (completed (formatted st))
