@@ -13,14 +13,14 @@ use Rattle.card.specs.Card.{blocksIn}
 use Rattle.card.proofs.Overlays.{overlay-nil}
 use Rattle.journal.specs.Layout.{isData}
 use Rattle.journal.proofs.Choices.{both}
-use Rattle.store.specs.Local as Local
+use Rattle.store.specs.Local.{Local}
 use Rattle.store.specs.Save as Save
 use Rattle.store.specs.Save.{Save}
 use Rattle.store.specs.State.{State, Outcome, openMode}
 use Rattle.store.specs.Causes.{cause}
 use Rattle.store.specs.Format.{formatted, formatCall}
-use Rattle.history.specs.Call.{Call, requestOf, local, save, cut, power, put, get, commit, abandon, sync, apply, recover}
-use Rattle.history.specs.Plain.{Plain, Done, fresh, refusal, saving, served, plainStep, plainSync, plainApply, plainRecover, plainCut, plainGet}
+use Rattle.history.specs.Call.{Call, requestOf, local, save, cut, power, get, sync, apply, recover}
+use Rattle.history.specs.Plain.{Plain, Done, fresh, refusal, plainStep, plainRecover, plainGet}
 use Rattle.history.specs.Dispatch.{dispatch, blockOf}
 use Rattle.history.specs.History.{World, begun, next, after, storeNext, ledgerNext, foundWritten}
 use Rattle.history.specs.Statements as S
@@ -29,45 +29,11 @@ use Rattle.history.proofs.PlainLaws as PlainLaws
 use Rattle.history.proofs.Steps.{plainNext, WorldSim, same-cause, dispatch-refused, plain-refused, plain-served}
 use Rattle.history.proofs.CutStep as CutStep
 use Rattle.history.proofs.ListInduction.{step, next-sim, after-sim, after-append, clean-before, clean-first, begun-sim, formatted-now}
-use Rattle.history.proofs.PlainAnswers.{sync-cases, locally-same}
+use Rattle.history.proofs.PlainAnswers.{sync-cases, LocalKind, powers, opens, local-kind, served-N}
 use Rattle.history.proofs.ReadsBack.{found-closed, plain-same, recovered-sim, recovered-mode, power-served}
 use Rattle.history.proofs.ShortSyncs.{Watch, open-now, closed-watch, watch-list, short-plain}
 
 -- ---- N never changes
-
-sync-N : (d : Plain) → plainSync d .plain .N ≡ d .N
-sync-N d =
-    sync-cases (λ o. o .plain .N ≡ d .N) d
-    (λ z. ap (λ (o : Done). o .plain .N) (PlainLaws.sync-nothing d z))
-    (λ z p. ap (λ (o : Done). o .plain .N) (PlainLaws.sync-finished d z p))
-    (λ z p. ap (λ (o : Done). o .plain .N) (PlainLaws.sync-short d z p))
-
-apply-N : (d : Plain) → plainApply d .plain .N ≡ d .N
-apply-N d = go (ℕ-discrete (d .n) 0) (decLe (d .n + 3) (d .power))
-  where
-    go : Dec (d .n ≡ 0) → Dec (d .n + 3 ≤ d .power) → plainApply d .plain .N ≡ d .N
-    go (yes z) q = ap (λ (o : Done). o .plain .N) (PlainLaws.apply-nothing d z)
-    go (no z) (yes q) = ap (λ (o : Done). o .plain .N) (PlainLaws.apply-finished d z q)
-    go (no z) (no q) = ap (λ (o : Done). o .plain .N) (PlainLaws.apply-short d z (omega arith))
-
-recover-N : (d : Plain) → plainRecover d .plain .N ≡ d .N
-recover-N d = go (d .F) refl (decLe 2 (d .power))
-  where
-    go : (t : Bool) → d .F ≡ t → Dec (2 ≤ d .power) → plainRecover d .plain .N ≡ d .N
-    go false f q = ap (λ (o : Done). o .plain .N) (PlainLaws.recover-whole d f)
-    go true f (yes q) = ap (λ (o : Done). o .plain .N) (PlainLaws.recover-fallback d f q)
-    go true f (no q) = ap (λ (o : Done). o .plain .N) (PlainLaws.recover-short d f (omega arith))
-
-save-N : (c : Save) (d : Plain) → saving c d .plain .N ≡ d .N
-save-N Save.sync d = sync-N d
-save-N Save.apply d = apply-N d
-save-N Save.recover d = recover-N d
-
-served-N : (c : Call) (f : Bool) (d : Plain) → served c f d .plain .N ≡ d .N
-unfolding plainCut
-served-N (local c) f d = locally-same c d .N
-served-N (save c) f d = save-N c d
-served-N (cut ms) f d = refl
 
 step-N : (c : Call) (f : Bool) (d : Plain) → plainStep c f d .plain .N ≡ d .N
 step-N c f d = go (ℕ-discrete (refusal c d) 0)
@@ -147,12 +113,12 @@ shut-recover w m h nf e = go (w .plain .F) refl (decLe 2 (w .plain .power))
         let k : _≡_ {A = ℕ} 2 1 = sym (step recover w m .agrees .mode ∙ ap (λ (d : Done). d .plain .mode) (P ∙ PlainLaws.recover-short (w .plain) f (omega arith))) ∙ e in
         omega arith
 
+local-shut : (c : Local) (w : World) → LocalKind c → WorldSim w → w .store .rec .mode ≢ openMode → refusal (local c) (w .plain) ≡ 0 → storeNext (local c) w .rec .mode ≢ openMode
+local-shut c w (powers k) m z h e = z (sym (ap (λ (o : Outcome). o .state .rec .mode) (power-served k w m)) ∙ e)
+local-shut c w (opens _ n s) m z h e = z (open-now (local c) w m n h .mode)
+
 served-shut : (c : Call) (w : World) → WorldSim w → w .store .rec .mode ≢ openMode → S.finished c w ≡ false → refusal c (w .plain) ≡ 0 → storeNext c w .rec .mode ≢ openMode
-served-shut (local (Local.power k)) w m z nf h e = z (sym (ap (λ (o : Outcome). o .state .rec .mode) (power-served k w m)) ∙ e)
-served-shut (local (Local.put a b)) w m z nf h e = z (open-now (put a b) w m refl h .mode)
-served-shut (local (Local.get a)) w m z nf h e = z (open-now (get a) w m refl h .mode)
-served-shut (local Local.commit) w m z nf h e = z (open-now commit w m refl h .mode)
-served-shut (local Local.abandon) w m z nf h e = z (open-now abandon w m refl h .mode)
+served-shut (local c) w m z nf h e = local-shut c w (local-kind c) m z h e
 served-shut (save Save.sync) w m z nf h e = z (open-now sync w m refl h .mode)
 served-shut (save Save.apply) w m z nf h e = z (open-now apply w m refl h .mode)
 served-shut (save Save.recover) w m z nf h e = shut-recover w m h nf e

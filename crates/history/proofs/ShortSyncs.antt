@@ -15,13 +15,13 @@ use Rattle.card.specs.Card as Card
 use Rattle.card.specs.Card.{queue}
 use Rattle.journal.specs.Layout.{slots}
 use Rattle.journal.proofs.Choices.{both}
-use Rattle.store.specs.Local as Local
+use Rattle.store.specs.Local.{Local}
 use Rattle.store.specs.Save as Save
 use Rattle.store.specs.Request as Request
 use Rattle.store.specs.State.{State, Outcome, closed, openMode, down, withQueue, withRecord}
 use Rattle.store.specs.Causes.{cause}
 use Rattle.store.specs.Saves.{groupOf}
-use Rattle.history.specs.Call.{Call, requestOf, local, save, cut, power, put, get, commit, abandon, sync, apply, recover}
+use Rattle.history.specs.Call.{Call, requestOf, local, save, cut, power, sync, apply, recover}
 use Rattle.history.specs.Plain as Plain
 use Rattle.history.specs.Plain.{Plain, Done, withPower, Short, ofSync, ofRecover, Verdict, verdict, applies, syncTakes, syncWaits, ownVerdict, unchanged, headerKept, refusal, plainStep, plainSync, plainApply, plainRecover}
 use Rattle.history.specs.Dispatch.{dispatch}
@@ -42,7 +42,7 @@ use Rattle.history.proofs.CutStep as CutStep
 use Rattle.history.proofs.RecoverStep.{is-closed}
 use Rattle.history.proofs.SyncStep.{short-whole}
 use Rattle.history.proofs.ListInduction.{step, next-sim, clean-first}
-use Rattle.history.proofs.PlainAnswers.{sync-cases}
+use Rattle.history.proofs.PlainAnswers.{sync-cases, LocalKind, powers, opens, local-kind}
 use Rattle.history.proofs.ReadsBack.{power-served, cut-accepted}
 
 -- ---- when a cut lays the group of a sync cut short
@@ -453,24 +453,20 @@ module _ (old : Disk) (ms : List ℕ) (w : World) (m : WorldSim w) (h : refusal 
 
 -- ---- every call
 
+local-watch : (old : Disk) (c : Local) (w : World) (f : Progress) → LocalKind c → WorldSim w → refusal (local c) (w .plain) ≡ 0 → Watch old f (w .store) (w .ledger) (w .plain)
+    → Watch old (observe (local c) w f) (storeNext (local c) w) (ledgerNext (local c) w) (plainNext (local c) w)
+unfolding observe shortSync entered
+local-watch old c w f (powers k) m h x =
+    watch-at old (power-same k w f) (ap (λ (o : Outcome). o .state) (power-served k w m)) refl (ap (λ (d : Done). d .plain) (plain-served (power k) (foundWritten (power k) w) (w .plain) h))
+    (power-watch old k f (w .store) (w .ledger) (w .plain) x)
+local-watch old c w f (opens _ n s) m h x =
+    let P = plain-served (local c) (foundWritten (local c) w) (w .plain) h in
+    open-kept old (local c) w f m (open-now (local c) w m n h .mode) x (ap (λ (d : Done). d .plain .mode) P ∙ s (w .plain) .mode) (ap (λ (d : Done). d .plain .S) P ∙ s (w .plain) .S) refl
+
 served-watch : (old : Disk) (c : Call) (w : World) (f : Progress) → WorldSim w → refusal c (w .plain) ≡ 0 → S.finished c w ≡ false → Watch old f (w .store) (w .ledger) (w .plain)
     → Watch old (observe c w f) (storeNext c w) (ledgerNext c w) (plainNext c w)
 unfolding observe shortSync entered
-served-watch old (local (Local.power k)) w f m h nf x =
-    watch-at old (power-same k w f) (ap (λ (o : Outcome). o .state) (power-served k w m)) refl (ap (λ (d : Done). d .plain) (plain-served (power k) (foundWritten (power k) w) (w .plain) h))
-    (power-watch old k f (w .store) (w .ledger) (w .plain) x)
-served-watch old (local (Local.put a b)) w f m h nf x =
-    let P = plain-served (put a b) (foundWritten (put a b) w) (w .plain) h in
-    open-kept old (put a b) w f m (open-now (put a b) w m refl h .mode) x (ap (λ (d : Done). d .plain .mode) P) (ap (λ (d : Done). d .plain .S) P) refl
-served-watch old (local (Local.get a)) w f m h nf x =
-    let P = plain-served (get a) (foundWritten (get a) w) (w .plain) h in
-    open-kept old (get a) w f m (open-now (get a) w m refl h .mode) x (ap (λ (d : Done). d .plain .mode) P) (ap (λ (d : Done). d .plain .S) P) refl
-served-watch old (local Local.commit) w f m h nf x =
-    let P = plain-served commit (foundWritten commit w) (w .plain) h in
-    open-kept old commit w f m (open-now commit w m refl h .mode) x (ap (λ (d : Done). d .plain .mode) P) (ap (λ (d : Done). d .plain .S) P) refl
-served-watch old (local Local.abandon) w f m h nf x =
-    let P = plain-served abandon (foundWritten abandon w) (w .plain) h in
-    open-kept old abandon w f m (open-now abandon w m refl h .mode) x (ap (λ (d : Done). d .plain .mode) P) (ap (λ (d : Done). d .plain .S) P) refl
+served-watch old (local c) w f m h nf x = local-watch old c w f (local-kind c) m h x
 served-watch old (save Save.sync) w f m h nf x = sync-watch old w m h nf f x
 served-watch old (save Save.apply) w f m h nf x = apply-watch old w f m h x
 served-watch old (save Save.recover) w f m h nf x = recover-watch old w f m h nf x
