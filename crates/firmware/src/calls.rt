@@ -6,9 +6,10 @@ use crate::record::encode;
 ghost use mathlib.Core.Path.{_≡_};
 ghost use Rattle.store.specs.Format.{formatCall};
 ghost use Rattle.store.specs.Power.{powerCall};
-ghost use Rattle.store.specs.Put.{putCall, abandonCall};
+ghost use Rattle.store.specs.Put.{putCall};
+ghost use Rattle.store.specs.Abandon.{abandonCall};
 ghost use Rattle.store.specs.Commit.{commitCall};
-ghost use Rattle.store.specs.Saves.{cutCall};
+ghost use Rattle.store.specs.Cut.{cutCall};
 ghost use Rattle.firmware.specs.Face.{faceOf, faced};
 
 #[no_mangle]

@@ -13,11 +13,14 @@ use Rattle.card.specs.Card.{blocksIn}
 use Rattle.card.proofs.Overlays.{overlay-nil}
 use Rattle.journal.specs.Layout.{isData}
 use Rattle.journal.proofs.Choices.{both}
+use Rattle.store.specs.Local.{Local}
+use Rattle.store.specs.Save as Save
+use Rattle.store.specs.Save.{Save}
 use Rattle.store.specs.State.{State, Outcome, openMode}
 use Rattle.store.specs.Causes.{cause}
 use Rattle.store.specs.Format.{formatted, formatCall}
-use Rattle.history.specs.Call.{Call, requestOf, power, put, get, commit, abandon, sync, apply, recover, cut}
-use Rattle.history.specs.Plain.{Plain, Done, fresh, refusal, served, plainStep, plainSync, plainApply, plainRecover, plainCut, plainGet}
+use Rattle.history.specs.Call.{Call, requestOf, local, save, cut, power, get, sync, apply, recover}
+use Rattle.history.specs.Plain.{Plain, Done, fresh, refusal, plainStep, plainRecover, plainGet}
 use Rattle.history.specs.Dispatch.{dispatch, blockOf}
 use Rattle.history.specs.History.{World, begun, next, after, storeNext, ledgerNext, foundWritten}
 use Rattle.history.specs.Statements as S
@@ -26,46 +29,11 @@ use Rattle.history.proofs.PlainLaws as PlainLaws
 use Rattle.history.proofs.Steps.{plainNext, WorldSim, same-cause, dispatch-refused, plain-refused, plain-served}
 use Rattle.history.proofs.CutStep as CutStep
 use Rattle.history.proofs.ListInduction.{step, next-sim, after-sim, after-append, clean-before, clean-first, begun-sim, formatted-now}
-use Rattle.history.proofs.PlainAnswers.{sync-cases}
+use Rattle.history.proofs.PlainAnswers.{sync-cases, LocalKind, powers, opens, local-kind, served-N}
 use Rattle.history.proofs.ReadsBack.{found-closed, plain-same, recovered-sim, recovered-mode, power-served}
 use Rattle.history.proofs.ShortSyncs.{Watch, open-now, closed-watch, watch-list, short-plain}
 
 -- ---- N never changes
-
-sync-N : (d : Plain) → plainSync d .plain .N ≡ d .N
-sync-N d =
-    sync-cases (λ o. o .plain .N ≡ d .N) d
-    (λ z. ap (λ (o : Done). o .plain .N) (PlainLaws.sync-nothing d z))
-    (λ z p. ap (λ (o : Done). o .plain .N) (PlainLaws.sync-finished d z p))
-    (λ z p. ap (λ (o : Done). o .plain .N) (PlainLaws.sync-short d z p))
-
-apply-N : (d : Plain) → plainApply d .plain .N ≡ d .N
-apply-N d = go (ℕ-discrete (d .n) 0) (decLe (d .n + 3) (d .power))
-  where
-    go : Dec (d .n ≡ 0) → Dec (d .n + 3 ≤ d .power) → plainApply d .plain .N ≡ d .N
-    go (yes z) q = ap (λ (o : Done). o .plain .N) (PlainLaws.apply-nothing d z)
-    go (no z) (yes q) = ap (λ (o : Done). o .plain .N) (PlainLaws.apply-finished d z q)
-    go (no z) (no q) = ap (λ (o : Done). o .plain .N) (PlainLaws.apply-short d z (omega arith))
-
-recover-N : (d : Plain) → plainRecover d .plain .N ≡ d .N
-recover-N d = go (d .F) refl (decLe 2 (d .power))
-  where
-    go : (t : Bool) → d .F ≡ t → Dec (2 ≤ d .power) → plainRecover d .plain .N ≡ d .N
-    go false f q = ap (λ (o : Done). o .plain .N) (PlainLaws.recover-whole d f)
-    go true f (yes q) = ap (λ (o : Done). o .plain .N) (PlainLaws.recover-fallback d f q)
-    go true f (no q) = ap (λ (o : Done). o .plain .N) (PlainLaws.recover-short d f (omega arith))
-
-served-N : (c : Call) (f : Bool) (d : Plain) → served c f d .plain .N ≡ d .N
-unfolding plainCut
-served-N (power k) f d = refl
-served-N (put a b) f d = refl
-served-N (get a) f d = refl
-served-N commit f d = refl
-served-N abandon f d = refl
-served-N sync f d = sync-N d
-served-N apply f d = apply-N d
-served-N recover f d = recover-N d
-served-N (cut ms) f d = refl
 
 step-N : (c : Call) (f : Bool) (d : Plain) → plainStep c f d .plain .N ≡ d .N
 step-N c f d = go (ℕ-discrete (refusal c d) 0)
@@ -105,14 +73,10 @@ sync-opens w m h =
 
 finished-opens : (c : Call) (w : World) → WorldSim w → S.finished c w ≡ true → storeNext c w .rec .mode ≡ openMode
 unfolding S.finished
-finished-opens (power k) w m h = absurd (mathlib.Core.Bool.false≢true h)
-finished-opens (put a b) w m h = absurd (mathlib.Core.Bool.false≢true h)
-finished-opens (get a) w m h = absurd (mathlib.Core.Bool.false≢true h)
-finished-opens commit w m h = absurd (mathlib.Core.Bool.false≢true h)
-finished-opens abandon w m h = absurd (mathlib.Core.Bool.false≢true h)
-finished-opens sync w m h = sync-opens w m (eqb-true _ _ h)
-finished-opens apply w m h = absurd (mathlib.Core.Bool.false≢true h)
-finished-opens recover w m h = recovered-mode w m (eqb-true _ _ h)
+finished-opens (local c) w m h = absurd (mathlib.Core.Bool.false≢true h)
+finished-opens (save Save.sync) w m h = sync-opens w m (eqb-true _ _ h)
+finished-opens (save Save.apply) w m h = absurd (mathlib.Core.Bool.false≢true h)
+finished-opens (save Save.recover) w m h = recovered-mode w m (eqb-true _ _ h)
 finished-opens (cut ms) w m h = absurd (mathlib.Core.Bool.false≢true h)
 
 begun-open : (st : State) → formatCall st .answer ≡ 0 → begun st .store .rec .mode ≡ openMode
@@ -149,15 +113,15 @@ shut-recover w m h nf e = go (w .plain .F) refl (decLe 2 (w .plain .power))
         let k : _≡_ {A = ℕ} 2 1 = sym (step recover w m .agrees .mode ∙ ap (λ (d : Done). d .plain .mode) (P ∙ PlainLaws.recover-short (w .plain) f (omega arith))) ∙ e in
         omega arith
 
+local-shut : (c : Local) (w : World) → LocalKind c → WorldSim w → w .store .rec .mode ≢ openMode → refusal (local c) (w .plain) ≡ 0 → storeNext (local c) w .rec .mode ≢ openMode
+local-shut c w (powers k) m z h e = z (sym (ap (λ (o : Outcome). o .state .rec .mode) (power-served k w m)) ∙ e)
+local-shut c w (opens _ n s) m z h e = z (open-now (local c) w m n h .mode)
+
 served-shut : (c : Call) (w : World) → WorldSim w → w .store .rec .mode ≢ openMode → S.finished c w ≡ false → refusal c (w .plain) ≡ 0 → storeNext c w .rec .mode ≢ openMode
-served-shut (power k) w m z nf h e = z (sym (ap (λ (o : Outcome). o .state .rec .mode) (power-served k w m)) ∙ e)
-served-shut (put a b) w m z nf h e = z (open-now (put a b) w m refl h .mode)
-served-shut (get a) w m z nf h e = z (open-now (get a) w m refl h .mode)
-served-shut commit w m z nf h e = z (open-now commit w m refl h .mode)
-served-shut abandon w m z nf h e = z (open-now abandon w m refl h .mode)
-served-shut sync w m z nf h e = z (open-now sync w m refl h .mode)
-served-shut apply w m z nf h e = z (open-now apply w m refl h .mode)
-served-shut recover w m z nf h e = shut-recover w m h nf e
+served-shut (local c) w m z nf h e = local-shut c w (local-kind c) m z h e
+served-shut (save Save.sync) w m z nf h e = z (open-now sync w m refl h .mode)
+served-shut (save Save.apply) w m z nf h e = z (open-now apply w m refl h .mode)
+served-shut (save Save.recover) w m z nf h e = shut-recover w m h nf e
 served-shut (cut ms) w m z nf h e = let k : _≡_ {A = ℕ} 0 1 = sym (ap (λ (s : State). s .rec .mode) (CutStep.store-cut ms w m h)) ∙ e in omega arith
 
 stays-shut : (c : Call) (w : World) → WorldSim w → w .store .rec .mode ≢ openMode → S.finished c w ≡ false → storeNext c w .rec .mode ≢ openMode
@@ -171,14 +135,10 @@ stays-shut c w m z nf = go (ℕ-discrete (refusal c (w .plain)) 0)
 
 shut-short : (c : Call) (w : World) → w .store .rec .mode ≢ openMode → shortSync c w ≡ false
 unfolding shortSync
-shut-short (power k) w z = refl
-shut-short (put a b) w z = refl
-shut-short (get a) w z = refl
-shut-short commit w z = refl
-shut-short abandon w z = refl
-shut-short sync w z = rw (ne-eqb _ _ z)
-shut-short apply w z = refl
-shut-short recover w z = refl
+shut-short (local c) w z = refl
+shut-short (save Save.sync) w z = rw (ne-eqb _ _ z)
+shut-short (save Save.apply) w z = refl
+shut-short (save Save.recover) w z = refl
 shut-short (cut ms) w z = refl
 
 count-shut : (cs : List Call) (w : World) → WorldSim w → w .store .rec .mode ≢ openMode → noneFinished cs w ≡ true → after cs w .excepted ≡ false → countShort cs w ≡ 0
@@ -199,18 +159,14 @@ open-serves w m o =
 -- a sync that is cut short leaves the record down
 short-down : (c : Call) (w : World) → WorldSim w → S.finished c w ≡ false → shortSync c w ≡ true → storeNext c w .rec .mode ≢ openMode
 unfolding shortSync
-short-down (power k) w m nf h e = absurd (mathlib.Core.Bool.false≢true h)
-short-down (put a b) w m nf h e = absurd (mathlib.Core.Bool.false≢true h)
-short-down (get a) w m nf h e = absurd (mathlib.Core.Bool.false≢true h)
-short-down commit w m nf h e = absurd (mathlib.Core.Bool.false≢true h)
-short-down abandon w m nf h e = absurd (mathlib.Core.Bool.false≢true h)
-short-down sync w m nf h e =
+short-down (local c) w m nf h e = absurd (mathlib.Core.Bool.false≢true h)
+short-down (save Save.sync) w m nf h e =
     let o : w .store .rec .mode ≡ openMode = eqb-true _ _ (both (eqb (w .store .rec .mode) openMode) (eqb (dispatch sync (w .store) .answer) 4) h .0) in
     let r : refusal sync (w .plain) ≡ 0 = open-serves w m o in
     let k : _≡_ {A = ℕ} 2 1 = sym (step sync w m .agrees .mode ∙ ap (λ (x : Done). x .plain .mode) (short-plain (w .plain .S) w m r nf)) ∙ e in
     omega arith
-short-down apply w m nf h e = absurd (mathlib.Core.Bool.false≢true h)
-short-down recover w m nf h e = absurd (mathlib.Core.Bool.false≢true h)
+short-down (save Save.apply) w m nf h e = absurd (mathlib.Core.Bool.false≢true h)
+short-down (save Save.recover) w m nf h e = absurd (mathlib.Core.Bool.false≢true h)
 short-down (cut ms) w m nf h e = absurd (mathlib.Core.Bool.false≢true h)
 
 count-one : (cs : List Call) (w : World) → WorldSim w → noneFinished cs w ≡ true → after cs w .excepted ≡ false → countShort cs w ≤ 1

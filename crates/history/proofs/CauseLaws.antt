@@ -19,12 +19,14 @@ use Rattle.journal.specs.Choice.{choose, choiceNumber}
 use Rattle.journal.proofs.Logs.{neither, allData-all, all-allData}
 use Rattle.store.specs.State.{State, closed, openMode, down}
 use Rattle.store.specs.Lists.{openFrom, groupFrom, listed, listOf}
+use Rattle.store.specs.Local as Local
+use Rattle.store.specs.Save as Save
 use Rattle.store.specs.Request as Request
 use Rattle.store.specs.Request.{Request}
 use Rattle.store.specs.Causes as Causes
 use Rattle.store.specs.Causes.{wrongSizes, wrongCounts, wrongWaiting, wrongLists, wrongRecord, Row, sizeRow, recordRow, closedRow, downRow, Rules, ofBytes, ofRecord, ofOpen, rows, rules, ownSize, wrongBlock, some, first, cause}
 use Rattle.store.proofs.Causes.{restOf, readsRecord, needsOpen, ownRows, own-over, other, SizeFacts, sizes-facts, counts-facts, waiting-facts, Passes, cause-passes as Causes·cause-passes}
-use Rattle.history.specs.Call.{Call, requestOf, power, put, get, commit, abandon, sync, apply, recover, cut}
+use Rattle.history.specs.Call.{Call, requestOf, local, save, cut, recover}
 use Rattle.history.specs.Plain.{Plain, overOne, refusal}
 use Rattle.history.proofs.Lists.{none-some, find-has, Distinct, twice-distinct, distinct-twice, Data, strays-all, all-strays}
 use Rattle.history.proofs.WorkLists.{newcomers-merge}
@@ -171,21 +173,21 @@ module _ (st : State) (d : Plain) (sizes : wrongSizes st ≡ false) (counts : wr
   pub cause-refusal : (c : Call) → (c ≡ recover → st .rec .mode ≡ closed → choiceNumber (choose (st .rec .blocks) (st .settled)) ≡ 0)
       → cause (requestOf c) st ≡ refusal c d
   unfolding refusal
-  cause-refusal (power k) h = rw (sizes, counts)
-  cause-refusal (put a b) h =
+  cause-refusal (local (Local.power k)) h = rw (sizes, counts)
+  cause-refusal (local (Local.put a b)) h =
       rw (sizes, counts, m .mode, m .N)
       (ap (λ (k : ℕ). cond (not (eqb (length b) blockBytes)) 1 k)
       (when-open (st .rec .mode) _ _ (record-facts st counts .mode)
       (λ o. rw (find-has (st .work) openFrom (st .rec .opened) a, m .T o, length-upTo (listed (st .work) openFrom) (st .rec .opened)))))
-  cause-refusal (get a) h = rw (sizes, counts, m .mode, m .N)
-  cause-refusal commit h =
+  cause-refusal (local (Local.get a)) h = rw (sizes, counts, m .mode, m .N)
+  cause-refusal (local Local.commit) h =
       rw (sizes, counts, m .mode)
       (when-open (st .rec .mode) _ _ (record-facts st counts .mode)
       (λ o. rw (newcomers-merge (st .work) (st .rec .grouped) (st .rec .opened) (record-facts st counts .lists o .open-distinct), m .T o, m .G o)))
-  cause-refusal abandon h = rw (sizes, counts, m .mode)
-  cause-refusal sync h = rw (sizes, counts, m .mode)
-  cause-refusal apply h = rw (sizes, counts, m .mode)
-  cause-refusal recover h = rw (sizes, counts, m .mode) (go (eqb (st .rec .mode) down) (eqb (st .rec .mode) openMode) refl refl)
+  cause-refusal (local Local.abandon) h = rw (sizes, counts, m .mode)
+  cause-refusal (save Save.sync) h = rw (sizes, counts, m .mode)
+  cause-refusal (save Save.apply) h = rw (sizes, counts, m .mode)
+  cause-refusal (save Save.recover) h = rw (sizes, counts, m .mode) (go (eqb (st .rec .mode) down) (eqb (st .rec .mode) openMode) refl refl)
     where
       choice : ℕ
       choice = choiceNumber (choose (st .rec .blocks) (st .settled))

@@ -19,7 +19,7 @@ use Rattle.store.specs.Request as Request
 use Rattle.store.specs.State.{State, Outcome, closed, down, withMode, withOpened, withGrouped, withLog, withRecord, withCard, cardIn}
 use Rattle.store.specs.Causes.{cause}
 use Rattle.store.specs.Outcomes.{completed}
-use Rattle.store.specs.Saves.{cutCall}
+use Rattle.store.specs.Cut.{cutCall}
 use Rattle.store.proofs.Causes.{sizes-facts}
 use Rattle.history.specs.Call.{get, cut}
 use Rattle.history.specs.Plain.{Plain, Done, plainStep, none, still, closedWith, Verdict, refusal, plainCut, headerKept, overOne}

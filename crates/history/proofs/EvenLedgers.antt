@@ -9,9 +9,9 @@ use Rattle.cells.specs.Entry.{Entry}
 use Rattle.fnv.specs.Fnv.{start}
 use Rattle.journal.specs.Log.{sumOf}
 use Rattle.store.specs.State.{State}
-use Rattle.history.specs.Call.{Call, power, put, get, commit, abandon, sync, apply, recover, cut}
+use Rattle.history.specs.Call.{Call, local, save, cut}
 use Rattle.history.specs.Dispatch.{dispatch}
-use Rattle.history.specs.Ledger.{PlannedHeader, Pending, nothing, waits, Ledger, settledBy, waitsBehind, syncHeaders, applyHeaders, recoverHeaders, noted, resolved, entered}
+use Rattle.history.specs.Ledger.{PlannedHeader, Pending, nothing, waits, Ledger, settledBy, waitsBehind, headersOf, noted, resolved, entered}
 
 -- as long, with the same sum
 abbrev pub EvenLists : List Entry → List Entry → Type 0
@@ -73,14 +73,8 @@ resolved-even ms (waits p x) (waits q y) a b e f = rw (e .0) (go (eqb (getD ms q
 
 pub entered-even : (c : Call) (st : State) (l m : Ledger) → Even l m → Even (entered c st l) (entered c st m)
 unfolding entered
-entered-even (power k) st l m e = e
-entered-even (put a b) st l m e = e
-entered-even (get a) st l m e = e
-entered-even commit st l m e = e
-entered-even abandon st l m e = e
-entered-even sync st l m e = noted-even (syncHeaders st) (dispatch sync st .orders) l m e
-entered-even apply st l m e = noted-even (applyHeaders st) (dispatch apply st .orders) l m e
-entered-even recover st l m e = noted-even (recoverHeaders st) (dispatch recover st .orders) l m e
+entered-even (local c) st l m e = e
+entered-even (save c) st l m e = noted-even (headersOf c st) (dispatch (save c) st .orders) l m e
 entered-even (cut ms) st l m e = go (eqb (dispatch (cut ms) st .answer) 0)
   where
     go : (t : Bool) → Even (cond t (settledBy (resolved ms (l .pending) (l .written))) l) (cond t (settledBy (resolved ms (m .pending) (m .written))) m)

@@ -7,6 +7,7 @@ pub mod AfterCut
 pub mod Lists
 pub mod WorkLists
 pub mod CauseLaws
+pub mod Forms
 pub mod EvenLedgers
 pub mod Relation
 pub mod PlainLaws

@@ -1,11 +1,11 @@
 -- Every record that a list of calls leaves fits its 36 bytes, and so C passes on the store's state.
-use Prim.Native.Nat.{ℕ, _+_, _^_, _≤_, _<_}
+use Prim.Native.Nat.{ℕ, _^_, _<_}
 use mathlib.Core.Path.{_≡_, refl, ap, sym, _∙_}
 use mathlib.Core.Logic.{_⊎_}
 use mathlib.Core.Bool.{Bool, true, false, cond}
 use mathlib.Core.List.{List, [], _∷_}
 use native.Mathlib.Omega.{arith}
-use native.Mathlib.Decide.{ℕ-discrete, decLe}
+use native.Mathlib.Decide.{ℕ-discrete}
 use borrow.Author.Tests.{eq-eqb}
 use lib.Dec.{eqb, leb, lit<}
 use lib.ListN.{length}
@@ -14,68 +14,47 @@ use Rattle.card.specs.Card.{Order}
 use Rattle.journal.specs.Log.{entries}
 use Rattle.journal.proofs.Logs.{sumOf-lt}
 use Rattle.store.specs.declared.record.Record.{Record}
+use Rattle.store.specs.Local as Local
+use Rattle.store.specs.Local.{Local}
+use Rattle.store.specs.Save as Save
+use Rattle.store.specs.Save.{Save}
 use Rattle.store.specs.Request as Request
 use Rattle.store.specs.State.{State, Outcome, openMode, down, withMode, withLog}
 use Rattle.store.specs.CodeState.{stateOf}
 use Rattle.store.specs.Causes.{cause}
 use Rattle.store.specs.Format.{formatted, formatCall}
 use Rattle.store.specs.Power.{powerCall}
-use Rattle.store.specs.Saves.{carried, applies, metByAppend, innerOrders, syncing, syncCall, applyCall, recoverCall, cutCall}
+use Rattle.store.specs.Saves.{carried, applies, metByAppend, innerOrders, syncing, syncCall, applyCall, recoverCall}
+use Rattle.store.specs.Cut.{cutCall}
 use Rattle.store.proofs.Saves.{apply-carried}
 use Rattle.store.proofs.Causes.{sizes-facts}
 use Rattle.firmware.specs.Face.{recordBytes, decodeRecord, Face, faced, handed, Got, gotIn, got}
 use Rattle.firmware.proofs.Records.{length-encode, Fitting, decode-encode}
 use Rattle.firmware.proofs.Faces.{faced-length, faced-outcome, got-place}
-use Rattle.history.specs.Call.{Call, requestOf, power, put, get, commit, abandon, sync, apply, recover, cut}
-use Rattle.history.specs.Plain.{Plain, Done, refusal, served, plainStep, plainSync, plainApply, plainRecover, plainCut}
+use Rattle.history.specs.Call.{Call, requestOf, local, save, cut, power, put, commit, abandon}
+use Rattle.history.specs.Plain.{Plain, Done, refusal, locally, served, plainStep, plainCut}
 use Rattle.history.specs.Dispatch.{dispatch}
 use Rattle.history.specs.Ledger.{Ledger, entered}
 use Rattle.history.specs.History.{World, begun, next, after, foundWritten}
 use Rattle.history.specs.Linked.{faceNext, faceAfter, Passable, AllPassable, BytesOf, Links, Linked}
 use Rattle.store.proofs.Causes.{needsOpen}
 use Rattle.history.proofs.CauseLaws.{record-facts, cause-passes}
-use Rattle.history.proofs.PlainLaws.{sync-nothing, sync-finished, sync-short, apply-nothing, apply-finished, apply-short, recover-whole, recover-fallback, recover-short}
 use Rattle.history.proofs.Relation.{OpenSim, ClosedSim, DownSim, Safe}
 use Rattle.history.proofs.Steps.{same-cause, dispatch-refused, plain-refused, plain-served}
 use Rattle.history.proofs.SimpleSteps.{is-open}
 use Rattle.history.proofs.ListInduction.{step, next-safe, begun-safe, formatted-now}
-use Rattle.history.proofs.PlainAnswers.{sync-cases}
+use Rattle.history.proofs.PlainAnswers.{save-end, save-power, LocalKind, powers, opens, local-kind}
 
 -- ---- the power only sinks, or is set
 
-sync-power : (d : Plain) → plainSync d .plain .power ≤ d .power
-sync-power d =
-    sync-cases (λ o. o .plain .power ≤ d .power) d
-    (λ z. rw (sync-nothing d z) (omega arith))
-    (λ z p. rw (sync-finished d z p) (omega arith))
-    (λ z p. rw (sync-short d z p) (omega arith))
-
-apply-power : (d : Plain) → plainApply d .plain .power ≤ d .power
-apply-power d = go (ℕ-discrete (d .n) 0) (decLe (d .n + 3) (d .power))
-  where
-    go : Dec (d .n ≡ 0) → Dec (d .n + 3 ≤ d .power) → plainApply d .plain .power ≤ d .power
-    go (yes z) q = rw (apply-nothing d z) (omega arith)
-    go (no z) (yes q) = rw (apply-finished d z q) (omega arith)
-    go (no z) (no q) = rw (apply-short d z (omega arith)) (omega arith)
-
-recover-power : (d : Plain) → plainRecover d .plain .power ≤ d .power
-recover-power d = go (d .F) refl (decLe 2 (d .power))
-  where
-    go : (t : Bool) → d .F ≡ t → Dec (2 ≤ d .power) → plainRecover d .plain .power ≤ d .power
-    go false f q = rw (recover-whole d f) (omega arith)
-    go true f (yes q) = rw (recover-fallback d f q) (omega arith)
-    go true f (no q) = rw (recover-short d f (omega arith)) (omega arith)
+local-power : (c : Local) (d : Plain) → LocalKind c → Passable (local c) → d .power < 2 ^ 32 → locally c d .power < 2 ^ 32
+local-power c d (powers k) p h = p k refl
+local-power c d (opens _ n s) p h = rw (s d .power) h
 
 served-power : (c : Call) (t : Bool) (d : Plain) → Passable c → d .power < 2 ^ 32 → served c t d .plain .power < 2 ^ 32
 unfolding plainCut
-served-power (power k) t d p h = p k refl
-served-power (put a b) t d p h = h
-served-power (get a) t d p h = h
-served-power commit t d p h = h
-served-power abandon t d p h = h
-served-power sync t d p h = omega (arith, sync-power d)
-served-power apply t d p h = omega (arith, apply-power d)
-served-power recover t d p h = omega (arith, recover-power d)
+served-power (local c) t d p h = local-power c d (local-kind c) p h
+served-power (save c) t d p h = omega (arith, save-power c d (save-end c d))
 served-power (cut ms) t d p h = h
 
 plain-power : (c : Call) (t : Bool) (d : Plain) → Passable c → d .power < 2 ^ 32 → plainStep c t d .plain .power < 2 ^ 32
@@ -140,17 +119,18 @@ module _ (st : State) (l : Ledger) (s : Safe st l) where
       let o = is-open st (s .ledger) (s .plain) (s .sim) q n (cause-passes q st h) in
       step c world (s .sim) .agrees .mode ∙ ap (λ (x : Done). x .plain .mode) (plain-served c (foundWritten c world) (s .plain) r) ∙ k ∙ s .sim .basics .mirrors .mode ∙ o .mode
 
+  local-sums : (c : Local) → LocalKind c → cause (Request.local c) st ≡ 0 → Sums st (dispatch (local c) st)
+  unfolding powerCall
+  local-sums c (powers k) h = rw (eq-eqb _ 0 h) (_⊎_.inr (_⊎_.inl refl))
+  local-sums c (opens _ n u) h = _⊎_.inl (still-open (local c) (Request.local c) refl n h (u (s .plain) .mode))
+
   served-sums : (c : Call) → cause (requestOf c) st ≡ 0 → Sums st (dispatch c st)
   unfolding powerCall syncCall applyCall recoverCall cutCall
-  served-sums (power k) h = rw (eq-eqb _ 0 h) (_⊎_.inr (_⊎_.inl refl))
-  served-sums (put a b) h = _⊎_.inl (still-open (put a b) (Request.put a b) refl refl h refl)
-  served-sums (get a) h = _⊎_.inr (_⊎_.inl refl)
-  served-sums commit h = _⊎_.inl (still-open commit Request.commit refl refl h refl)
-  served-sums abandon h = _⊎_.inl (still-open abandon Request.abandon refl refl h refl)
-  served-sums sync h =
+  served-sums (local c) h = local-sums c (local-kind c) h
+  served-sums (save Save.sync) h =
       rw (eq-eqb _ 0 h) (sync-sums st (is-open st (s .ledger) (s .plain) (s .sim) Request.sync refl (cause-passes Request.sync st h) .mode))
-  served-sums apply h = rw (eq-eqb _ 0 h, apply-carried st) (apply-sums st _)
-  served-sums recover h = rw (eq-eqb _ 0 h) (carried-sums _ _ _ st (_⊎_.inl refl) (_⊎_.inl refl))
+  served-sums (save Save.apply) h = rw (eq-eqb _ 0 h, apply-carried st) (apply-sums st _)
+  served-sums (save Save.recover) h = rw (eq-eqb _ 0 h) (carried-sums _ _ _ st (_⊎_.inl refl) (_⊎_.inl refl))
   served-sums (cut ms) h = rw (eq-eqb _ 0 h) (_⊎_.inr (_⊎_.inr refl))
 
   sums : (c : Call) → Sums st (dispatch c st)
@@ -225,20 +205,21 @@ linked-call c f st e g = record {
   left = handed-holds (dispatch c st) (faceNext c f) e;
 }
 
-links : (c : Call) (f : Face) (st : State) → BytesOf f st → Fitting (st .rec) → Links c f st
-links (power k) f st h t = linked-call (power k) f st (faced-next (dispatch (power k)) f st h t) (got-next f st h t)
-links (put a b) f st h t = linked-call (put a b) f st (faced-next (dispatch (put a b)) f st h t) (got-next f st h t)
-links (get a) f st h t = record {
+local-links : (c : Local) (f : Face) (st : State) → BytesOf f st → Fitting (st .rec) → Links (local c) f st
+local-links (Local.power k) f st h t = linked-call (power k) f st (faced-next (dispatch (power k)) f st h t) (got-next f st h t)
+local-links (Local.put a b) f st h t = linked-call (put a b) f st (faced-next (dispatch (put a b)) f st h t) (got-next f st h t)
+local-links (Local.get a) f st h t = record {
   number = ap (λ (x : Got). x .number) (got-next f st h t a);
   orders = refl;
   place = got-next f st h t;
   left = record { rec = h .rec; settled = h .settled; waiting = h .waiting; work = h .work };
 }
-links commit f st h t = linked-call commit f st (faced-next (dispatch commit) f st h t) (got-next f st h t)
-links abandon f st h t = linked-call abandon f st (faced-next (dispatch abandon) f st h t) (got-next f st h t)
-links sync f st h t = linked-call sync f st (faced-next (dispatch sync) f st h t) (got-next f st h t)
-links apply f st h t = linked-call apply f st (faced-next (dispatch apply) f st h t) (got-next f st h t)
-links recover f st h t = linked-call recover f st (faced-next (dispatch recover) f st h t) (got-next f st h t)
+local-links Local.commit f st h t = linked-call commit f st (faced-next (dispatch commit) f st h t) (got-next f st h t)
+local-links Local.abandon f st h t = linked-call abandon f st (faced-next (dispatch abandon) f st h t) (got-next f st h t)
+
+links : (c : Call) (f : Face) (st : State) → BytesOf f st → Fitting (st .rec) → Links c f st
+links (local c) f st h t = local-links c f st h t
+links (save c) f st h t = linked-call (save c) f st (faced-next (dispatch (save c)) f st h t) (got-next f st h t)
 links (cut ms) f st h t = linked-call (cut ms) f st (faced-next (dispatch (cut ms)) f st h t) (got-next f st h t)
 
 -- ---- a list of calls

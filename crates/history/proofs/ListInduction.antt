@@ -17,13 +17,15 @@ use Rattle.journal.specs.Layout.{headerAt, isData}
 use Rattle.journal.specs.Header.{encode, emptyHeader}
 use Rattle.journal.proofs.Headers.{length-encode}
 use Rattle.journal.proofs.Logs.{neither, sumOf-nil}
+use Rattle.store.specs.Local as Local
+use Rattle.store.specs.Save as Save
 use Rattle.store.specs.Request as Request
 use Rattle.store.specs.State.{State, Outcome}
 use Rattle.store.specs.Causes.{cause}
 use Rattle.store.specs.Outcomes.{completed, refused}
 use Rattle.store.specs.Format.{formatted, formatCall}
 use Rattle.store.proofs.Causes.{SizeFacts, sizes-facts}
-use Rattle.history.specs.Call.{Call, power, put, get, commit, abandon, sync, apply, recover, cut}
+use Rattle.history.specs.Call.{Call, local, save, cut}
 use Rattle.history.specs.Plain.{fresh}
 use Rattle.history.specs.Dispatch.{dispatch}
 use Rattle.history.specs.Ledger.{Ledger, entered}
@@ -42,14 +44,14 @@ use Rattle.history.proofs.SyncStep.{sync-step}
 -- ---- one call
 
 pub step : (c : Call) (w : World) → WorldSim w → StepOK c w
-step (power k) w m = power-step k w m
-step (put a b) w m = put-step a b w m
-step (get a) w m = get-step a w m
-step commit w m = commit-step w m
-step abandon w m = abandon-step w m
-step sync w m = sync-step w m
-step apply w m = apply-step w m
-step recover w m = recover-step w m
+step (local (Local.power k)) w m = power-step k w m
+step (local (Local.put a b)) w m = put-step a b w m
+step (local (Local.get a)) w m = get-step a w m
+step (local Local.commit) w m = commit-step w m
+step (local Local.abandon) w m = abandon-step w m
+step (save Save.sync) w m = sync-step w m
+step (save Save.apply) w m = apply-step w m
+step (save Save.recover) w m = recover-step w m
 step (cut ms) w m = cut-step ms w m
 
 pub next-sim : (c : Call) (w : World) → WorldSim w → exception c w ≡ false → WorldSim (next c w)

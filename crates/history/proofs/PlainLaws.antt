@@ -3,12 +3,11 @@ use Prim.Native.Nat.{ℕ, suc, _+_, _-_, _≤_, _<_}
 use mathlib.Core.Path.{_≡_, refl, ap}
 use mathlib.Core.Logic.{_≢_}
 use mathlib.Core.Bool.{Bool, true, false, cond, not}
-use mathlib.Core.List.{List, []}
+use mathlib.Core.List.{List}
 use native.Mathlib.Omega.{arith}
 use borrow.Author.Tests.{eq-eqb, ne-eqb, le-leb, lt-leb, lt-ltb, le-ltb}
 use lib.Dec.{eqb}
 use lib.ListN.{length, getD}
-use Rattle.card.specs.Disk.{overlay}
 use Rattle.journal.specs.Layout.{slots}
 use Rattle.history.specs.Plain.{Plain, none, ofSync, ofApply, ofRecover, applies, syncTakes, applyWaits, syncWaits, unchanged, applyVerdict, ownVerdict, verdict, cutShort, plainSync, plainApply, plainRecover, headerKept, done, still, synced, emptied, recovered}
 

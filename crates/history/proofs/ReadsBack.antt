@@ -1,5 +1,5 @@
 -- A recovery takes the log written, or its first p entries.
-use Prim.Native.Nat.{ℕ, _+_, _^_, _≤_, _<_}
+use Prim.Native.Nat.{ℕ, _^_, _≤_, _<_}
 use mathlib.Core.Path.{_≡_, refl, ap, ap₂, sym, _∙_}
 use mathlib.Core.Logic.{_≢_, _⊎_}
 use mathlib.Core.Bool.{Bool, true, false, true≢false, cond, not}
@@ -7,10 +7,9 @@ use mathlib.Core.List.{List, [], _∷_}
 use native.Mathlib.Omega.{arith}
 use native.Mathlib.Decide.{ℕ-discrete, decLe}
 use borrow.Author.Tests.{eq-eqb, eqb-true, not-true}
-use lib.Dec.{eqb}
 use lib.ListN.{length, take}
 use Rattle.cells.specs.Upto.Laws.{length-upTo}
-use Rattle.cells.specs.Entry.{blockBytes, Entry}
+use Rattle.cells.specs.Entry.{Entry}
 use Rattle.fnv.specs.Fnv.{start}
 use Rattle.card.specs.Card.{blockAt}
 use Rattle.journal.specs.declared.header.Header.{Header}
@@ -18,13 +17,15 @@ use Rattle.journal.specs.declared.choice.Choice.{Choice}
 use Rattle.journal.specs.Log.{headerOf, entries, sumOf}
 use Rattle.journal.specs.Choice.{takenCount}
 use Rattle.journal.proofs.Choices.{both}
+use Rattle.store.specs.Local.{Local}
+use Rattle.store.specs.Save as Save
 use Rattle.store.specs.Request as Request
 use Rattle.store.specs.State.{State, Outcome, closed, openMode, withQueue, withRecord}
 use Rattle.store.specs.Causes.{cause}
 use Rattle.store.specs.Outcomes.{completed}
 use Rattle.store.specs.Power.{powerCall}
-use Rattle.history.specs.Call.{Call, requestOf, power, put, get, commit, abandon, sync, apply, recover, cut}
-use Rattle.history.specs.Plain.{Plain, Done, refusal, served, plainStep, plainSync, plainApply, plainRecover}
+use Rattle.history.specs.Call.{Call, requestOf, local, save, cut, power, sync, recover}
+use Rattle.history.specs.Plain.{Plain, Done, refusal, locally, served, plainStep, plainRecover}
 use Rattle.history.specs.Dispatch.{dispatch}
 use Rattle.history.specs.Ledger.{Ledger, recoverHeaders, noted, entered, taken, logFound, sameLog}
 use Rattle.history.specs.History.{World, begun, next, after, storeNext, ledgerNext, foundWritten, acceptedCut, exception}
@@ -33,41 +34,15 @@ use Rattle.history.proofs.Disks.{slotE, logD, entries-disk, WholeCard, 
 use Rattle.history.proofs.AfterCut.{read-head, same-logs, logs-same}
 use Rattle.history.proofs.CauseLaws.{cause-passes}
 use Rattle.history.proofs.Relation.{OpenSim, ClosedSim, DownSim, Sim, Safe}
-use Rattle.history.proofs.PlainLaws.{sync-nothing, sync-finished, sync-short, apply-nothing, apply-finished, apply-short, recover-whole, recover-fallback, recover-short}
+use Rattle.history.proofs.PlainLaws.{recover-whole, recover-fallback, recover-short}
 use Rattle.history.proofs.Steps.{plainNext, WorldSim, same-cause, dispatch-refused, entered-refused, plain-served, noted-none, small-N, choose-fallback}
+use Rattle.history.proofs.SimpleSteps.{is-open}
 use Rattle.history.proofs.CutStep.{served-cut, store-cut}
 use Rattle.history.proofs.RecoverStep.{is-closed}
 use Rattle.history.proofs.ListInduction.{step, next-sim, next-safe, after-sim, after-safe, begun-sim, begun-safe, clean-first, clean-before}
-use Rattle.history.proofs.PlainAnswers.{when-open, sync-cases}
+use Rattle.history.proofs.PlainAnswers.{when-open, save-end, save-mode, LocalKind, powers, opens, local-kind}
 
 -- ---- a call after which the record is closed, that was no accepted cut, found it so
-
--- the calls that may leave a closed record
-abbrev MayClose : Call → Type 0
-MayClose (power k) = Unit {0}
-MayClose (put a b) = ⊥
-MayClose (get a) = ⊥
-MayClose commit = ⊥
-MayClose abandon = ⊥
-MayClose sync = ⊥
-MayClose apply = ⊥
-MayClose recover = ⊥
-MayClose (cut ms) = Unit {0}
-
-sync-mode : (d : Plain) → d .mode ≢ 0 → plainSync d .plain .mode ≢ 0
-sync-mode d h =
-    sync-cases (λ o. o .plain .mode ≢ 0) d
-    (λ z e. h (sym (ap (λ (o : Done). o .plain .mode) (sync-nothing d z)) ∙ e))
-    (λ z p e. h (sym (ap (λ (o : Done). o .plain .mode) (sync-finished d z p)) ∙ e))
-    (λ z p e. let q : _≡_ {A = ℕ} 2 0 = sym (ap (λ (o : Done). o .plain .mode) (sync-short d z p)) ∙ e in omega arith)
-
-apply-mode : (d : Plain) → d .mode ≢ 0 → plainApply d .plain .mode ≢ 0
-apply-mode d h e = go (ℕ-discrete (d .n) 0) (decLe (d .n + 3) (d .power))
-  where
-    go : Dec (d .n ≡ 0) → Dec (d .n + 3 ≤ d .power) → ⊥
-    go (yes z) q = h (sym (ap (λ (o : Done). o .plain .mode) (apply-nothing d z)) ∙ e)
-    go (no z) (yes q) = h (sym (ap (λ (o : Done). o .plain .mode) (apply-finished d z q)) ∙ e)
-    go (no z) (no q) = let k : _≡_ {A = ℕ} 2 0 = sym (ap (λ (o : Done). o .plain .mode) (apply-short d z (omega arith))) ∙ e in omega arith
 
 recover-mode : (d : Plain) → plainRecover d .plain .mode ≢ 0
 recover-mode d e = go (d .F) refl (decLe 2 (d .power))
@@ -76,23 +51,6 @@ recover-mode d e = go (d .F) refl (decLe 2 (d .power))
     go false f q = let k : _≡_ {A = ℕ} 1 0 = sym (ap (λ (o : Done). o .plain .mode) (recover-whole d f)) ∙ e in omega arith
     go true f (yes q) = let k : _≡_ {A = ℕ} 1 0 = sym (ap (λ (o : Done). o .plain .mode) (recover-fallback d f q)) ∙ e in omega arith
     go true f (no q) = let k : _≡_ {A = ℕ} 2 0 = sym (ap (λ (o : Done). o .plain .mode) (recover-short d f (omega arith))) ∙ e in omega arith
-
-past : (t : Bool) (k : ℕ) → _≡_ {A = ℕ} (cond t 1 k) 0 → k ≡ 0
-past true k h = absurd (omega arith)
-past false k h = h
-
--- a call that is not refused
-may-close : (c : Call) (f : Bool) (d : Plain) → refusal c d ≡ 0 → served c f d .plain .mode ≡ 0 → MayClose c
-unfolding refusal
-may-close (power k) f d h e = tt
-may-close (put a b) f d h e = when-open d _ (past (not (eqb (length b) blockBytes)) _ h) .0 e
-may-close (get a) f d h e = when-open d _ h .0 e
-may-close commit f d h e = when-open d _ h .0 e
-may-close abandon f d h e = when-open d _ h .0 e
-may-close sync f d h e = sync-mode d (when-open d _ h .0) e
-may-close apply f d h e = apply-mode d (when-open d _ h .0) e
-may-close recover f d h e = recover-mode d e
-may-close (cut ms) f d h e = tt
 
 pub record Unmoved (c : Call) (w : World) : Type 0 where
   pub mode : w .store .rec .mode ≡ closed
@@ -129,16 +87,24 @@ cut-accepted ms w m h =
     let e : dispatch (cut ms) (w .store) .answer ≡ 0 = ap (λ (o : Outcome). o .answer) (served-cut ms w m h) in
     rw e
 
-served-unmoved : (c : Call) (w : World) → WorldSim w → refusal c (w .plain) ≡ 0 → acceptedCut c w ≡ false → storeNext c w .rec .mode ≡ closed → MayClose c → Unmoved c w
-served-unmoved (power k) w m h a z q = power-unmoved k w m z
-served-unmoved (put i b) w m h a z q = absurd q
-served-unmoved (get i) w m h a z q = absurd q
-served-unmoved commit w m h a z q = absurd q
-served-unmoved abandon w m h a z q = absurd q
-served-unmoved sync w m h a z q = absurd q
-served-unmoved apply w m h a z q = absurd q
-served-unmoved recover w m h a z q = absurd q
-served-unmoved (cut ms) w m h a z q = absurd (true≢false (sym (cut-accepted ms w m h) ∙ a))
+-- a local call that is not refused: power, or the record was open, and stays so
+local-unmoved : (c : Local) (w : World) → LocalKind c → WorldSim w → refusal (local c) (w .plain) ≡ 0 → storeNext (local c) w .rec .mode ≡ closed
+    → locally c (w .plain) .mode ≡ 0 → Unmoved (local c) w
+local-unmoved c w (powers k) m h z e = power-unmoved k w m z
+local-unmoved c w (opens _ n s) m h z e =
+    let o = is-open (w .store) (w .ledger) (w .plain) m (Request.local c) n (cause-passes (Request.local c) (w .store) (same-cause (w .store) (w .ledger) (w .plain) m (local c) ∙ h)) in
+    let q : _≡_ {A = ℕ} 1 0 = sym (m .basics .mirrors .mode ∙ o .mode) ∙ sym (s (w .plain) .mode) ∙ e in
+    absurd (omega arith)
+
+-- a call that is not refused: power, or a cut; every other leaves a record that is not closed
+served-unmoved : (c : Call) (w : World) → WorldSim w → refusal c (w .plain) ≡ 0 → acceptedCut c w ≡ false → storeNext c w .rec .mode ≡ closed
+    → served c (foundWritten c w) (w .plain) .plain .mode ≡ 0 → Unmoved c w
+unfolding refusal
+served-unmoved (local c) w m h a z e = local-unmoved c w (local-kind c) m h z e
+served-unmoved (save Save.sync) w m h a z e = absurd (save-mode Save.sync (w .plain) (save-end Save.sync (w .plain)) (when-open (w .plain) _ h .0) e)
+served-unmoved (save Save.apply) w m h a z e = absurd (save-mode Save.apply (w .plain) (save-end Save.apply (w .plain)) (when-open (w .plain) _ h .0) e)
+served-unmoved (save Save.recover) w m h a z e = absurd (recover-mode (w .plain) e)
+served-unmoved (cut ms) w m h a z e = absurd (true≢false (sym (cut-accepted ms w m h) ∙ a))
 
 stays : (c : Call) (w : World) → WorldSim w → acceptedCut c w ≡ false → storeNext c w .rec .mode ≡ closed → Unmoved c w
 stays c w m a z = go (ℕ-discrete (refusal c (w .plain)) 0)
@@ -148,7 +114,7 @@ stays c w m a z = go (ℕ-discrete (refusal c (w .plain)) 0)
 
     go : Dec (refusal c (w .plain) ≡ 0) → Unmoved c w
     go (no h) = unmoved-refused c w m h z
-    go (yes h) = served-unmoved c w m h a z (may-close c (foundWritten c w) (w .plain) h (plain-mode h))
+    go (yes h) = served-unmoved c w m h a z (plain-mode h)
 
 -- ---- the card from the last accepted cut to a recovery
 

@@ -7,7 +7,7 @@ use mathlib.Core.Bool.{Bool, true, false, cond, _&&_}
 use mathlib.Core.List.{List, [], _∷_, _++_, append-assoc, append-nil}
 use native.Mathlib.Omega.{arith}
 use native.Mathlib.Decide.{decLe}
-use borrow.Author.Tests.{eqb-true, eqb-false, leb-true, leb-false, lt-leb, not-true}
+use borrow.Author.Tests.{eqb-false, leb-true, leb-false, lt-leb, not-true}
 use lib.Dec.{eqb, leb, lit<}
 use lib.ListN.{length, take, length-append, length-map}
 use lib.Seq.{take-append-add}
@@ -22,32 +22,29 @@ use Rattle.journal.specs.declared.choice.Choice.{Choice}
 use Rattle.journal.specs.declared.choice.Choice.the-variants.{Whole, Fallback, Foreign, Neither}
 use Rattle.journal.specs.Layout.{slots, descriptorAt}
 use Rattle.journal.specs.Header.{header, emptyHeader}
-use Rattle.journal.specs.Log.{entries, sumOf, slotEntry}
+use Rattle.journal.specs.Log.{entries, slotEntry}
 use Rattle.journal.specs.Orders.{appendOrders, checkpointOrders, applyOrders, syncOrders}
 use Rattle.journal.specs.Choice.{choose, recoverOrders}
 use Rattle.journal.proofs.Logs.{from-whole, entries-whole, length-blockAt}
 use Rattle.journal.proofs.Choices.{both}
 use Rattle.journal.proofs.Headers.{length-encode}
-use Rattle.journal.proofs.OrderLists.{headerEntry, appendWrites, append-writes, checkpoint-writes, fallback-writes, length-checkpoint, length-fallback}
+use Rattle.journal.proofs.OrderLists.{headerEntry, appendWrites, append-writes, checkpoint-writes, fallback-writes, length-fallback}
 use Rattle.store.specs.declared.record.Record.{Record}
-use Rattle.store.specs.State.{State, Outcome, down, withMode, withLog, withGrouped, withRecord, cardIn, withCard}
+use Rattle.store.specs.State.{State, Outcome, down, withMode, withLog, withRecord, cardIn, withCard}
 use Rattle.store.specs.Lists.{groupFrom, listed}
-use Rattle.store.specs.Request.{Request, format, power, put, get, commit, abandon, sync, apply, recover, cut}
+use Rattle.store.specs.Save as Save
+use Rattle.store.specs.Request.{Request, format, local, save, cut, sync, apply, recover}
 use Rattle.store.specs.Causes.{waitingBytes, cause}
-use Rattle.store.specs.Outcomes.{refused, completed, unless}
-use Rattle.store.specs.Format.{formatCall}
-use Rattle.store.specs.Power.{powerCall}
-use Rattle.store.specs.Put.{putCall, abandonCall}
-use Rattle.store.specs.Commit.{commitCall}
-use Rattle.store.specs.Saves.{carried, groupOf, applies, metByAppend, innerOrders, syncCall, applyCall, recoverCall, cutCall}
-use Rattle.store.proofs.Calls.{call-refused, call-done}
-use Rattle.store.proofs.Saves.{apply-carried}
+use Rattle.store.specs.Outcomes.{completed}
+use Rattle.store.specs.Saves.{carried, groupOf, applies, recoverCall}
+use Rattle.store.proofs.Calls.{call-done}
 use Rattle.store.proofs.Causes.{sizes-facts}
 use Rattle.history.specs.Dispatch.{called}
 use Rattle.history.specs.Refusals.{ordersOf, untouched, innerDone, Gone, Answers}
 use Rattle.history.proofs.Batches.{batch, Fit, batch-short, batch-done, append-fit}
 use Rattle.history.proofs.WorkLists.{data-short}
 use Rattle.history.proofs.CauseLaws.{idle, record-facts, cause-passes, IsOpen, cause-opened}
+use Rattle.history.proofs.Forms.{left, AppliedFirst, Form, quiet, gives, unless-either, form, called-refused}
 use Rattle.history.proofs.CallEnds.{carried-done, carried-short}
 
 -- ---- batches in a row leave a block alone that none of them writes to
@@ -181,80 +178,7 @@ module _ (st : State) (o : IsOpen st) where
           let few : length (groupOf st) ≤ slots = rw (length-upTo (listed (st .work) groupFrom) (st .rec .grouped)) (o .facts .counts .group-count) in
           more-batches (cardIn st) _ _ checkpoint-batched (append-batched 0 start (omega arith))
 
--- ---- every call, by its cause
-
--- a sync whose apply was done
-abbrev appliedFirst : Request → State → Bool
-appliedFirst format st = false
-appliedFirst (power k) st = false
-appliedFirst (put a b) st = false
-appliedFirst (get a) st = false
-appliedFirst commit st = false
-appliedFirst abandon st = false
-appliedFirst sync st = innerDone st
-appliedFirst apply st = false
-appliedFirst recover st = false
-appliedFirst (cut ms) st = false
-
--- the record that a call cut short leaves, its mode and its queue apart
-abbrev left : Request → State → Record
-left q st = cond (appliedFirst q st) (withLog 0 start (st .rec)) (st .rec)
-
--- where nothing refuses: no orders, and done; or orders
-data Form (q : Request) (st : State) : Type 0 where
-  quiet : (now : State) → called q st ≡ unless (cause q st) st (completed now) → ordersOf q st ≡ [] → Form q st
-  gives : (done : Record) → called q st ≡ unless (cause q st) st (carried (ordersOf q st) done (left q st) st) → (cause q st ≡ 0 → Batched (cardIn st) (ordersOf q st)) → Form q st
-
--- what holds of the refusal, and of the outcome where nothing refuses
-unless-either : (P : Outcome → Type 0) (k : ℕ) (st : State) (o : Outcome) → (k ≡ 0 → P o) → P (refused k st) → P (unless k st o)
-unless-either P k st o done turned = go (eqb k 0) refl
-  where
-    go : (t : Bool) → eqb k 0 ≡ t → P (cond t o (refused k st))
-    go true p = done (eqb-true k 0 p)
-    go false p = turned
-
--- a get leaves everything, refused or not
-form-get : (k : ℕ) (st : State) → refused k st ≡ unless k st (completed st)
-form-get k st = unless-either (λ o. refused k st ≡ o) k st (completed st) (λ e. ap (λ (n : ℕ). refused n st) e) refl
-
--- the record that a sync leaves when cut short: that before the call, or the same with an empty log
-sync-left : (st : State) → cond (leb (length (innerOrders st)) (st .rec .power)) (metByAppend st) (st .rec) ≡ left sync st
-sync-left st = go (applies st)
-  where
-    N : ℕ
-    N = st .rec .blocks
-
-    log : List Entry
-    log = entries (st .settled) (st .rec .logged)
-
-    either : (t : Bool) → cond t (st .rec) (st .rec) ≡ st .rec
-    either true = refl
-    either false = refl
-
-    go : (t : Bool)
-        → cond (leb (length (cond t (checkpointOrders N log) [])) (st .rec .power)) (cond t (withLog 0 start (st .rec)) (st .rec)) (st .rec)
-        ≡ cond (t && leb (st .rec .logged + 3) (st .rec .power)) (withLog 0 start (st .rec)) (st .rec)
-    go true = ap (λ (k : ℕ). cond (leb k (st .rec .power)) (withLog 0 start (st .rec)) (st .rec)) (length-checkpoint N log ∙ ap (λ (k : ℕ). k + 3) (length-upTo (slotEntry (st .settled)) (st .rec .logged)))
-    go false = either (leb 0 (st .rec .power))
-
-form : (q : Request) (st : State) → Form q st
-unfolding formatCall powerCall putCall commitCall abandonCall syncCall applyCall recoverCall cutCall
-form format st = quiet _ refl refl
-form (power k) st = quiet _ refl refl
-form (put a b) st = quiet _ refl refl
-form (get a) st = quiet st (form-get (cause (get a) st) st) refl
-form commit st = quiet _ refl refl
-form abandon st = quiet _ refl refl
-form sync st =
-    let done = withGrouped 0 (withLog (metByAppend st .logged + st .rec .grouped) (sumOf (metByAppend st .sum) (groupOf st)) (metByAppend st)) in
-    gives done (ap (λ (r : Record). unless (cause sync st) st (carried (ordersOf sync st) done r st)) (sync-left st)) (λ e. sync-batched st (cause-opened sync st refl refl e))
-form apply st = gives _ (ap (λ (o : Outcome). unless (cause apply st) st o) (apply-carried st)) (λ e. apply-batched st (cause-opened apply st refl refl e))
-form recover st =
-    gives _ refl
-    (λ e.
-    let p = cause-passes recover st e in
-    recover-batched st (idle st (record-facts st (p .counts)) (eqb-false _ _ (p .own .0))) (sizes-facts st (p .sizes) .waiting) (st .rec .blocks) (choose (st .rec .blocks) (st .settled)))
-form (cut ms) st = quiet _ refl refl
+-- ---- every call
 
 -- ---- the theorem
 
@@ -273,28 +197,13 @@ recover-two st =
     (omega arith)
 
 -- what is as before in the record of a call cut short, and what is not
-left-is : {A : Type 0} (q : Request) (st : State) (f : Record → A) (a : A) → f (withLog 0 start (st .rec)) ≡ a → f (left q st) ≡ cond (appliedFirst q st) a (f (st .rec))
-left-is q st f a h = go (appliedFirst q st)
-  where
-    go : (t : Bool) → f (cond t (withLog 0 start (st .rec)) (st .rec)) ≡ cond t a (f (st .rec))
-    go true = h
-    go false = refl
+left-is : {A : Type 0} (t : Bool) (st : State) (f : Record → A) (a : A) → f (withLog 0 start (st .rec)) ≡ a → f (left t st) ≡ cond t a (f (st .rec))
+left-is true st f a h = h
+left-is false st f a h = refl
 
 same-both : {A : Type 0} (t : Bool) (a : A) → cond t a a ≡ a
 same-both true a = refl
 same-both false a = refl
-
-applied-not : (q : Request) (st : State) → (q ≡ sync → innerDone st ≡ false) → appliedFirst q st ≡ false
-applied-not format st h = refl
-applied-not (power k) st h = refl
-applied-not (put a b) st h = refl
-applied-not (get a) st h = refl
-applied-not commit st h = refl
-applied-not abandon st h = refl
-applied-not sync st h = h refl
-applied-not apply st h = refl
-applied-not recover st h = refl
-applied-not (cut ms) st h = refl
 
 -- an apply takes three orders at the least
 inner-powerless : (st : State) → st .rec .power ≡ 0 → innerDone st ≡ false
@@ -304,53 +213,64 @@ inner-powerless st e = go (applies st) (lt-leb (st .rec .logged + 3) (st .rec .p
     go true h = h
     go false h = refl
 
-cut-short : (q : Request) (st : State)
-    → called q st ≡ record { answer = 4; orders = st .rec .power; state = withCard (run (ordersOf q st) (cardIn st)) (withRecord (withMode down (left q st)) st) }
+cut-short : (q : Request) (st : State) (t : Bool) → AppliedFirst q st t
+    → called q st ≡ record { answer = 4; orders = st .rec .power; state = withCard (run (ordersOf q st) (cardIn st)) (withRecord (withMode down (left t st)) st) }
     → st .rec .power < length (ordersOf q st) → Batched (cardIn st) (ordersOf q st) → Gone q st
-cut-short q st short less batched = record {
+cut-short q st t first short less batched = record {
   answer = ap (λ (o : Outcome). o .answer) short;
   orders = ap (λ (o : Outcome). o .orders) short;
   down-now = ap (λ (o : Outcome). o .state .rec .mode) short;
-  N = ap (λ (o : Outcome). o .state .rec .blocks) short ∙ left-is q st (λ r. r .blocks) (st .rec .blocks) refl ∙ same-both (appliedFirst q st) (st .rec .blocks);
-  emptied = λ e d. let t : appliedFirst q st ≡ true = ap (λ (x : Request). appliedFirst x st) e ∙ d in (
-    ap (λ (o : Outcome). o .state .rec .logged) short ∙ left-is q st (λ r. r .logged) 0 refl ∙ ap (λ (b : Bool). cond b 0 (st .rec .logged)) t,
-    ap (λ (o : Outcome). o .state .rec .sum) short ∙ left-is q st (λ r. r .sum) start refl ∙ ap (λ (b : Bool). cond b start (st .rec .sum)) t,
+  N = ap (λ (o : Outcome). o .state .rec .blocks) short ∙ left-is t st (λ r. r .blocks) (st .rec .blocks) refl ∙ same-both t (st .rec .blocks);
+  emptied = λ e d. let u : t ≡ true = sym (first .is e) ∙ d in (
+    ap (λ (o : Outcome). o .state .rec .logged) short ∙ left-is t st (λ r. r .logged) 0 refl ∙ ap (λ (b : Bool). cond b 0 (st .rec .logged)) u,
+    ap (λ (o : Outcome). o .state .rec .sum) short ∙ left-is t st (λ r. r .sum) start refl ∙ ap (λ (b : Bool). cond b start (st .rec .sum)) u,
   );
-  kept = λ d. let t : appliedFirst q st ≡ false = applied-not q st d in (
-    ap (λ (o : Outcome). o .state .rec .logged) short ∙ left-is q st (λ r. r .logged) 0 refl ∙ ap (λ (b : Bool). cond b 0 (st .rec .logged)) t,
-    ap (λ (o : Outcome). o .state .rec .sum) short ∙ left-is q st (λ r. r .sum) start refl ∙ ap (λ (b : Bool). cond b start (st .rec .sum)) t,
+  kept = λ d. let u : t ≡ false = first .not d in (
+    ap (λ (o : Outcome). o .state .rec .logged) short ∙ left-is t st (λ r. r .logged) 0 refl ∙ ap (λ (b : Bool). cond b 0 (st .rec .logged)) u,
+    ap (λ (o : Outcome). o .state .rec .sum) short ∙ left-is t st (λ r. r .sum) start refl ∙ ap (λ (b : Bool). cond b start (st .rec .sum)) u,
   );
   power = ap (λ (o : Outcome). o .state .rec .power) short ∙ run-power (ordersOf q st) (cardIn st) ∙ (omega arith);
   work = ap (λ (o : Outcome). o .state .work) short;
-  open-count = ap (λ (o : Outcome). o .state .rec .opened) short ∙ left-is q st (λ r. r .opened) (st .rec .opened) refl ∙ same-both (appliedFirst q st) (st .rec .opened);
-  group-count = ap (λ (o : Outcome). o .state .rec .grouped) short ∙ left-is q st (λ r. r .grouped) (st .rec .grouped) refl ∙ same-both (appliedFirst q st) (st .rec .grouped);
+  open-count = ap (λ (o : Outcome). o .state .rec .opened) short ∙ left-is t st (λ r. r .opened) (st .rec .opened) refl ∙ same-both t (st .rec .opened);
+  group-count = ap (λ (o : Outcome). o .state .rec .grouped) short ∙ left-is t st (λ r. r .grouped) (st .rec .grouped) refl ∙ same-both t (st .rec .grouped);
   card = ap (λ (o : Outcome). cardIn (o .state)) short;
   blocks = λ x u. ap (λ (o : Outcome). blockAt (o .state .settled) x) short ∙ batched-keep x (ordersOf q st) (cardIn st) batched u;
   powerless = λ z.
       ap (λ (o : Outcome). o .state) short
-      ∙ ap (λ (c : Card). withCard c (withRecord (withMode down (left q st)) st)) (run-dead (ordersOf q st) (cardIn st) z)
-      ∙ ap (λ (t : Bool). withCard (cardIn st) (withRecord (withMode down (cond t (withLog 0 start (st .rec)) (st .rec))) st)) (applied-not q st (λ e. inner-powerless st z));
+      ∙ ap (λ (c : Card). withCard c (withRecord (withMode down (left t st)) st)) (run-dead (ordersOf q st) (cardIn st) z)
+      ∙ ap (λ (b : Bool). withCard (cardIn st) (withRecord (withMode down (left b st)) st)) (first .not (λ e. inner-powerless st z));
 }
 
+-- the orders of a call that nothing refuses
+batched : (q : Request) (st : State) → cause q st ≡ 0 → Batched (cardIn st) (ordersOf q st)
+batched format st e = no-batches (cardIn st)
+batched (local c) st e = no-batches (cardIn st)
+batched (save Save.sync) st e = sync-batched st (cause-opened sync st refl refl e)
+batched (save Save.apply) st e = apply-batched st (cause-opened apply st refl refl e)
+batched (save Save.recover) st e =
+    let p = cause-passes recover st e in
+    recover-batched st (idle st (record-facts st (p .counts)) (eqb-false _ _ (p .own .0))) (sizes-facts st (p .sizes) .waiting) (st .rec .blocks) (choose (st .rec .blocks) (st .settled))
+batched (cut ms) st e = no-batches (cardIn st)
+
 answers : (q : Request) (st : State) → Form q st → Answers q st
-answers q st (quiet now call none) = record {
-  refuses = λ h. call ∙ sym (call-refused (cause q st) _ st (completed now) refl h);
+answers q st (quiet now call none sized) = record {
+  refuses = called-refused q st;
   gone = λ e h. absurd (omega (arith, leb-false (length (ordersOf q st)) (st .rec .power) h, ap length none));
   serves = λ e h.
       let p : called q st ≡ completed now = call ∙ sym (call-done (cause q st) _ st (completed now) refl e) in
       (ap (λ (o : Outcome). o .answer) p, ap (λ (o : Outcome). o .orders) p ∙ sym (ap length none));
   two-suffice = recover-two st;
 }
-answers q st (gives done call batched) = record {
-  refuses = λ h. call ∙ sym (call-refused (cause q st) _ st (carried (ordersOf q st) done (left q st) st) refl h);
+answers q st (gives t done call first) = record {
+  refuses = called-refused q st;
   gone = λ e h.
-      cut-short q st
-      (call ∙ sym (call-done (cause q st) _ st (carried (ordersOf q st) done (left q st) st) refl e) ∙ carried-short (ordersOf q st) done (left q st) st (leb-false _ _ h))
+      cut-short q st t first
+      (call ∙ sym (call-done (cause q st) _ st (carried (ordersOf q st) done (left t st) st) refl e) ∙ carried-short (ordersOf q st) done (left t st) st (leb-false _ _ h))
       (leb-false _ _ h)
-      (batched e);
+      (batched q st e);
   serves = λ e h.
       let p : called q st ≡ record { answer = 0; orders = length (ordersOf q st); state = withCard (run (ordersOf q st) (cardIn st)) (withRecord done st) } =
-      (call ∙ sym (call-done (cause q st) _ st (carried (ordersOf q st) done (left q st) st) refl e) ∙ carried-done (ordersOf q st) done (left q st) st (leb-true _ _ h)) in
+      (call ∙ sym (call-done (cause q st) _ st (carried (ordersOf q st) done (left t st) st) refl e) ∙ carried-done (ordersOf q st) done (left t st) st (leb-true _ _ h)) in
       (ap (λ (o : Outcome). o .answer) p, ap (λ (o : Outcome). o .orders) p);
   two-suffice = recover-two st;
 }

@@ -1,30 +1,14 @@
 -- A line of a script is its call, and a script from a format on is a list of calls.
-use Prim.Native.Nat.{ℕ, zero, suc, _*_}
+use Prim.Native.Nat.{ℕ, _*_}
 use mathlib.Core.Path.{_≡_, refl, ap, sym, _∙_}
-use mathlib.Core.Bool.{Bool, true, false, cond}
+use mathlib.Core.Bool.{false}
 use mathlib.Core.List.{List, [], _∷_, _++_, append-assoc}
-use lib.Dec.{eqb}
 use lib.ListN.{length, length-replicate}
-use Rattle.cells.specs.Entry.Laws.{length-setEntry}
-use Rattle.cells.specs.Cell.Laws.{length-setCell}
-use Rattle.cells.specs.Entry.{blockBytes, Entry}
-use Rattle.card.specs.Card as Card
-use Rattle.card.specs.Card.{Order}
-use Rattle.card.proofs.Runs.{run-lengths, length-settle}
-use Rattle.journal.specs.declared.lookup.Found.{Found}
-use Rattle.journal.specs.declared.lookup.Found.the-variants.{At, Absent}
-use Rattle.store.specs.declared.record.Record.{Record}
+use Rattle.cells.specs.Entry.{blockBytes}
 use Rattle.store.specs.Request as Request
-use Rattle.store.specs.State.{State, Outcome, cardIn}
-use Rattle.store.specs.Lists.{openFrom, groupFrom, listed, find}
-use Rattle.store.specs.Causes.{waitingBytes, workBytes, wrongSizes, cause}
-use Rattle.store.specs.Outcomes.{refused, completed, unless}
-use Rattle.store.specs.Format.{formatted, formatCall}
-use Rattle.store.specs.Power.{powerCall}
-use Rattle.store.specs.Put.{putAt, putCall, abandonCall}
-use Rattle.store.specs.Commit.{Group, joinAt, join, joined, commitCall}
-use Rattle.store.specs.Saves.{carried, syncCall, applyCall, recoverCall, cutCall}
-use Rattle.store.proofs.Saves.{apply-carried}
+use Rattle.store.specs.State.{State}
+use Rattle.store.specs.Causes.{waitingBytes, workBytes, wrongSizes}
+use Rattle.store.specs.Format.{formatCall}
 use Rattle.script.specs.declared.command.Command.{Command}
 use Rattle.script.specs.declared.command.Command.the-variants.{Format, Power, Put, Get, Commit, Abandon, Sync, Apply, Recover, Cut, Bad}
 use Rattle.script.specs.Commands.{parse}
@@ -35,6 +19,7 @@ use Rattle.history.specs.Call.{requestOf}
 use Rattle.history.specs.Dispatch.{called}
 use Rattle.history.specs.History.{World, begun, next}
 use Rattle.history.specs.Scripts.{Says, nothing, begins, asks, saysOf, says, lineOf, leftBy, ByCall, leftAfter, worldBy, told, ScriptsAreHistories}
+use Rattle.history.proofs.Forms.{SameSizes, called-sized}
 
 -- ---- a line
 
@@ -70,80 +55,6 @@ pub by-call : (l : List ℕ) (st : State) → ByCall l st
 by-call l st = record { prints = prints-by (parse l) l st; leaves = leaves-by (parse l) l st }
 
 -- ---- no call changes a buffer's length
-
-record SameSizes (st st′ : State) : Type 0 where
-  settled : length (st′ .settled) ≡ length (st .settled)
-  waiting : length (st′ .waiting) ≡ length (st .waiting)
-  work : length (st′ .work) ≡ length (st .work)
-
-same-size : (st : State) → SameSizes st st
-same-size st = record { settled = refl; waiting = refl; work = refl }
-
-unless-sized : (k : ℕ) (st : State) (o : Outcome) → SameSizes st (o .state) → SameSizes st (unless k st o .state)
-unless-sized k st o h = go (eqb k 0)
-  where
-    go : (t : Bool) → SameSizes st (cond t o (refused k st) .state)
-    go true = h
-    go false = same-size st
-
-carried-sized : (os : List Order) (done gone : Record) (st : State) → SameSizes st (carried os done gone st .state)
-unfolding carried
-carried-sized os done gone st = record { settled = run-lengths os (cardIn st) .0; waiting = run-lengths os (cardIn st) .1; work = refl }
-
-put-sized : (f : Found) (e : Entry) (st : State) → SameSizes st (putAt f e st)
-put-sized (At i) e st = record { settled = refl; waiting = refl; work = length-setEntry (st .work) i e }
-put-sized Absent e st = record { settled = refl; waiting = refl; work = length-setEntry (st .work) (st .rec .opened) e }
-
-join-sized : (f : Found) (e : Entry) (g : Group) → length (joinAt f e g .work) ≡ length (g .work)
-join-sized (At i) e g = length-setEntry (g .work) _ e
-join-sized Absent e g = length-setEntry (g .work) _ e
-
-one-sized : (e : Entry) (g : Group) → length (join e g .work) ≡ length (g .work)
-unfolding join
-one-sized e g = join-sized (find (g .work) groupFrom (g .count) (e .address)) e g
-
-joined-sized : (n : ℕ) (g : Group) → length (joined n g .work) ≡ length (g .work)
-unfolding joined
-joined-sized zero g = refl
-joined-sized (suc n) g = one-sized (listed (g .work) openFrom n) (joined n g) ∙ joined-sized n g
-
--- a call that is done without orders, and one that gives orders
-done-sized : (q : Request.Request) (st now : State) → called q st ≡ unless (cause q st) st (completed now) → SameSizes st now → SameSizes st (called q st .state)
-done-sized q st now e h = rw e (unless-sized (cause q st) st (completed now) h)
-
-orders-sized : (q : Request.Request) (st : State) (os : List Order) (done gone : Record) → called q st ≡ unless (cause q st) st (carried os done gone st) → SameSizes st (called q st .state)
-orders-sized q st os done gone e = rw e (unless-sized (cause q st) st (carried os done gone st) (carried-sized os done gone st))
-
-format-sized : (st : State) → SameSizes st (formatted st)
-unfolding formatted
-format-sized st = record {
-  settled = simp (length-setCell, length-replicate);
-  waiting = length-replicate {A = ℕ} (length (st .waiting)) 0;
-  work = length-replicate {A = ℕ} (length (st .work)) 0;
-}
-
-cut-sized : (ms : List ℕ) (st : State) → length (Card.cut ms (cardIn st) .settled) ≡ length (st .settled)
-unfolding Card.cut
-cut-sized ms st = length-settle (Card.kept ms (Card.queue (cardIn st))) (st .settled)
-
-cut-queue : (ms : List ℕ) (st : State) → Card.cut ms (cardIn st) .waiting ≡ st .waiting
-unfolding Card.cut
-cut-queue ms st = refl
-
-called-sized : (q : Request.Request) (st : State) → SameSizes st (called q st .state)
-unfolding formatCall powerCall putCall commitCall abandonCall syncCall applyCall recoverCall cutCall
-called-sized Request.format st = done-sized Request.format st _ refl (format-sized st)
-called-sized (Request.power k) st = done-sized (Request.power k) st _ refl (record { settled = refl; waiting = refl; work = refl })
-called-sized (Request.put a b) st = done-sized (Request.put a b) st _ refl (put-sized (find (st .work) openFrom (st .rec .opened) a) (record { address = a; block = b }) st)
-called-sized (Request.get a) st = same-size st
-called-sized Request.commit st =
-    done-sized Request.commit st _ refl (record { settled = refl; waiting = refl; work = joined-sized (st .rec .opened) (record { work = st .work; count = st .rec .grouped }) })
-called-sized Request.abandon st = done-sized Request.abandon st _ refl (record { settled = refl; waiting = refl; work = refl })
-called-sized Request.sync st = orders-sized Request.sync st _ _ _ refl
-called-sized Request.apply st = orders-sized Request.apply st _ _ _ (ap (λ (o : Outcome). unless (cause Request.apply st) st o) (apply-carried st))
-called-sized Request.recover st = orders-sized Request.recover st _ _ _ refl
-called-sized (Request.cut ms) st =
-    done-sized (Request.cut ms) st _ refl (record { settled = cut-sized ms st; waiting = ap length (cut-queue ms st); work = refl })
 
 sizes-kept : (st st′ : State) → SameSizes st st′ → wrongSizes st′ ≡ wrongSizes st
 unfolding wrongSizes Rattle.journal.specs.Layout.wrongSize

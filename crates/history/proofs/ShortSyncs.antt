@@ -15,11 +15,13 @@ use Rattle.card.specs.Card as Card
 use Rattle.card.specs.Card.{queue}
 use Rattle.journal.specs.Layout.{slots}
 use Rattle.journal.proofs.Choices.{both}
+use Rattle.store.specs.Local.{Local}
+use Rattle.store.specs.Save as Save
 use Rattle.store.specs.Request as Request
 use Rattle.store.specs.State.{State, Outcome, closed, openMode, down, withQueue, withRecord}
 use Rattle.store.specs.Causes.{cause}
 use Rattle.store.specs.Saves.{groupOf}
-use Rattle.history.specs.Call.{Call, requestOf, power, put, get, commit, abandon, sync, apply, recover, cut}
+use Rattle.history.specs.Call.{Call, requestOf, local, save, cut, power, sync, apply, recover}
 use Rattle.history.specs.Plain as Plain
 use Rattle.history.specs.Plain.{Plain, Done, withPower, Short, ofSync, ofRecover, Verdict, verdict, applies, syncTakes, syncWaits, ownVerdict, unchanged, headerKept, refusal, plainStep, plainSync, plainApply, plainRecover}
 use Rattle.history.specs.Dispatch.{dispatch}
@@ -40,7 +42,7 @@ use Rattle.history.proofs.CutStep as CutStep
 use Rattle.history.proofs.RecoverStep.{is-closed}
 use Rattle.history.proofs.SyncStep.{short-whole}
 use Rattle.history.proofs.ListInduction.{step, next-sim, clean-first}
-use Rattle.history.proofs.PlainAnswers.{sync-cases}
+use Rattle.history.proofs.PlainAnswers.{sync-cases, LocalKind, powers, opens, local-kind}
 use Rattle.history.proofs.ReadsBack.{power-served, cut-accepted}
 
 -- ---- when a cut lays the group of a sync cut short
@@ -125,20 +127,16 @@ Watch old (known (decided G laid all)) st l d = OtherPhase old (decided G laid a
 
 refused-short : (c : Call) (w : World) → refusal c (w .plain) ≢ 0 → WorldSim w → shortSync c w ≡ false
 unfolding shortSync refusal
-refused-short (power k) w h m = refl
-refused-short (put a b) w h m = refl
-refused-short (get a) w h m = refl
-refused-short commit w h m = refl
-refused-short abandon w h m = refl
-refused-short sync w h m = go (ℕ-discrete (w .store .rec .mode) openMode)
+refused-short (local c) w h m = refl
+refused-short (save Save.sync) w h m = go (ℕ-discrete (w .store .rec .mode) openMode)
   where
     go : Dec (w .store .rec .mode ≡ openMode) → eqb (w .store .rec .mode) openMode && eqb (dispatch sync (w .store) .answer) 4 ≡ false
     go (yes e) =
         let d : w .plain .mode ≡ 1 = m .basics .mirrors .mode ∙ e in
         absurd (h (rw (ne-eqb (w .plain .mode) 0 (λ z. omega arith), ne-eqb (w .plain .mode) 2 (λ z. omega arith))))
     go (no e) = rw (ne-eqb _ _ e)
-refused-short apply w h m = refl
-refused-short recover w h m = refl
+refused-short (save Save.apply) w h m = refl
+refused-short (save Save.recover) w h m = refl
 refused-short (cut ms) w h m = refl
 
 refused-cut : (ms : List ℕ) (w : World) → refusal (cut ms) (w .plain) ≢ 0 → WorldSim w → acceptedCut (cut ms) w ≡ false
@@ -149,14 +147,8 @@ refused-cut ms w h m =
     rw e (ne-eqb _ 0 k)
 
 refused-at : (c : Call) (w : World) (G : List Entry) (place : ℕ) (made : Bool) → refusal c (w .plain) ≢ 0 → WorldSim w → atCut c w G place made ≡ undecided G place made
-refused-at (power k) w G place made h m = refl
-refused-at (put a b) w G place made h m = refl
-refused-at (get a) w G place made h m = refl
-refused-at commit w G place made h m = refl
-refused-at abandon w G place made h m = refl
-refused-at sync w G place made h m = refl
-refused-at apply w G place made h m = refl
-refused-at recover w G place made h m = refl
+refused-at (local c) w G place made h m = refl
+refused-at (save c) w G place made h m = refl
 refused-at (cut ms) w G place made h m =
     ap (λ (t : Bool). cond t (known (decided G (made && eqb (getD ms place 0) 1 && foundWritten (cut ms) w) (made && allOnes ms))) (undecided G place made)) (refused-cut ms w h m)
 
@@ -461,27 +453,23 @@ module _ (old : Disk) (ms : List ℕ) (w : World) (m : WorldSim w) (h : refusal 
 
 -- ---- every call
 
+local-watch : (old : Disk) (c : Local) (w : World) (f : Progress) → LocalKind c → WorldSim w → refusal (local c) (w .plain) ≡ 0 → Watch old f (w .store) (w .ledger) (w .plain)
+    → Watch old (observe (local c) w f) (storeNext (local c) w) (ledgerNext (local c) w) (plainNext (local c) w)
+unfolding observe shortSync entered
+local-watch old c w f (powers k) m h x =
+    watch-at old (power-same k w f) (ap (λ (o : Outcome). o .state) (power-served k w m)) refl (ap (λ (d : Done). d .plain) (plain-served (power k) (foundWritten (power k) w) (w .plain) h))
+    (power-watch old k f (w .store) (w .ledger) (w .plain) x)
+local-watch old c w f (opens _ n s) m h x =
+    let P = plain-served (local c) (foundWritten (local c) w) (w .plain) h in
+    open-kept old (local c) w f m (open-now (local c) w m n h .mode) x (ap (λ (d : Done). d .plain .mode) P ∙ s (w .plain) .mode) (ap (λ (d : Done). d .plain .S) P ∙ s (w .plain) .S) refl
+
 served-watch : (old : Disk) (c : Call) (w : World) (f : Progress) → WorldSim w → refusal c (w .plain) ≡ 0 → S.finished c w ≡ false → Watch old f (w .store) (w .ledger) (w .plain)
     → Watch old (observe c w f) (storeNext c w) (ledgerNext c w) (plainNext c w)
 unfolding observe shortSync entered
-served-watch old (power k) w f m h nf x =
-    watch-at old (power-same k w f) (ap (λ (o : Outcome). o .state) (power-served k w m)) refl (ap (λ (d : Done). d .plain) (plain-served (power k) (foundWritten (power k) w) (w .plain) h))
-    (power-watch old k f (w .store) (w .ledger) (w .plain) x)
-served-watch old (put a b) w f m h nf x =
-    let P = plain-served (put a b) (foundWritten (put a b) w) (w .plain) h in
-    open-kept old (put a b) w f m (open-now (put a b) w m refl h .mode) x (ap (λ (d : Done). d .plain .mode) P) (ap (λ (d : Done). d .plain .S) P) refl
-served-watch old (get a) w f m h nf x =
-    let P = plain-served (get a) (foundWritten (get a) w) (w .plain) h in
-    open-kept old (get a) w f m (open-now (get a) w m refl h .mode) x (ap (λ (d : Done). d .plain .mode) P) (ap (λ (d : Done). d .plain .S) P) refl
-served-watch old commit w f m h nf x =
-    let P = plain-served commit (foundWritten commit w) (w .plain) h in
-    open-kept old commit w f m (open-now commit w m refl h .mode) x (ap (λ (d : Done). d .plain .mode) P) (ap (λ (d : Done). d .plain .S) P) refl
-served-watch old abandon w f m h nf x =
-    let P = plain-served abandon (foundWritten abandon w) (w .plain) h in
-    open-kept old abandon w f m (open-now abandon w m refl h .mode) x (ap (λ (d : Done). d .plain .mode) P) (ap (λ (d : Done). d .plain .S) P) refl
-served-watch old sync w f m h nf x = sync-watch old w m h nf f x
-served-watch old apply w f m h nf x = apply-watch old w f m h x
-served-watch old recover w f m h nf x = recover-watch old w f m h nf x
+served-watch old (local c) w f m h nf x = local-watch old c w f (local-kind c) m h x
+served-watch old (save Save.sync) w f m h nf x = sync-watch old w m h nf f x
+served-watch old (save Save.apply) w f m h nf x = apply-watch old w f m h x
+served-watch old (save Save.recover) w f m h nf x = recover-watch old w f m h nf x
 served-watch old (cut ms) w f m h nf x = cut-watch old ms w m h f x
 
 pub watch-step : (old : Disk) (c : Call) (w : World) (f : Progress) → WorldSim w → S.finished c w ≡ false → Watch old f (w .store) (w .ledger) (w .plain)

@@ -20,7 +20,8 @@ use Rattle.store.specs.Request.{Request}
 use Rattle.store.specs.Causes.{workBytes, wrongSizes, wrongCounts, wrongWaiting, wrongLists, cause}
 use Rattle.store.specs.Outcomes.{completed}
 use Rattle.store.specs.Power.{powerCall}
-use Rattle.store.specs.Put.{putAt, putCall, abandonCall}
+use Rattle.store.specs.Put.{putAt, putCall}
+use Rattle.store.specs.Abandon.{abandonCall}
 use Rattle.store.specs.declared.place.Place.{Place}
 use Rattle.store.specs.Get.{newest, getPlace, bytesAt}
 use Rattle.store.specs.Commit.{Group, joined, commitCall}

@@ -18,21 +18,17 @@ use Rattle.store.specs.Request as Request
 use Rattle.store.specs.State.{State, Outcome, closed, openMode}
 use Rattle.store.specs.Causes.{cause}
 use Rattle.store.specs.Outcomes.{refused}
-use Rattle.store.specs.Power.{powerCall}
-use Rattle.store.specs.Put.{putCall, abandonCall}
-use Rattle.store.specs.Commit.{commitCall}
-use Rattle.store.specs.Saves.{syncCall, applyCall, recoverCall, cutCall}
 use Rattle.store.proofs.Causes.{sizes-facts}
-use Rattle.store.proofs.Calls.{call-refused}
-use Rattle.history.specs.Call.{Call, requestOf, power, put, get, commit, abandon, sync, apply, recover, cut}
+use Rattle.history.specs.Call.{Call, requestOf, local, save, cut, get}
 use Rattle.history.specs.Plain.{Plain, Done, refusal, served, plainStep, plainGet}
 use Rattle.history.specs.Dispatch.{dispatch, blockOf}
-use Rattle.history.specs.Ledger.{Ledger, PlannedHeader, syncHeaders, applyHeaders, recoverHeaders, noted, entered}
+use Rattle.history.specs.Ledger.{Ledger, PlannedHeader, headersOf, noted, entered}
 use Rattle.history.specs.History.{World, storeNext, ledgerNext, foundWritten, exception}
 use Rattle.history.specs.Statements.{Agrees}
 use Rattle.history.proofs.Disks.{logD, entries-disk, WholeCard, FallCard, ClosedCard}
 use Rattle.history.proofs.AfterCut.{read-head}
 use Rattle.history.proofs.CauseLaws.{record-facts, cause-refusal}
+use Rattle.history.proofs.Forms.{called-refused}
 use Rattle.history.proofs.EvenLedgers.{even-refl}
 use Rattle.history.proofs.Relation.{Basics, OpenSim, ClosedSim, DownSim, Sim, Safe}
 
@@ -132,16 +128,7 @@ same-cause st l d m c = cause-refusal st d (m .basics .sizes) (m .basics .counts
 -- ---- a refused call changes nothing
 
 pub dispatch-refused : (c : Call) (st : State) → cause (requestOf c) st ≢ 0 → dispatch c st ≡ refused (cause (requestOf c) st) st
-unfolding powerCall putCall commitCall abandonCall syncCall applyCall recoverCall cutCall
-dispatch-refused (power k) st h = sym (call-refused _ _ st _ refl h)
-dispatch-refused (put a b) st h = rw (ne-eqb _ 0 h)
-dispatch-refused (get a) st h = refl
-dispatch-refused commit st h = rw (ne-eqb _ 0 h)
-dispatch-refused abandon st h = rw (ne-eqb _ 0 h)
-dispatch-refused sync st h = rw (ne-eqb _ 0 h)
-dispatch-refused apply st h = rw (ne-eqb _ 0 h)
-dispatch-refused recover st h = rw (ne-eqb _ 0 h)
-dispatch-refused (cut ms) st h = rw (ne-eqb _ 0 h)
+dispatch-refused c st h = called-refused (requestOf c) st h
 
 -- no orders, no header
 pub noted-none : (hs : List PlannedHeader) (l : Ledger) → noted hs 0 l ≡ l
@@ -151,14 +138,8 @@ noted-none (h ∷ hs) l = rw (le-leb 0 (h .at) (omega arith))
 
 pub entered-refused : (c : Call) (st : State) (l : Ledger) → cause (requestOf c) st ≢ 0 → entered c st l ≡ l
 unfolding entered
-entered-refused (power k) st l h = refl
-entered-refused (put a b) st l h = refl
-entered-refused (get a) st l h = refl
-entered-refused commit st l h = refl
-entered-refused abandon st l h = refl
-entered-refused sync st l h = ap (λ (o : Outcome). noted (syncHeaders st) (o .orders) l) (dispatch-refused sync st h) ∙ noted-none (syncHeaders st) l
-entered-refused apply st l h = ap (λ (o : Outcome). noted (applyHeaders st) (o .orders) l) (dispatch-refused apply st h) ∙ noted-none (applyHeaders st) l
-entered-refused recover st l h = ap (λ (o : Outcome). noted (recoverHeaders st) (o .orders) l) (dispatch-refused recover st h) ∙ noted-none (recoverHeaders st) l
+entered-refused (local c) st l h = refl
+entered-refused (save c) st l h = ap (λ (o : Outcome). noted (headersOf c st) (o .orders) l) (dispatch-refused (save c) st h) ∙ noted-none (headersOf c st) l
 entered-refused (cut ms) st l h = rw (dispatch-refused (cut ms) st h, ne-eqb (cause (Request.cut ms) st) 0 h)
 
 pub plain-refused : (c : Call) (found : Bool) (d : Plain) → refusal c d ≢ 0 → plainStep c found d ≡ record { answer = refusal c d; orders = 0; plain = d }

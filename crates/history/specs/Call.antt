@@ -1,27 +1,44 @@
 -- "The list holds power, put, get, commit, abandon, sync, apply, recover and cut in any order, with any arguments, refused ones too."
 use Prim.Native.Nat.{ℕ}
 use mathlib.Core.List.{List}
+use Rattle.store.specs.Local as Local
+use Rattle.store.specs.Local.{Local}
+use Rattle.store.specs.Save as Save
+use Rattle.store.specs.Save.{Save}
 use Rattle.store.specs.Request as Request
 
+-- a call is local (power, put, get, commit, abandon), a save (sync, apply, recover) or a cut
 pub data Call : Type 0 where
-  power : ℕ → Call
-  put : ℕ → List ℕ → Call
-  get : ℕ → Call
-  commit : Call
-  abandon : Call
-  sync : Call
-  apply : Call
-  recover : Call
+  local : Local → Call
+  save : Save → Call
   cut : List ℕ → Call
+
+abbrev pub power : ℕ → Call
+power k = local (Local.power k)
+
+abbrev pub put : ℕ → List ℕ → Call
+put a b = local (Local.put a b)
+
+abbrev pub get : ℕ → Call
+get a = local (Local.get a)
+
+abbrev pub commit : Call
+commit = local Local.commit
+
+abbrev pub abandon : Call
+abandon = local Local.abandon
+
+abbrev pub sync : Call
+sync = save Save.sync
+
+abbrev pub apply : Call
+apply = save Save.apply
+
+abbrev pub recover : Call
+recover = save Save.recover
 
 -- a call of the list with its own arguments: every call of the store but format
 abbrev pub requestOf : Call → Request.Request
-requestOf (power k) = Request.power k
-requestOf (put a b) = Request.put a b
-requestOf (get a) = Request.get a
-requestOf commit = Request.commit
-requestOf abandon = Request.abandon
-requestOf sync = Request.sync
-requestOf apply = Request.apply
-requestOf recover = Request.recover
+requestOf (local c) = Request.local c
+requestOf (save c) = Request.save c
 requestOf (cut ms) = Request.cut ms

@@ -2,15 +2,19 @@
 -- what C sees and the script go by it.
 use Prim.Native.Nat.{ℕ}
 use mathlib.Core.List.{List}
-use Rattle.store.specs.Request.{Request, format, power, put, get, commit, abandon, sync, apply, recover, cut}
+use Rattle.store.specs.Local as Local
+use Rattle.store.specs.Save as Save
+use Rattle.store.specs.Request.{Request, format, local, save, cut, get}
 use Rattle.store.specs.State.{State, Outcome}
 use Rattle.store.specs.Causes.{cause}
 use Rattle.store.specs.Format.{formatCall}
 use Rattle.store.specs.Power.{powerCall}
-use Rattle.store.specs.Put.{putCall, abandonCall}
+use Rattle.store.specs.Put.{putCall}
+use Rattle.store.specs.Abandon.{abandonCall}
 use Rattle.store.specs.Get.{getPlace, bytesAt}
 use Rattle.store.specs.Commit.{commitCall}
-use Rattle.store.specs.Saves.{syncCall, applyCall, recoverCall, cutCall}
+use Rattle.store.specs.Saves.{syncCall, applyCall, recoverCall}
+use Rattle.store.specs.Cut.{cutCall}
 use Rattle.history.specs.Call.{Call, requestOf}
 
 -- get: its number "comes from a question with the same inputs", and it leaves everything
@@ -19,14 +23,14 @@ getCall a st = record { answer = cause (get a) st; orders = 0; state = st }
 
 abbrev pub called : Request → State → Outcome
 called format st = formatCall st
-called (power k) st = powerCall k st
-called (put a b) st = putCall a b st
-called (get a) st = getCall a st
-called commit st = commitCall st
-called abandon st = abandonCall st
-called sync st = syncCall st
-called apply st = applyCall st
-called recover st = recoverCall st
+called (local (Local.power k)) st = powerCall k st
+called (local (Local.put a b)) st = putCall a b st
+called (local (Local.get a)) st = getCall a st
+called (local Local.commit) st = commitCall st
+called (local Local.abandon) st = abandonCall st
+called (save Save.sync) st = syncCall st
+called (save Save.apply) st = applyCall st
+called (save Save.recover) st = recoverCall st
 called (cut ms) st = cutCall ms st
 
 -- a call of a list

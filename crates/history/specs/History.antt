@@ -5,7 +5,7 @@ use lib.Dec.{eqb}
 use Rattle.card.specs.Card.{blocksIn}
 use Rattle.store.specs.State.{State}
 use Rattle.store.specs.Format.{formatCall}
-use Rattle.history.specs.Call.{Call, power, put, get, commit, abandon, sync, apply, recover, cut}
+use Rattle.history.specs.Call.{Call, local, save, cut}
 use Rattle.history.specs.Plain.{Plain, fresh, plainStep}
 use Rattle.history.specs.Dispatch.{dispatch}
 use Rattle.history.specs.Ledger.{Ledger, freshLedger, entered, logFound, sameLog, collides}
@@ -33,14 +33,8 @@ foundWritten c w = sameLog (logFound (storeNext c w)) (ledgerNext c w .written)
 
 -- a cut that is accepted
 unfoldable pub acceptedCut : Call → World → Bool
-acceptedCut (power k) w = false
-acceptedCut (put a b) w = false
-acceptedCut (get a) w = false
-acceptedCut commit w = false
-acceptedCut abandon w = false
-acceptedCut sync w = false
-acceptedCut apply w = false
-acceptedCut recover w = false
+acceptedCut (local c) w = false
+acceptedCut (save c) w = false
 acceptedCut (cut ms) w = eqb (dispatch (cut ms) (w .store) .answer) 0
 
 -- the exception: a collision at an accepted cut

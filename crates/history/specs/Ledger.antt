@@ -11,9 +11,11 @@ use Rattle.cells.specs.Same.{same}
 use Rattle.fnv.specs.Fnv.{start}
 use Rattle.journal.specs.Log.{headerOf, entries, sumOf}
 use Rattle.journal.specs.Choice.{choose, takenCount}
+use Rattle.store.specs.Save as Save
+use Rattle.store.specs.Save.{Save}
 use Rattle.store.specs.State.{State}
 use Rattle.store.specs.Saves.{groupOf, applies}
-use Rattle.history.specs.Call.{Call, power, put, get, commit, abandon, sync, apply, recover, cut}
+use Rattle.history.specs.Call.{Call, local, save, cut}
 use Rattle.history.specs.Dispatch.{dispatch}
 
 -- a header that a call writes: which of the call's orders writes it (the next one flushes), its place in the queue then, and the
@@ -50,6 +52,12 @@ applyHeaders st = applyHeader st ∷ []
 
 unfoldable pub recoverHeaders : State → List PlannedHeader
 recoverHeaders st = record { at = 0; place = 0; list = taken st } ∷ []
+
+-- those of a save
+abbrev pub headersOf : Save → State → List PlannedHeader
+headersOf Save.sync st = syncHeaders st
+headersOf Save.apply st = applyHeaders st
+headersOf Save.recover st = recoverHeaders st
 
 -- a header that waits: its place and its list
 pub data Pending : Type 0 where
@@ -88,14 +96,8 @@ resolved ms (waits place list) written = cond (eqb (getD ms place 0) 1) list wri
 
 -- a call of the list, with what it came to
 unfoldable pub entered : Call → State → Ledger → Ledger
-entered (power k) st l = l
-entered (put a b) st l = l
-entered (get a) st l = l
-entered commit st l = l
-entered abandon st l = l
-entered sync st l = noted (syncHeaders st) (dispatch sync st .orders) l
-entered apply st l = noted (applyHeaders st) (dispatch apply st .orders) l
-entered recover st l = noted (recoverHeaders st) (dispatch recover st .orders) l
+entered (local c) st l = l
+entered (save c) st l = noted (headersOf c st) (dispatch (save c) st .orders) l
 entered (cut ms) st l =
     cond (eqb (dispatch (cut ms) st .answer) 0) (settledBy (resolved ms (l .pending) (l .written))) l
 

@@ -2,25 +2,28 @@
 use Prim.Native.Nat.{ℕ, _^_, _<_}
 use mathlib.Core.Path.{_≡_}
 use mathlib.Core.List.{List, [], _∷_}
+use Rattle.store.specs.Local as Local
+use Rattle.store.specs.Local.{Local}
 use Rattle.store.specs.State.{State}
 use Rattle.store.specs.CodeState.{stateOf}
 use Rattle.store.specs.Format.{formatCall}
 use Rattle.firmware.specs.Face.{encodeRecord, decodeRecord, Face, faceOf, faced, gotIn, got}
-use Rattle.history.specs.Call.{Call, power, put, get, commit, abandon, sync, apply, recover, cut}
+use Rattle.history.specs.Call.{Call, local, save, cut, power, put, commit, abandon}
 use Rattle.history.specs.Dispatch.{dispatch}
 use Rattle.history.specs.History.{begun, after}
 
 -- "Each call gets the record and the settled, waiting and work bytes that the last one returned or left", the record as 36 bytes. A
 -- get has no lent byte to change
+abbrev pub faceLocal : Local → Face → Face
+faceLocal (Local.power k) f = faced (dispatch (power k)) (f .rec) (f .settled) (f .waiting) (f .work)
+faceLocal (Local.put a b) f = faced (dispatch (put a b)) (f .rec) (f .settled) (f .waiting) (f .work)
+faceLocal (Local.get a) f = faceOf (got a (f .rec) (f .settled) (f .waiting) (f .work) .number) 0 (f .rec) (f .settled) (f .waiting) (f .work)
+faceLocal Local.commit f = faced (dispatch commit) (f .rec) (f .settled) (f .waiting) (f .work)
+faceLocal Local.abandon f = faced (dispatch abandon) (f .rec) (f .settled) (f .waiting) (f .work)
+
 abbrev pub faceNext : Call → Face → Face
-faceNext (power k) f = faced (dispatch (power k)) (f .rec) (f .settled) (f .waiting) (f .work)
-faceNext (put a b) f = faced (dispatch (put a b)) (f .rec) (f .settled) (f .waiting) (f .work)
-faceNext (get a) f = faceOf (got a (f .rec) (f .settled) (f .waiting) (f .work) .number) 0 (f .rec) (f .settled) (f .waiting) (f .work)
-faceNext commit f = faced (dispatch commit) (f .rec) (f .settled) (f .waiting) (f .work)
-faceNext abandon f = faced (dispatch abandon) (f .rec) (f .settled) (f .waiting) (f .work)
-faceNext sync f = faced (dispatch sync) (f .rec) (f .settled) (f .waiting) (f .work)
-faceNext apply f = faced (dispatch apply) (f .rec) (f .settled) (f .waiting) (f .work)
-faceNext recover f = faced (dispatch recover) (f .rec) (f .settled) (f .waiting) (f .work)
+faceNext (local c) f = faceLocal c f
+faceNext (save c) f = faced (dispatch (save c)) (f .rec) (f .settled) (f .waiting) (f .work)
 faceNext (cut ms) f = faced (dispatch (cut ms)) (f .rec) (f .settled) (f .waiting) (f .work)
 
 unfoldable pub faceAfter : List Call → Face → Face

@@ -1,5 +1,5 @@
 -- "The plain disk": a machine of its own, from its own section of document 01. Of the store it shares entries, the overlay, the
--- numbers of the causes and the data-block test.
+-- numbers of the causes, the data-block test and the names of the calls.
 use Prim.Native.Nat.{ℕ, _+_, _-_}
 use mathlib.Core.Bool.{Bool, true, false, cond, not, _&&_, _||_}
 use mathlib.Core.List.{List, [], _∷_}
@@ -8,7 +8,11 @@ use lib.ListN.{length, getD, replicate}
 use Rattle.cells.specs.Entry.{blockBytes, Entry}
 use Rattle.card.specs.Disk.{Disk, overlay}
 use Rattle.journal.specs.Layout.{slots, isData}
-use Rattle.history.specs.Call.{Call, power, put, get, commit, abandon, sync, apply, recover, cut}
+use Rattle.store.specs.Local as Local
+use Rattle.store.specs.Local.{Local}
+use Rattle.store.specs.Save as Save
+use Rattle.store.specs.Save.{Save}
+use Rattle.history.specs.Call.{Call, local, save, cut}
 
 -- "the call cut short and its orders"
 pub data Short : Type 0 where
@@ -93,16 +97,16 @@ abbrev pub whenOpen : Plain → ℕ → ℕ
 whenOpen d rest = cond (eqb (d .mode) 0) 3 (cond (eqb (d .mode) 2) 4 rest)
 
 unfoldable pub refusal : Call → Plain → ℕ
-refusal (power k) d = 0
-refusal (put a b) d =
+refusal (local (Local.power k)) d = 0
+refusal (local (Local.put a b)) d =
     cond (not (eqb (length b) blockBytes)) 1
     (whenOpen d (cond (not (isData (d .N) a)) 6 (cond (not (has a (d .T)) && leb slots (length (d .T))) 7 0)))
-refusal (get a) d = whenOpen d (cond (not (isData (d .N) a)) 6 0)
-refusal commit d = whenOpen d (cond (ltb slots (length (merge (d .T) (d .G)))) 7 0)
-refusal abandon d = whenOpen d 0
-refusal sync d = whenOpen d 0
-refusal apply d = whenOpen d 0
-refusal recover d = cond (eqb (d .mode) 2) 4 (cond (eqb (d .mode) 1) 5 0)
+refusal (local (Local.get a)) d = whenOpen d (cond (not (isData (d .N) a)) 6 0)
+refusal (local Local.commit) d = whenOpen d (cond (ltb slots (length (merge (d .T) (d .G)))) 7 0)
+refusal (local Local.abandon) d = whenOpen d 0
+refusal (save Save.sync) d = whenOpen d 0
+refusal (save Save.apply) d = whenOpen d 0
+refusal (save Save.recover) d = cond (eqb (d .mode) 2) 4 (cond (eqb (d .mode) 1) 5 0)
 refusal (cut ms) d = cond (not (eqb (length ms) (d .waiting)) || overOne ms) 10 0
 
 -- ---- orders
@@ -228,16 +232,23 @@ plainCut ms found d =
     let v = verdict (d .short) (d .n) (length (d .G)) (d .F) (headerKept ms (d .waiting)) found in
     still (closedWith (cond (v .laid) (overlay (d .G) (d .S)) (d .S)) (v .n) (v .F) d)
 
+-- a local call: "put, commit, abandon, get […] are as above"
+abbrev pub locally : Local → Plain → Plain
+locally (Local.power k) d = withPower k d
+locally (Local.put a b) d = withLists (d .G) (insert (record { address = a; block = b }) (d .T)) d
+locally (Local.get a) d = d
+locally Local.commit d = withLists (merge (d .T) (d .G)) [] d
+locally Local.abandon d = withLists (d .G) [] d
+
+abbrev pub saving : Save → Plain → Done
+saving Save.sync d = plainSync d
+saving Save.apply d = plainApply d
+saving Save.recover d = plainRecover d
+
 -- a call that is not refused
 abbrev pub served : Call → Bool → Plain → Done
-served (power k) found d = still (withPower k d)
-served (put a b) found d = still (withLists (d .G) (insert (record { address = a; block = b }) (d .T)) d)
-served (get a) found d = still d
-served commit found d = still (withLists (merge (d .T) (d .G)) [] d)
-served abandon found d = still (withLists (d .G) [] d)
-served sync found d = plainSync d
-served apply found d = plainApply d
-served recover found d = plainRecover d
+served (local c) found d = still (locally c d)
+served (save c) found d = saving c d
 served (cut ms) found d = plainCut ms found d
 
 unfoldable pub plainStep : Call → Bool → Plain → Done

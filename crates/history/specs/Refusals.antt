@@ -13,6 +13,8 @@ use Rattle.card.specs.Card.{Order, write, flush, blockAt, run}
 use Rattle.journal.specs.Layout.{wrongSize}
 use Rattle.journal.specs.Orders.{applyOrders, syncOrders}
 use Rattle.journal.specs.Choice.{choose, choiceNumber, recoverOrders}
+use Rattle.store.specs.Save as Save
+use Rattle.store.specs.Save.{Save}
 use Rattle.store.specs.Request as Request
 use Rattle.store.specs.State.{State, down, withMode, withRecord, cardIn}
 use Rattle.store.specs.CodeState.{stateOf}
@@ -28,17 +30,17 @@ use Rattle.history.specs.Scripts.{ByCall}
 
 -- ---- the ten calls
 
+-- the orders of a save
+abbrev pub saveOrders : Save → State → List Order
+saveOrders Save.sync st = syncOrders (st .rec .blocks) (st .settled) (st .rec .logged) (st .rec .sum) (groupOf st)
+saveOrders Save.apply st = applyOrders (st .rec .blocks) (st .settled) (st .rec .logged)
+saveOrders Save.recover st = recoverOrders (st .rec .blocks) (choose (st .rec .blocks) (st .settled))
+
 -- the orders of a call
 abbrev pub ordersOf : Request.Request → State → List Order
 ordersOf Request.format st = []
-ordersOf (Request.power k) st = []
-ordersOf (Request.put a b) st = []
-ordersOf (Request.get a) st = []
-ordersOf Request.commit st = []
-ordersOf Request.abandon st = []
-ordersOf Request.sync st = syncOrders (st .rec .blocks) (st .settled) (st .rec .logged) (st .rec .sum) (groupOf st)
-ordersOf Request.apply st = applyOrders (st .rec .blocks) (st .settled) (st .rec .logged)
-ordersOf Request.recover st = recoverOrders (st .rec .blocks) (choose (st .rec .blocks) (st .settled))
+ordersOf (Request.local c) st = []
+ordersOf (Request.save c) st = saveOrders c st
 ordersOf (Request.cut ms) st = []
 
 -- no order writes to the block

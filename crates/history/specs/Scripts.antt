@@ -7,6 +7,8 @@ use mathlib.Core.List.{List, [], _∷_, _++_}
 use lib.Dec.{eqb}
 use lib.ListN.{getD, replicate}
 use Rattle.cells.specs.Entry.{blockBytes}
+use Rattle.store.specs.Local as Local
+use Rattle.store.specs.Local.{Local}
 use Rattle.store.specs.Request as Request
 use Rattle.store.specs.State.{State}
 use Rattle.store.specs.Format.{formatCall}
@@ -16,7 +18,7 @@ use Rattle.script.specs.Commands.{parse}
 use Rattle.script.specs.Answers.{answerLine}
 use Rattle.script.specs.Replies.{marks}
 use Rattle.script.specs.Transcript.{linesOf, reply, printed, said, beginning, transcript}
-use Rattle.history.specs.Call.{Call, power, put, get, commit, abandon, sync, apply, recover, cut}
+use Rattle.history.specs.Call.{Call, local, save, cut, power, put, get, commit, abandon, sync, apply, recover}
 use Rattle.history.specs.Dispatch.{called, dispatch, blockOf}
 use Rattle.history.specs.History.{World, begun, next}
 
@@ -46,15 +48,16 @@ abbrev pub says : List ℕ → Says
 says l = saysOf (parse l) l
 
 -- "a third number: orders for sync, apply, recover; first byte for a get whose answer is 0; else 0"
+abbrev pub firstByte : Local → State → ℕ
+firstByte (Local.power k) st = 0
+firstByte (Local.put a b) st = 0
+firstByte (Local.get a) st = cond (eqb (dispatch (get a) st .answer) 0) (getD (blockOf a st) 0 0) 0
+firstByte Local.commit st = 0
+firstByte Local.abandon st = 0
+
 abbrev pub thirdOf : Call → State → ℕ
-thirdOf (power k) st = 0
-thirdOf (put a b) st = 0
-thirdOf (get a) st = cond (eqb (dispatch (get a) st .answer) 0) (getD (blockOf a st) 0 0) 0
-thirdOf commit st = 0
-thirdOf abandon st = 0
-thirdOf sync st = dispatch sync st .orders
-thirdOf apply st = dispatch apply st .orders
-thirdOf recover st = dispatch recover st .orders
+thirdOf (local c) st = firstByte c st
+thirdOf (save c) st = dispatch (save c) st .orders
 thirdOf (cut ms) st = 0
 
 -- "bad", 11, 0, parted by tabs and ended by LF

@@ -14,11 +14,12 @@ use Rattle.card.specs.Card.{blocksIn, blockAt}
 use Rattle.journal.specs.Layout.{headerAt, isData}
 use Rattle.journal.specs.Header.{encode, header}
 use Rattle.journal.specs.Log.{headerOf, entries, sumOf}
+use Rattle.store.specs.Save as Save
 use Rattle.store.specs.State.{State, openMode}
 use Rattle.store.specs.Causes.{wrongSizes, wrongBlock, wrongRecord}
 use Rattle.store.specs.Format.{formatCall}
 use Rattle.store.specs.Saves.{groupOf}
-use Rattle.history.specs.Call.{Call, requestOf, power, put, get, commit, abandon, sync, apply, recover, cut}
+use Rattle.history.specs.Call.{Call, requestOf, local, save, cut, get, sync, recover}
 use Rattle.history.specs.Plain.{plainStep, plainGet}
 use Rattle.history.specs.Dispatch.{dispatch, blockOf}
 use Rattle.history.specs.Ledger.{standing, inner, logFound, sameLog}
@@ -107,14 +108,10 @@ Written =
 
 -- a finished sync or recovery
 unfoldable pub finished : Call → World → Bool
-finished (power k) w = false
-finished (put a b) w = false
-finished (get a) w = false
-finished commit w = false
-finished abandon w = false
-finished sync w = eqb (dispatch sync (w .store) .answer) 0
-finished apply w = false
-finished recover w = eqb (dispatch recover (w .store) .answer) 0
+finished (local c) w = false
+finished (save Save.sync) w = eqb (dispatch sync (w .store) .answer) 0
+finished (save Save.apply) w = false
+finished (save Save.recover) w = eqb (dispatch recover (w .store) .answer) 0
 finished (cut ms) w = false
 
 -- the list is empty or ends in one
@@ -128,14 +125,10 @@ noneFinished (c ∷ cs) w = not (finished c w) && noneFinished cs (next c w)
 
 -- a sync that ran out of power itself
 unfoldable pub shortSync : Call → World → Bool
-shortSync (power k) w = false
-shortSync (put a b) w = false
-shortSync (get a) w = false
-shortSync commit w = false
-shortSync abandon w = false
-shortSync sync w = eqb (w .store .rec .mode) openMode && eqb (dispatch sync (w .store) .answer) 4
-shortSync apply w = false
-shortSync recover w = false
+shortSync (local c) w = false
+shortSync (save Save.sync) w = eqb (w .store .rec .mode) openMode && eqb (dispatch sync (w .store) .answer) 4
+shortSync (save Save.apply) w = false
+shortSync (save Save.recover) w = false
 shortSync (cut ms) w = false
 
 unfoldable pub countShort : List Call → World → ℕ
@@ -164,14 +157,8 @@ headed w = eqb (dispatch sync (w .store) .orders) (inner (w .store) + (w .store 
 
 -- at an accepted cut: its header kept, and the log found is the log written
 abbrev pub atCut : Call → World → List Entry → ℕ → Bool → Progress
-atCut (power k) w G place made = undecided G place made
-atCut (put a b) w G place made = undecided G place made
-atCut (get a) w G place made = undecided G place made
-atCut commit w G place made = undecided G place made
-atCut abandon w G place made = undecided G place made
-atCut sync w G place made = undecided G place made
-atCut apply w G place made = undecided G place made
-atCut recover w G place made = undecided G place made
+atCut (local c) w G place made = undecided G place made
+atCut (save c) w G place made = undecided G place made
 atCut (cut ms) w G place made =
     cond (acceptedCut (cut ms) w)
     (known (decided G (made && eqb (getD ms place 0) 1 && foundWritten (cut ms) w) (made && allOnes ms)))

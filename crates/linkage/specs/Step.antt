@@ -2,7 +2,9 @@
 use Prim.Native.Nat.{ℕ}
 use mathlib.Core.List.{List}
 use Rattle.firmware.specs.Face.{Face, Got, gotOf, got}
-use Rattle.history.specs.Call.{Call, power, put, get, commit, abandon, sync, apply, recover, cut}
+use Rattle.store.specs.Local as Local
+use Rattle.store.specs.Local.{Local}
+use Rattle.history.specs.Call.{Call, local, save, cut, power, put, get, commit, abandon, sync, apply, recover}
 use Rattle.history.specs.Linked.{faceNext}
 use Rattle.linkage.specs.declared.step.Code.{Code}
 use Rattle.linkage.specs.declared.step.Code.the-variants.{Power, Put, Get, Commit, Abandon, Sync, Apply, Recover, Cut}
@@ -32,15 +34,16 @@ abbrev nowhere : Got
 nowhere = gotOf 0 0 0
 
 -- of the places of all addresses the one that the call hands out: none but a get does
+abbrev pub placedBy : Local → (ℕ → Got) → Got
+placedBy (Local.power k) g = nowhere
+placedBy (Local.put a b) g = nowhere
+placedBy (Local.get a) g = g a
+placedBy Local.commit g = nowhere
+placedBy Local.abandon g = nowhere
+
 abbrev pub placed : Call → (ℕ → Got) → Got
-placed (power k) g = nowhere
-placed (put a b) g = nowhere
-placed (get a) g = g a
-placed commit g = nowhere
-placed abandon g = nowhere
-placed sync g = nowhere
-placed apply g = nowhere
-placed recover g = nowhere
+placed (local c) g = placedBy c g
+placed (save c) g = nowhere
 placed (cut ms) g = nowhere
 
 abbrev pub withPlace : Call → Face → (ℕ → Got) → Stepped

@@ -10,10 +10,12 @@ use Rattle.store.specs.Request.{get}
 use Rattle.store.specs.Causes.{cause}
 use Rattle.store.specs.Format.{formatCall}
 use Rattle.store.specs.Power.{powerCall}
-use Rattle.store.specs.Put.{putCall, abandonCall}
+use Rattle.store.specs.Put.{putCall}
+use Rattle.store.specs.Abandon.{abandonCall}
 use Rattle.store.specs.Get.{getPlace, bytesAt}
 use Rattle.store.specs.Commit.{commitCall}
-use Rattle.store.specs.Saves.{syncCall, applyCall, recoverCall, cutCall}
+use Rattle.store.specs.Saves.{syncCall, applyCall, recoverCall}
+use Rattle.store.specs.Cut.{cutCall}
 use Rattle.script.specs.declared.command.Command.{Command}
 use Rattle.script.specs.declared.command.Command.the-variants.{Format, Power, Put, Get, Commit, Abandon, Sync, Apply, Recover, Cut, Bad}
 use Rattle.script.specs.Numbers.{zeroDigit}

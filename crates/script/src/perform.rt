@@ -12,7 +12,7 @@ ghost use lib.ListN.{length, take, getD, replicate};
 ghost use Rattle.cells.specs.Entry.{blockBytes};
 ghost use Rattle.store.specs.CodeState.{stateOf};
 ghost use Rattle.store.specs.Put.{putCall};
-ghost use Rattle.store.specs.Saves.{cutCall};
+ghost use Rattle.store.specs.Cut.{cutCall};
 ghost use Rattle.script.specs.Commands.{keptBytes};
 ghost use Rattle.script.specs.Replies as Replies;
 ghost use Rattle.script.specs.Replies.{mostMarks, got};

@@ -19,7 +19,9 @@ use Rattle.journal.specs.Log.{slotAddress}
 use Rattle.journal.proofs.Logs.{neither, slot-data}
 use Rattle.store.specs.State.{State, closed, openMode, down}
 use Rattle.store.specs.Lists.{openFrom, groupFrom, listed, find}
-use Rattle.store.specs.Request.{Request, format, power, put, get, commit, abandon, sync, apply, recover, cut}
+use Rattle.store.specs.Local as Local
+use Rattle.store.specs.Save as Save
+use Rattle.store.specs.Request.{Request, format, local, save, cut, power, abandon}
 use Rattle.store.specs.Causes.{waitingBytes, workBytes, Row, wrongSizes, some, wrongCounts, wrongWaiting, isFound, wrongLists, wrongRecord, Rules, ofBytes, ofRecord, ofOpen, rows, rules, ownSize, wrongBlock, first, cause}
 
 -- ---- a search of n places from the last one down, i of them left
@@ -193,14 +195,14 @@ module _ (geo : Geometry) where
   -- a call's own rows have numbers over 2
   pub own-over : (q : Request) → All (λ r. 2 < r .number) (ownRows q)
   own-over format = omega arith
-  own-over (power k) = omega arith
-  own-over (put a b) = omega arith
-  own-over (get a) = omega arith
-  own-over commit = omega arith
-  own-over abandon = omega arith
-  own-over sync = omega arith
-  own-over apply = omega arith
-  own-over recover = omega arith
+  own-over (local (Local.power k)) = omega arith
+  own-over (local (Local.put a b)) = omega arith
+  own-over (local (Local.get a)) = omega arith
+  own-over (local Local.commit) = omega arith
+  own-over (local Local.abandon) = omega arith
+  own-over (save Save.sync) = omega arith
+  own-over (save Save.apply) = omega arith
+  own-over (save Save.recover) = omega arith
   own-over (cut ms) = omega arith
 
   -- ---- a call that no row refuses

@@ -16,7 +16,9 @@ use Rattle.journal.specs.Log.{entries, allData}
 use Rattle.journal.specs.Choice.{choose, choiceNumber}
 use Rattle.store.specs.State.{State, closed, openMode, down}
 use Rattle.store.specs.Lists.{openFrom, groupFrom, listed, find}
-use Rattle.store.specs.Request.{Request, format, power, put, get, commit, abandon, sync, apply, recover, cut}
+use Rattle.store.specs.Local as Local
+use Rattle.store.specs.Save as Save
+use Rattle.store.specs.Request.{Request, format, local, save, cut}
 
 -- ---- the sizes
 
@@ -168,14 +170,14 @@ module _ (geo : Geometry) where
 
   abbrev pub rules : Request → Rules
   rules format = ofBytes false []
-  rules (power k) = ofRecord false []
-  rules (put a b) = ofOpen (not (eqb (length b) blockBytes)) (addressRow geo a ∷ openFullRow geo a ∷ [])
-  rules (get a) = ofOpen false (addressRow geo a ∷ [])
-  rules commit = ofOpen false (groupFullRow geo ∷ [])
-  rules abandon = ofOpen false []
-  rules sync = ofOpen false []
-  rules apply = ofOpen false []
-  rules recover = ofRecord false (downRow ∷ openRow ∷ foreignRow geo ∷ unsoundRow geo ∷ [])
+  rules (local (Local.power k)) = ofRecord false []
+  rules (local (Local.put a b)) = ofOpen (not (eqb (length b) blockBytes)) (addressRow geo a ∷ openFullRow geo a ∷ [])
+  rules (local (Local.get a)) = ofOpen false (addressRow geo a ∷ [])
+  rules (local Local.commit) = ofOpen false (groupFullRow geo ∷ [])
+  rules (local Local.abandon) = ofOpen false []
+  rules (save Save.sync) = ofOpen false []
+  rules (save Save.apply) = ofOpen false []
+  rules (save Save.recover) = ofRecord false (downRow ∷ openRow ∷ foreignRow geo ∷ unsoundRow geo ∷ [])
   rules (cut ms) = ofRecord false (marksRow ms ∷ [])
 
 -- the call's own arguments have a wrong size: "a put block not 512 bytes"

@@ -8,7 +8,7 @@ use Rattle.journal.specs.Geometry.{Geometry}
 use Rattle.journal.specs.Layout.{headerAt}
 use Rattle.journal.specs.Header.{encode, emptyHeader}
 use Rattle.store.specs.State.{State, Outcome}
-use Rattle.store.specs.CodeState.{fresh}
+use Rattle.store.specs.CodeState.{stateOf, fresh}
 use Rattle.store.specs.Request.{format}
 use Rattle.store.specs.Causes.{cause}
 use Rattle.store.specs.Outcomes.{completed, unless}
@@ -16,12 +16,10 @@ use Rattle.store.specs.Outcomes.{completed, unless}
 unfoldable pub formatted : State → State
 formatted st =
     let N = blocksIn (st .settled) in
-    record {
-      rec = fresh N;
-      settled = setCell blockBytes (replicate (length (st .settled)) 0) headerAt (encode (emptyHeader N));
-      waiting = replicate (length (st .waiting)) 0;
-      work = replicate (length (st .work)) 0;
-    }
+    stateOf (fresh N)
+    (setCell blockBytes (replicate (length (st .settled)) 0) headerAt (encode (emptyHeader N)))
+    (replicate (length (st .waiting)) 0)
+    (replicate (length (st .work)) 0)
 
 module _ (geo : Geometry) where
   unfoldable pub formatCall : State → Outcome

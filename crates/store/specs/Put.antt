@@ -1,4 +1,4 @@
--- "put: replaces the open entry of that address or adds one at the end." "abandon empties open."
+-- "put: replaces the open entry of that address or adds one at the end."
 use Prim.Native.Nat.{ℕ, _+_}
 use mathlib.Core.List.{List}
 use Rattle.cells.specs.Entry.{Entry, setEntry}
@@ -7,7 +7,7 @@ use Rattle.journal.specs.declared.lookup.Found.{Found}
 use Rattle.journal.specs.declared.lookup.Found.the-variants.{At, Absent}
 use Rattle.store.specs.State.{State, Outcome, withOpened, withRecord, withWork}
 use Rattle.store.specs.Lists.{openFrom, find}
-use Rattle.store.specs.Request.{put, abandon}
+use Rattle.store.specs.Request.{put}
 use Rattle.store.specs.Causes.{cause}
 use Rattle.store.specs.Outcomes.{completed, unless}
 
@@ -20,6 +20,3 @@ module _ (geo : Geometry) where
   putCall a b st =
       unless (cause geo (put a b) st) st
       (completed (putAt (find (st .work) openFrom (st .rec .opened) a) (record { address = a; block = b }) st))
-
-  unfoldable pub abandonCall : State → Outcome
-  abandonCall st = unless (cause geo abandon st) st (completed (withRecord (withOpened 0 (st .rec)) st))

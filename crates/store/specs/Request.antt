@@ -1,15 +1,37 @@
--- A call with its own arguments, as the table of causes tells them apart.
+-- A call with its own arguments, as the table of causes tells them apart: format, a local call, a save, or a cut.
 use Prim.Native.Nat.{ℕ}
 use mathlib.Core.List.{List}
+use Rattle.store.specs.Local as Local
+use Rattle.store.specs.Local.{Local}
+use Rattle.store.specs.Save as Save
+use Rattle.store.specs.Save.{Save}
 
 pub data Request : Type 0 where
   format : Request
-  power : ℕ → Request
-  put : ℕ → List ℕ → Request
-  get : ℕ → Request
-  commit : Request
-  abandon : Request
-  sync : Request
-  apply : Request
-  recover : Request
+  local : Local → Request
+  save : Save → Request
   cut : List ℕ → Request
+
+abbrev pub power : ℕ → Request
+power k = local (Local.power k)
+
+abbrev pub put : ℕ → List ℕ → Request
+put a b = local (Local.put a b)
+
+abbrev pub get : ℕ → Request
+get a = local (Local.get a)
+
+abbrev pub commit : Request
+commit = local Local.commit
+
+abbrev pub abandon : Request
+abandon = local Local.abandon
+
+abbrev pub sync : Request
+sync = save Save.sync
+
+abbrev pub apply : Request
+apply = save Save.apply
+
+abbrev pub recover : Request
+recover = save Save.recover

@@ -1,4 +1,4 @@
--- The calls that give orders: sync, apply, recover; and the cut.
+-- The calls that give orders: sync, apply, recover.
 use Prim.Native.Nat.{ℕ, _+_, min}
 use mathlib.Core.Bool.{Bool, cond, not, _&&_}
 use mathlib.Core.List.{List, []}
@@ -6,7 +6,6 @@ use lib.Dec.{eqb, leb}
 use lib.ListN.{length}
 use Rattle.cells.specs.Entry.{Entry}
 use Rattle.fnv.specs.Fnv.{start}
-use Rattle.card.specs.Card as Card
 use Rattle.card.specs.Card.{Order, run}
 use Rattle.journal.specs.Geometry.{Geometry}
 use Rattle.journal.specs.declared.choice.Choice.{Choice}
@@ -14,9 +13,9 @@ use Rattle.journal.specs.Log.{entries, sumOf}
 use Rattle.journal.specs.Orders.{checkpointOrders, appendOrders, syncOrders}
 use Rattle.journal.specs.Choice.{choose, takenCount, takenSum, recoverOrders}
 use Rattle.store.specs.declared.record.Record.{Record}
-use Rattle.store.specs.State.{State, Outcome, closed, openMode, down, withMode, withOpened, withGrouped, withLog, withRecord, cardIn, withCard}
+use Rattle.store.specs.State.{State, Outcome, openMode, down, withMode, withOpened, withGrouped, withLog, withRecord, cardIn, withCard}
 use Rattle.store.specs.Lists.{groupFrom, listOf}
-use Rattle.store.specs.Request.{sync, apply, recover, cut}
+use Rattle.store.specs.Request.{sync, apply, recover}
 use Rattle.store.specs.Causes.{cause}
 use Rattle.store.specs.Outcomes.{completed, unless}
 
@@ -98,11 +97,3 @@ module _ (geo : Geometry) where
 
   unfoldable pub recoverCall : State → Outcome
   recoverCall st = unless (cause geo recover st) st (recovering (choose geo (st .rec .blocks) (st .settled)) st)
-
-  -- ---- cut: "The queue is emptied, the record closed, its open, group and log counts 0, its sum the empty list's. N and the power
-  -- count stay."
-
-  unfoldable pub cutCall : List ℕ → State → Outcome
-  cutCall marks st =
-      unless (cause geo (cut marks) st) st
-      (completed (withCard (Card.cut marks (cardIn st)) (withRecord (withMode closed (withOpened 0 (withGrouped 0 (withLog 0 start (st .rec))))) st)))

@@ -4,10 +4,8 @@ use crate::lists::OPEN;
 use crate::lists::address;
 use crate::lists::copy_entry;
 use crate::lists::find;
-use crate::lists::holds;
 use crate::record::Answer;
 use crate::record::Record;
-use journal::SLOTS;
 use journal::lookup::Found;
 ghost use mathlib.Core.Path.{_≡_};
 ghost use Prim.Native.Nat.{_+_, _≤_, _<_};
@@ -17,9 +15,8 @@ ghost use Rattle.journal.specs.declared.lookup.Found.the-variants.{Absent};
 ghost use Rattle.store.specs.CodeState.{stateOf, outcomeOf};
 ghost use Rattle.store.specs.Lists as Lists;
 ghost use Rattle.store.specs.Lists.{openFrom, groupFrom, listed};
-ghost use Rattle.store.specs.Request as Request;
 ghost use Rattle.store.specs.Causes as Causes;
-ghost use Rattle.store.specs.Causes.{cause, workBytes};
+ghost use Rattle.store.specs.Causes.{workBytes};
 ghost use Rattle.store.specs.Commit as Commit;
 ghost use Rattle.store.specs.Commit.{joined, commitCall};
 
@@ -34,38 +31,6 @@ impl Record {
         let grouped = join_all(work, self.grouped, self.opened);
         self.with_grouped(grouped).with_opened(0).answer(0)
     }
-
-    // Its cause. Row 7 is counted before anything is copied.
-    fn commit_number(self, settled: &[u8], waiting: &[u8], work: &[u8]) -> u32
-        ensures { λ r. ⌜ r ≡ cause trap Request.commit (stateOf self (now (settled .entry)) (now (waiting .entry)) (now (work .entry))) ⌝ }
-    {
-        let number = self.not_open(settled, waiting, work);
-        if number != 0 {
-            return number;
-        }
-        let new = newcomers(work, self.grouped, self.opened);
-        if SLOTS < self.grouped + new {
-            return 7;
-        }
-        0
-    }
-}
-
-// How many of the first n open entries have an address that a group of g lacks.
-fn newcomers(work: &[u8], g: u32, n: u32) -> u32
-    requires { ⌜ workBytes trap ≤ length (now work) ⌝ }
-    requires { ⌜ (g ≤ trap .slots) × (n ≤ trap .slots) ⌝ }
-    ensures { λ r. ⌜ (r ≡ Causes.newcomers trap (now (work .entry)) g n) × (r ≤ n) ⌝ }
-{
-    let mut count = 0;
-    let mut i = 0;
-    while i < n {
-        if !holds(work, GROUP, g, address(work, OPEN, i)) {
-            count += 1;
-        }
-        i += 1;
-    }
-    count
 }
 
 // The first n open entries, in turn, replace or join a group of g; its new count.

@@ -1,4 +1,5 @@
 // Transactions with group commit over the journal.
+pub mod abandon;
 pub mod apply;
 mod check;
 pub mod commit;
@@ -11,6 +12,7 @@ pub mod power;
 pub mod put;
 pub mod record;
 pub mod recover;
+mod refusals;
 pub mod saved;
 pub mod sync;
 

@@ -1,13 +1,9 @@
-// put and abandon: the open list.
+// put: replaces the open entry of that address or adds one at the end.
 use crate::lists::OPEN;
 use crate::lists::find;
-use crate::lists::holds;
 use crate::record::Answer;
 use crate::record::Record;
-use cells::BLOCK;
 use cells::entry;
-use journal::SLOTS;
-use journal::log::is_data;
 use journal::lookup::Found;
 ghost use mathlib.Core.Path.{_≡_};
 ghost use mathlib.Core.List.{List};
@@ -19,12 +15,9 @@ ghost use Rattle.journal.specs.declared.lookup.Found.the-variants.{Absent};
 ghost use Rattle.store.specs.CodeState.{stateOf, outcomeOf};
 ghost use Rattle.store.specs.Lists as Lists;
 ghost use Rattle.store.specs.Lists.{openFrom};
-ghost use Rattle.store.specs.Request as Request;
-ghost use Rattle.store.specs.Causes.{cause};
-ghost use Rattle.store.specs.Put.{putAt, putCall, abandonCall};
+ghost use Rattle.store.specs.Put.{putAt, putCall};
 
 impl Record {
-    // put: replaces the open entry of that address or adds one at the end.
     pub fn put(
         self,
         settled: &[u8],
@@ -42,36 +35,6 @@ impl Record {
         self.put_entry(work, address, block).answer(0)
     }
 
-    // Its cause.
-    fn put_number(
-        self,
-        settled: &[u8],
-        waiting: &[u8],
-        work: &[u8],
-        address: u32,
-        block: &[u8],
-    ) -> u32
-        ensures { λ r. ⌜ r ≡ cause trap (Request.put address (now (block .entry))) (stateOf self (now (settled .entry)) (now (waiting .entry)) (now (work .entry))) ⌝ }
-    {
-        if block.len() != BLOCK {
-            return 1;
-        }
-        let number = self.not_open(settled, waiting, work);
-        if number != 0 {
-            return number;
-        }
-        if !is_data(self.blocks, address) {
-            return 6;
-        }
-        if self.opened < SLOTS {
-            return 0;
-        }
-        if holds(work, OPEN, self.opened, address) {
-            return 0;
-        }
-        7
-    }
-
     // The entry itself.
     fn put_entry(self, work: &mut [u8], address: u32, block: &[u8]) -> Record
         requires { ⌜ length (now block) ≡ blockBytes ⌝ }
@@ -86,16 +49,5 @@ impl Record {
         };
         entry::set(work, i as usize, address, block);
         self
-    }
-
-    // abandon: empties open.
-    pub fn abandon(self, settled: &[u8], waiting: &[u8], work: &[u8]) -> Answer
-        ensures { λ r. ⌜ outcomeOf (r .number) 0 (r .rec) (now (settled .entry)) (now (waiting .entry)) (now (work .entry)) ≡ abandonCall trap (stateOf self (now (settled .entry)) (now (waiting .entry)) (now (work .entry))) ⌝ }
-    {
-        let number = self.not_open(settled, waiting, work);
-        if number != 0 {
-            return self.answer(number);
-        }
-        self.with_opened(0).answer(0)
     }
 }

@@ -6,7 +6,7 @@ use native.Mathlib.Omega.{arith}
 use borrow.Author.Needs.{needs}
 use lib.Seq.{length-take-le}
 use Rattle.store.specs.CodeState.{stateOf}
-use Rattle.store.specs.Saves.{cutCall}
+use Rattle.store.specs.Cut.{cutCall}
 use Rattle.script.specs.Replies.{called}
 use Rattle.script.proofs.perform.cut.Statement.{statement}
 use Rattle.script.proofs.perform.cut.Tie as tie

@@ -1,5 +1,5 @@
 -- `store::record::Record::abandon` meets its contract.
-use Rattle.store.specs.Put.{abandonCall}
+use Rattle.store.specs.Abandon.{abandonCall}
 use Rattle.store.proofs.Calls.{call-refused, call-done}
 use borrow.Author.Needs.{needs}
 use Rattle.store.proofs.record.Record.abandon.Statement.{statement}

@@ -9,7 +9,7 @@ use Rattle.store.specs.State.{State}
 use Rattle.store.specs.CodeState.{stateOf}
 use Rattle.store.specs.Request.{cut}
 use Rattle.store.specs.Outcomes.{completed}
-use Rattle.store.specs.Saves.{cutCall}
+use Rattle.store.specs.Cut.{cutCall}
 use Rattle.store.proofs.Calls.{call-refused, call-done}
 use Rattle.card.proofs.Leaves.{fits-length}
 use Rattle.journal.specs.Geometry.{trap}

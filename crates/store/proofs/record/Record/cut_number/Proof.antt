@@ -1,5 +1,5 @@
 -- `store::record::Record::cut_number` meets its contract.
-use mathlib.Core.Path.{_≡_, refl}
+use mathlib.Core.Path.{_≡_}
 use mathlib.Core.Bool.{cond}
 use mathlib.Core.Logic.{_≢_}
 use native.Mathlib.Omega.{arith}

@@ -1,4 +1,4 @@
--- `store::commit::newcomers` meets its contract.
+-- `store::refusals::newcomers` meets its contract.
 use Prim.Native.Nat.{_-_, _≤_}
 use mathlib.Core.Path.{_≡_, refl, sym, _∙_}
 use mathlib.Core.Bool.{true, false}
@@ -9,8 +9,8 @@ use Rattle.journal.specs.Geometry.{trap}
 use Rattle.store.specs.Lists.{openFrom, groupFrom, listed, find}
 use Rattle.store.specs.Causes.{isFound, newcomers}
 use Rattle.store.proofs.Commits.{newcomers-more}
-use Rattle.store.proofs.commit.newcomers.Statement.{statement}
-use Rattle.store.proofs.commit.newcomers.Tie as tie
+use Rattle.store.proofs.refusals.newcomers.Statement.{statement}
+use Rattle.store.proofs.refusals.newcomers.Tie as tie
 
 abbrev Inv-loop : tie.InvT-loop
 Inv-loop work g n count₀ i₀ count i = (i ≤ n) × (count ≡ newcomers trap work g i) × (count ≤ i)

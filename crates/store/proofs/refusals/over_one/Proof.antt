@@ -1,4 +1,4 @@
--- `store::cut::over_one` meets its contract.
+-- `store::refusals::over_one` meets its contract.
 use Prim.Native.Nat.{ℕ, _+_, _-_, _≤_, _<_}
 use mathlib.Core.Path.{_≡_, refl, ap, sym, _∙_}
 use mathlib.Core.Bool.{_||_}
@@ -10,8 +10,8 @@ use lib.Dec.{ltb}
 use lib.ListN.{length, getD, drop, drop-of-length-le}
 use lib.Seq.{drop-cons}
 use Rattle.card.specs.Marks.{overOne}
-use Rattle.store.proofs.cut.over_one.Statement.{statement}
-use Rattle.store.proofs.cut.over_one.Tie as tie
+use Rattle.store.proofs.refusals.over_one.Statement.{statement}
+use Rattle.store.proofs.refusals.over_one.Tie as tie
 
 abbrev Inv-loop : tie.InvT-loop
 Inv-loop marks i₀ i = (i ≤ length marks) × (overOne (drop i marks) ≡ overOne marks)

@@ -1,0 +1,22 @@
+-- "Cut. It takes one mark for each waiting write, 1 kept or 0 lost. Kept writes settle, oldest first, whole. The queue is emptied, the
+-- record closed, its open, group and log counts 0, its sum the empty list's. N and the power count stay."
+use Prim.Native.Nat.{ℕ}
+use mathlib.Core.List.{List}
+use Rattle.fnv.specs.Fnv.{start}
+use Rattle.card.specs.Card as Card
+use Rattle.journal.specs.Geometry.{Geometry}
+use Rattle.store.specs.declared.record.Record.{Record}
+use Rattle.store.specs.State.{State, Outcome, closed, withMode, withOpened, withGrouped, withLog, withRecord, cardIn, withCard}
+use Rattle.store.specs.Request.{cut}
+use Rattle.store.specs.Causes.{cause}
+use Rattle.store.specs.Outcomes.{completed, unless}
+
+-- the record that it leaves, the queue apart
+abbrev pub shut : Record → Record
+shut r = withMode closed (withOpened 0 (withGrouped 0 (withLog 0 start r)))
+
+module _ (geo : Geometry) where
+  unfoldable pub cutCall : List ℕ → State → Outcome
+  cutCall marks st =
+      unless (cause geo (cut marks) st) st
+      (completed (withCard (Card.cut marks (cardIn st)) (withRecord (shut (st .rec)) st)))
