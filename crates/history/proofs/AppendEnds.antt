@@ -15,20 +15,22 @@ use Rattle.card.specs.Card.{Card, kept, cut, settle, blockAt, blocksIn}
 use Rattle.card.proofs.All.{All, all-append, all-take}
 use Rattle.card.proofs.Runs.{Whole, NarrowAddress}
 use Rattle.card.proofs.Cuts.{kept-all}
+use Rattle.card.specs.Marks.{keptAt}
 use Rattle.journal.specs.Layout.{slots, firstData, headerAt, descriptorAt}
 use Rattle.journal.specs.Header.{encode, header}
 use Rattle.journal.specs.Log.{entries, sumOf, allData}
 use Rattle.journal.proofs.Headers.{length-encode}
 use Rattle.journal.proofs.Logs.{sumOf-append, length-blockAt}
 use Rattle.journal.proofs.OrderLists.{appendWrites, slotBlocks, slots-whole, slots-below, length-describe}
+use Rattle.crash.proofs.Batches.{Left}
+use Rattle.crash.proofs.CallCuts.{append-cuts}
+use Rattle.crash.proofs.Cards.{WholeCard, append-head}
+use Rattle.crash.proofs.Leads.{Leads, foundIn, on-card, append-all, append-whole}
+use Rattle.crash.proofs.Logs.{slotE, logD, entries-disk}
+use Rattle.crash.proofs.Orders.{length-append-writes}
 use Rattle.history.specs.Plain.{ownVerdict}
 use Rattle.history.specs.Ledger.{sameLog}
-use Rattle.history.proofs.Disks.{slotE, logD, entries-disk, WholeCard, append-head}
-use Rattle.history.proofs.Batches.{Left, length-append-writes}
 use Rattle.history.proofs.Plans.{Fits}
-use Rattle.history.proofs.AfterCut.{Leads, foundIn, on-card, append-all, append-whole}
-use Rattle.history.proofs.Crashes.{all-appended}
-use Rattle.history.proofs.CallCuts.{cut-laid, settled-laid, append-cuts, append-cuts-top}
 
 -- the writes of an append are addressed below N
 writes-low : (N : ℕ) (s : List ℕ) (n h : ℕ) (G : List Entry) → firstData < N → n + length G ≤ slots → All (λ e. e .address < N) (appendWrites N s n h G)
@@ -70,7 +72,7 @@ module _ {N : ℕ} {s : List ℕ} {n h : ℕ} {G v : List Entry} {S : Disk} (x :
   short-before c r j f l ms = append-cuts N s n h G v S (x .big) (x .small) (x .size) (x .room) (x .sum) (x .card) writes-whole (x .all-data) c r j f ms l
 
   pub short-top : (c r : Card) (j : ℕ) → Left c r s (take j W) 0 → j ≡ length G + 2 → (ms : List ℕ) → length ms ≡ length G + 2
-      → (t u : Bool) → eqb (getD ms (length G + 1) 0) 1 ≡ t → sameLog (foundIn (cut ms r .settled)) (cond t (logD (blockAt s) n ++ G) v) ≡ u
+      → (t u : Bool) → keptAt ms (length G + 1) ≡ t → sameLog (foundIn (cut ms r .settled)) (cond t (logD (blockAt s) n ++ G) v) ≡ u
       → Leads N (cut ms r .settled) (cond t (logD (blockAt s) n ++ G) v) (cond (ownVerdict n (length G) t u .laid) (overlay G S) S) (ownVerdict n (length G) t u .n) (ownVerdict n (length G) t u .F)
   short-top c r j f e ms l = append-cuts-top N s n h G v S (x .big) (x .small) (x .size) (x .room) (x .sum) (x .card) writes-whole (x .all-data) c r j f ms e (length-append-writes N s n h G) l
 

@@ -27,7 +27,7 @@ use Rattle.store.specs.Causes as Causes
 use Rattle.store.specs.Causes.{wrongSizes, wrongCounts, wrongWaiting, wrongLists, wrongRecord, Row, sizeRow, recordRow, closedRow, downRow, Rules, ofBytes, ofRecord, ofOpen, rows, rules, ownSize, wrongBlock, some, first, cause}
 use Rattle.store.proofs.Causes.{restOf, readsRecord, needsOpen, ownRows, own-over, other, SizeFacts, sizes-facts, counts-facts, waiting-facts, Passes, cause-passes as Causes·cause-passes}
 use Rattle.history.specs.Call.{Call, requestOf, local, save, cut, recover}
-use Rattle.history.specs.Plain.{Plain, overOne, refusal}
+use Rattle.history.specs.Plain.{Plain, refusal}
 use Rattle.history.proofs.Lists.{none-some, find-has, Distinct, twice-distinct, distinct-twice, Data, strays-all, all-strays}
 use Rattle.history.proofs.WorkLists.{newcomers-merge}
 
@@ -143,12 +143,6 @@ idle st f h = go (eqb (st .rec .waiting) 0) refl
 
 -- ---- the plain disk's refusal
 
--- Causes.antt and Plain.antt each define it, in one text
-pub overOne-same : (ms : List ℕ) → Causes.overOne ms ≡ overOne ms
-unfolding Causes.overOne overOne
-overOne-same [] = refl
-overOne-same (m ∷ ms) = ap (λ (t : Bool). ltb 1 m || t) (overOne-same ms)
-
 -- the plain disk has what a refusal reads
 pub record Mirrors (st : State) (d : Plain) : Type 0 where
   pub mode : d .mode ≡ st .rec .mode
@@ -201,7 +195,7 @@ module _ (st : State) (d : Plain) (sizes : wrongSizes st ≡ false) (counts : wr
           let b : st .rec .mode ≢ openMode = eqb-false _ _ q in
           let k : st .rec .mode ≤ down = record-facts st counts .mode in
           rw (h refl (omega arith))
-  cause-refusal (cut ms) h = rw (sizes, counts, m .waiting, overOne-same)
+  cause-refusal (cut ms) h = rw (sizes, counts, m .waiting)
 
 -- ---- numbers that are not given
 

@@ -10,20 +10,22 @@ use Rattle.cells.specs.Entry.{blockBytes, Entry}
 use Rattle.card.specs.Card.{Card, cut, settle, blockAt, blocksIn}
 use Rattle.card.proofs.All.{All, all-map}
 use Rattle.card.proofs.Runs.{Whole, length-settle}
+use Rattle.card.specs.Marks.{keptAt}
 use Rattle.journal.specs.Layout.{isData}
 use Rattle.journal.specs.Header.{emptyHeader}
 use Rattle.journal.specs.Log.{entries}
 use Rattle.journal.specs.Orders.{checkpointOrders}
 use Rattle.journal.proofs.Headers.{length-encode}
 use Rattle.journal.proofs.OrderLists.{headerEntry, checkpoint-writes}
+use Rattle.crash.proofs.Batches.{Left}
+use Rattle.crash.proofs.CallCuts.{homes-cuts, still-cuts, header-cuts}
+use Rattle.crash.proofs.Cards.{WholeCard}
+use Rattle.crash.proofs.Leads.{Leads, homes-done, empty-card}
+use Rattle.crash.proofs.Logs.{data-below}
 use Rattle.store.specs.State.{State, cardIn}
 use Rattle.history.specs.Plain.{Plain, applyVerdict, applyWaits, headerKept}
 use Rattle.history.specs.Ledger.{Ledger, PlannedHeader, noted, applyHeader, resolved}
-use Rattle.history.proofs.Disks.{WholeCard, data-below}
-use Rattle.history.proofs.Batches.{Left}
 use Rattle.history.proofs.Plans.{Plan, planned, takes, settles, Fits, Throughout, length-settles}
-use Rattle.history.proofs.AfterCut.{Leads, homes-done, empty-card}
-use Rattle.history.proofs.CallCuts.{settled-laid, homes-cuts, still-cuts, header-cuts}
 use Rattle.history.proofs.Lists.{Data}
 use Rattle.history.proofs.Relation.{Basics, OpenSim, cutWritten}
 use Rattle.history.proofs.PlainLaws.{waits-homes, waits-flushed, waits-header, apply-before, apply-at, kept-mark}
@@ -133,7 +135,7 @@ module _ (st : State) (l : Ledger) (d : Plain) (b : Basics st d) (o : OpenSim st
           waiting = one;
           leads = λ r f ms m.
               rw (note-at (applyHeader st) hs k l (omega arith), apply-at k n false (headerKept ms (applyWaits n k)) e, kept-mark ms (applyWaits n k) 0 one)
-              (header-cuts N homed n (l .written) (d .S) (cardIn st) r ms (Facts.big st l d b o) size-homed (homes .0) (homes .1) top-whole f m (eqb (getD ms 0 0) 1) refl);
+              (header-cuts N homed n (l .written) (d .S) (cardIn st) r ms (Facts.big st l d b o) size-homed (homes .0) (homes .1) top-whole f m (keptAt ms 0) refl);
         }
 
     pub checkpoint-cuts : Throughout (CheckpointCuts hs) checkpoint (st .settled) 0

@@ -15,6 +15,8 @@ use Rattle.card.specs.Disk.{Disk, overlay}
 use Rattle.card.specs.Card as Card
 use Rattle.card.specs.Card.{blockAt, kept, settle}
 use Rattle.card.proofs.Cuts.{cut-length}
+use Rattle.crash.proofs.Cards.{ClosedCard}
+use Rattle.crash.proofs.Leads.{closed-leads, foundIn}
 use Rattle.store.specs.Request as Request
 use Rattle.store.specs.State.{State, Outcome, closed, down, withMode, withOpened, withGrouped, withLog, withRecord, withCard, cardIn}
 use Rattle.store.specs.Causes.{cause}
@@ -22,12 +24,10 @@ use Rattle.store.specs.Outcomes.{completed}
 use Rattle.store.specs.Cut.{cutCall}
 use Rattle.store.proofs.Causes.{sizes-facts}
 use Rattle.history.specs.Call.{get, cut}
-use Rattle.history.specs.Plain.{Plain, Done, plainStep, none, still, closedWith, Verdict, refusal, plainCut, headerKept, overOne}
+use Rattle.history.specs.Plain.{Plain, Done, plainStep, none, still, closedWith, Verdict, refusal, plainCut, headerKept}
 use Rattle.history.specs.Dispatch.{dispatch}
 use Rattle.history.specs.Ledger.{Ledger, nothing, settledBy, resolved, entered, logFound, sameLog, collides}
 use Rattle.history.specs.History.{World, storeNext, ledgerNext, foundWritten, acceptedCut, exception}
-use Rattle.history.proofs.Disks.{ClosedCard}
-use Rattle.history.proofs.AfterCut.{closed-leads, foundIn}
 use Rattle.history.proofs.CauseLaws.{facts-sizes, record-facts, facts-record, idle}
 use Rattle.history.proofs.Relation.{Basics, OpenSim, ClosedSim, DownSim, Sim, cutSettled, cutWritten, cutVerdict, CutLeads}
 use Rattle.history.proofs.PlainLaws.{choose-none}
@@ -116,14 +116,14 @@ cut-sim ms st d w S n F b r = record {
 
 -- ---- the step
 
--- a cut that is not refused has as many marks as there are waiting writes
-pub marks-fit : (ms : List ℕ) (d : Plain) → refusal (cut ms) d ≡ 0 → length ms ≡ d .waiting
+-- a cut that is not refused has marks that fit
+pub marks-fit : (ms : List ℕ) (d : Plain) → refusal (cut ms) d ≡ 0 → marksFit ms (d .waiting) ≡ true
 unfolding refusal
-marks-fit ms d h = go (not (eqb (length ms) (d .waiting))) (overOne ms) refl h
+marks-fit ms d h = go (marksFit ms (d .waiting)) h
   where
-    go : (s t : Bool) → not (eqb (length ms) (d .waiting)) ≡ s → _≡_ {A = ℕ} (cond (s || t) 10 0) 0 → length ms ≡ d .waiting
-    go true t p q = absurd (omega arith)
-    go false t p q = eqb-true _ _ (borrow.Author.Tests.not-false _ p)
+    go : (t : Bool) → _≡_ {A = ℕ} (cond (not t) 10 0) 0 → t ≡ true
+    go true q = refl
+    go false q = absurd (omega arith)
 
 cut-no-get : (ms : List ℕ) (a : ℕ) → cut ms ≡ get a → ⊥
 cut-no-get ms a e = let z : _≡_ {A = ℕ} 0 1 = cc in omega arith

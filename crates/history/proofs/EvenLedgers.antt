@@ -7,6 +7,7 @@ use lib.Dec.{eqb, leb}
 use lib.ListN.{length, getD}
 use Rattle.cells.specs.Entry.{Entry}
 use Rattle.fnv.specs.Fnv.{start}
+use Rattle.card.specs.Marks.{keptAt}
 use Rattle.journal.specs.Log.{sumOf}
 use Rattle.store.specs.State.{State}
 use Rattle.history.specs.Call.{Call, local, save, cut}
@@ -65,7 +66,7 @@ unfolding resolved
 resolved-even ms nothing nothing a b e f = f
 resolved-even ms nothing (waits q y) a b e f = absurd e
 resolved-even ms (waits p x) nothing a b e f = absurd e
-resolved-even ms (waits p x) (waits q y) a b e f = rw (e .0) (go (eqb (getD ms q 0) 1))
+resolved-even ms (waits p x) (waits q y) a b e f = rw (e .0) (go (keptAt ms q))
   where
     go : (t : Bool) → EvenLists (cond t x a) (cond t y b)
     go true = e .1

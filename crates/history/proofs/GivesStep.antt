@@ -16,6 +16,9 @@ use Rattle.card.proofs.All.{All}
 use Rattle.card.proofs.Runs.{queue-below}
 use Rattle.journal.specs.Layout.{slots}
 use Rattle.journal.specs.Log.{entries, sumOf}
+use Rattle.crash.proofs.Batches.{Left, no-queue}
+use Rattle.crash.proofs.Cards.{WholeCard}
+use Rattle.crash.proofs.Logs.{logD, entries-disk}
 use Rattle.store.specs.declared.record.Record.{Record}
 use Rattle.store.specs.State.{State, Outcome, openMode, down, withMode, withLog, withRecord, withCard, cardIn}
 use Rattle.store.specs.Lists.{openFrom, groupFrom, listOf}
@@ -26,9 +29,7 @@ use Rattle.history.specs.Plain.{Plain, Short, none, Done, plainStep, cut
 use Rattle.history.specs.Dispatch.{dispatch}
 use Rattle.history.specs.Ledger.{PlannedHeader, nothing, noted}
 use Rattle.history.specs.History.{World, ledgerNext, foundWritten}
-use Rattle.history.proofs.Disks.{logD, entries-disk, WholeCard}
 use Rattle.journal.proofs.Logs.{allData-all}
-use Rattle.history.proofs.Batches.{Left, no-queue}
 use Rattle.history.proofs.Plans.{Plan, planned, takes, settles, Fits, Asked, Throughout, length-planned, length-settles, plan-done, Stopped, plan-short}
 use Rattle.history.proofs.Lists.{Data, Distinct}
 use Rattle.history.proofs.CauseLaws.{RecordFacts, facts-sizes, record-facts, facts-record}

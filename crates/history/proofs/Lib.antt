@@ -1,9 +1,5 @@
 -- The proofs of the statements about histories.
-pub mod Disks
-pub mod Batches
 pub mod Plans
-pub mod Crashes
-pub mod AfterCut
 pub mod Lists
 pub mod WorkLists
 pub mod CauseLaws
@@ -14,7 +10,6 @@ pub mod PlainLaws
 pub mod Steps
 pub mod SimpleSteps
 pub mod CutStep
-pub mod CallCuts
 pub mod CallEnds
 pub mod Notes
 pub mod GivesStep

@@ -17,6 +17,8 @@ use Rattle.journal.specs.Layout.{headerAt, isData}
 use Rattle.journal.specs.Header.{encode, emptyHeader}
 use Rattle.journal.proofs.Headers.{length-encode}
 use Rattle.journal.proofs.Logs.{neither, sumOf-nil}
+use Rattle.crash.proofs.Cards.{emptied}
+use Rattle.crash.proofs.Logs.{data-above, data-below}
 use Rattle.store.specs.Local as Local
 use Rattle.store.specs.Save as Save
 use Rattle.store.specs.Request as Request
@@ -30,7 +32,6 @@ use Rattle.history.specs.Plain.{fresh}
 use Rattle.history.specs.Dispatch.{dispatch}
 use Rattle.history.specs.Ledger.{Ledger, entered}
 use Rattle.history.specs.History.{World, begun, next, after, exception}
-use Rattle.history.proofs.Disks.{emptied, data-above, data-below}
 use Rattle.history.proofs.CauseLaws.{facts-sizes, facts-record, cause-passes}
 use Rattle.history.proofs.EvenLedgers.{even-refl, even-trans, entered-even}
 use Rattle.history.proofs.Relation.{Safe}

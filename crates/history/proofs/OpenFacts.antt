@@ -13,13 +13,13 @@ use Rattle.card.proofs.All.{All}
 use Rattle.card.proofs.Runs.{Whole, NarrowAddress}
 use Rattle.journal.specs.Layout.{slots, firstData}
 use Rattle.journal.specs.Log.{entries, sumOf, allData}
+use Rattle.crash.proofs.Logs.{logD, slotE, entries-disk}
 use Rattle.store.specs.State.{State}
 use Rattle.store.specs.Lists.{groupFrom, listed}
 use Rattle.store.specs.Saves.{groupOf}
 use Rattle.store.proofs.Causes.{SizeFacts, sizes-facts}
 use Rattle.history.specs.Plain.{Plain}
 use Rattle.history.specs.Ledger.{Ledger}
-use Rattle.history.proofs.Disks.{logD, slotE, entries-disk}
 use Rattle.journal.proofs.Logs.{from-whole, entries-whole, all-allData}
 use Rattle.history.proofs.Lists.{Data}
 use Rattle.history.proofs.WorkLists.{data-short}

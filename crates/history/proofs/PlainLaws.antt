@@ -8,6 +8,7 @@ use native.Mathlib.Omega.{arith}
 use borrow.Author.Tests.{eq-eqb, ne-eqb, le-leb, lt-leb, lt-ltb, le-ltb}
 use lib.Dec.{eqb}
 use lib.ListN.{length, getD}
+use Rattle.card.specs.Marks.{keptAt}
 use Rattle.journal.specs.Layout.{slots}
 use Rattle.history.specs.Plain.{Plain, none, ofSync, ofApply, ofRecover, applies, syncTakes, applyWaits, syncWaits, unchanged, applyVerdict, ownVerdict, verdict, cutShort, plainSync, plainApply, plainRecover, headerKept, done, still, synced, emptied, recovered}
 
@@ -145,6 +146,6 @@ unfolding ownVerdict
 own-other n m = refl
 
 -- the header's mark
-pub kept-mark : (ms : List ℕ) (w k : ℕ) → w ≡ suc k → headerKept ms w ≡ eqb (getD ms k 0) 1
+pub kept-mark : (ms : List ℕ) (w k : ℕ) → w ≡ suc k → headerKept ms w ≡ keptAt ms k
 unfolding headerKept
-kept-mark ms w k h = ap (λ (i : ℕ). eqb (getD ms i 0) 1) (let e : w - 1 ≡ k = omega arith in e)
+kept-mark ms w k h = ap (λ (i : ℕ). keptAt ms i) (let e : w - 1 ≡ k = omega arith in e)

@@ -17,6 +17,9 @@ use Rattle.journal.specs.declared.choice.Choice.{Choice}
 use Rattle.journal.specs.Log.{headerOf, entries, sumOf}
 use Rattle.journal.specs.Choice.{takenCount}
 use Rattle.journal.proofs.Choices.{both}
+use Rattle.crash.proofs.Cards.{WholeCard, FallCard}
+use Rattle.crash.proofs.Leads.{read-head, same-logs, logs-same}
+use Rattle.crash.proofs.Logs.{slotE, logD, entries-disk}
 use Rattle.store.specs.Local.{Local}
 use Rattle.store.specs.Save as Save
 use Rattle.store.specs.Request as Request
@@ -30,8 +33,6 @@ use Rattle.history.specs.Dispatch.{dispatch}
 use Rattle.history.specs.Ledger.{Ledger, recoverHeaders, noted, entered, taken, logFound, sameLog}
 use Rattle.history.specs.History.{World, begun, next, after, storeNext, ledgerNext, foundWritten, acceptedCut, exception}
 use Rattle.history.specs.Statements.{noCut, Taken, ReadBack, WrittenSummed}
-use Rattle.history.proofs.Disks.{slotE, logD, entries-disk, WholeCard, FallCard}
-use Rattle.history.proofs.AfterCut.{read-head, same-logs, logs-same}
 use Rattle.history.proofs.CauseLaws.{cause-passes}
 use Rattle.history.proofs.Relation.{OpenSim, ClosedSim, DownSim, Sim, Safe}
 use Rattle.history.proofs.PlainLaws.{recover-whole, recover-fallback, recover-short}

@@ -14,6 +14,7 @@ use Rattle.fnv.specs.Fnv.{start}
 use Rattle.card.specs.Disk.{Disk}
 use Rattle.card.specs.Card.{settle, blockAt}
 use Rattle.card.proofs.Runs.{Whole}
+use Rattle.card.specs.Marks.{keptAt}
 use Rattle.journal.specs.declared.choice.Choice.{Choice}
 use Rattle.journal.specs.declared.choice.Choice.the-variants.{Fallback}
 use Rattle.journal.specs.Layout.{firstData}
@@ -22,6 +23,10 @@ use Rattle.journal.specs.Log.{entries, sumOf}
 use Rattle.journal.specs.Choice.{choose, takenCount}
 use Rattle.journal.proofs.Headers.{length-encode}
 use Rattle.journal.proofs.OrderLists.{fallback-writes}
+use Rattle.crash.proofs.CallCuts.{fallHeader, fall-cuts}
+use Rattle.crash.proofs.Cards.{WholeCard, FallCard}
+use Rattle.crash.proofs.Leads.{fallen-card}
+use Rattle.crash.proofs.Logs.{logD, entries-disk}
 use Rattle.store.specs.Request as Request
 use Rattle.store.specs.State.{State}
 use Rattle.store.specs.Causes.{cause}
@@ -31,9 +36,6 @@ use Rattle.history.specs.Call.{get, recover}
 use Rattle.history.specs.Plain.{Plain, ofRecover, refusal, plainStep, plainRecover, headerKept, unchanged}
 use Rattle.history.specs.Ledger.{Ledger, waits, recoverHeaders, noted, entered, taken, resolved}
 use Rattle.history.specs.History.{World, foundWritten}
-use Rattle.history.proofs.Disks.{logD, entries-disk, WholeCard, FallCard}
-use Rattle.history.proofs.AfterCut.{fallen-card}
-use Rattle.history.proofs.CallCuts.{settled-laid, fallHeader, fall-still, fall-cuts}
 use Rattle.history.proofs.CauseLaws.{RecordFacts, record-facts, cause-passes}
 use Rattle.history.proofs.Plans.{Plan}
 use Rattle.history.proofs.Relation.{OpenSim, ClosedSim, DownSim, Sim, leads-still}
@@ -167,9 +169,9 @@ module _ (st : State) (v : List Entry) (S : Disk) (n : ℕ) (F x : Bool) (f : Cl
       waiting = refl;
       leads = λ c l ms y.
           rw note-top
-          (leads-still _ _ (unchanged n (not (eqb (getD ms 0 0) 1)))
+          (leads-still _ _ (unchanged n (not (keptAt ms 0)))
           (choose-recover n 0 F (headerKept ms 1) _ ∙ ap (λ (t : Bool). unchanged n (not t)) (kept-mark ms 1 0 refl)) refl
-          (fall-cuts N s n v S _ c ms big (rc .blocks) r top-whole l y (eqb (getD ms 0 0) 1) refl));
+          (fall-cuts N s n v S _ c ms big (rc .blocks) r top-whole l y (keptAt ms 0) refl));
     }
 
     cuts : (j k : ℕ) → j ≤ 1 → k ≡ 0 + j → CutsAt w (recoverHeaders st) ofRecover (λ k. k) s (take j (top ∷ [])) k

@@ -29,6 +29,8 @@ use Rattle.journal.proofs.Logs.{from-whole, entries-whole, length-blockAt}
 use Rattle.journal.proofs.Choices.{both}
 use Rattle.journal.proofs.Headers.{length-encode}
 use Rattle.journal.proofs.OrderLists.{headerEntry, appendWrites, append-writes, checkpoint-writes, fallback-writes, length-fallback}
+use Rattle.crash.proofs.Batches.{batch, Fit, batch-short, batch-done}
+use Rattle.crash.proofs.Orders.{append-fit}
 use Rattle.store.specs.declared.record.Record.{Record}
 use Rattle.store.specs.State.{State, Outcome, down, withMode, withLog, withRecord, cardIn, withCard}
 use Rattle.store.specs.Lists.{groupFrom, listed}
@@ -41,7 +43,6 @@ use Rattle.store.proofs.Calls.{call-done}
 use Rattle.store.proofs.Causes.{sizes-facts}
 use Rattle.history.specs.Dispatch.{called}
 use Rattle.history.specs.Refusals.{ordersOf, untouched, innerDone, Gone, Answers}
-use Rattle.history.proofs.Batches.{batch, Fit, batch-short, batch-done, append-fit}
 use Rattle.history.proofs.WorkLists.{data-short}
 use Rattle.history.proofs.CauseLaws.{idle, record-facts, cause-passes, IsOpen, cause-opened}
 use Rattle.history.proofs.Forms.{left, AppliedFirst, Form, quiet, gives, unless-either, form, called-refused}

@@ -11,12 +11,12 @@ use Rattle.card.specs.Disk.{Disk, overlay}
 use Rattle.card.specs.Card as Card
 use Rattle.card.specs.Card.{blockAt}
 use Rattle.journal.specs.Log.{entries, sumOf}
+use Rattle.crash.proofs.Cards.{WholeCard, ClosedCard}
+use Rattle.crash.proofs.Leads.{Leads, foundIn}
 use Rattle.store.specs.State.{State, closed, openMode, down, cardIn}
 use Rattle.store.specs.Causes.{wrongSizes, wrongRecord}
 use Rattle.history.specs.Plain.{Plain, none, Verdict, verdict, headerKept}
 use Rattle.history.specs.Ledger.{Ledger, nothing, resolved, sameLog}
-use Rattle.history.proofs.Disks.{WholeCard, ClosedCard}
-use Rattle.history.proofs.AfterCut.{Leads, foundIn}
 use Rattle.history.proofs.CauseLaws.{Mirrors}
 use Rattle.history.proofs.EvenLedgers.{Even}
 

@@ -13,8 +13,10 @@ use Rattle.cells.specs.Entry.{Entry}
 use Rattle.card.specs.Disk.{Disk, overlay}
 use Rattle.card.specs.Card as Card
 use Rattle.card.specs.Card.{queue}
+use Rattle.card.specs.Marks.{keptAt, allKept}
 use Rattle.journal.specs.Layout.{slots}
 use Rattle.journal.proofs.Choices.{both}
+use Rattle.crash.proofs.Leads.{foundIn}
 use Rattle.store.specs.Local.{Local}
 use Rattle.store.specs.Save as Save
 use Rattle.store.specs.Request as Request
@@ -28,8 +30,7 @@ use Rattle.history.specs.Dispatch.{dispatch}
 use Rattle.history.specs.Ledger.{Ledger, entered, inner, sameLog}
 use Rattle.history.specs.History.{World, next, after, storeNext, ledgerNext, foundWritten, acceptedCut}
 use Rattle.history.specs.Statements as S
-use Rattle.history.specs.Statements.{Fate, quiet, decided, Progress, known, undecided, observe, fate, outcome, WholeIsNew, shortSync, noneFinished, allOnes, headed, atCut}
-use Rattle.history.proofs.AfterCut.{foundIn}
+use Rattle.history.specs.Statements.{Fate, quiet, decided, Progress, known, undecided, observe, fate, outcome, WholeIsNew, shortSync, noneFinished, headed, atCut}
 use Rattle.store.proofs.Causes.{needsOpen}
 use Rattle.history.proofs.CauseLaws.{cause-passes}
 use Rattle.history.proofs.Relation.{Basics, OpenSim, ClosedSim, DownSim, cutSettled, cutWritten}
@@ -57,39 +58,39 @@ abbrev innerOf : ℕ → ℕ → ℕ
 innerOf n m = cond (applies n m) (n + 3) 0
 
 pub sync-laid : (n m k : ℕ) (F found : Bool) (ms : List ℕ) → k < syncTakes n m
-    → verdict (ofSync k) n m F (headerKept ms (syncWaits n m k)) found .laid ≡ eqb k (innerOf n m + (m + 2)) && eqb (getD ms (m + 1) 0) 1 && found
+    → verdict (ofSync k) n m F (headerKept ms (syncWaits n m k)) found .laid ≡ eqb k (innerOf n m + (m + 2)) && keptAt ms (m + 1) && found
 sync-laid n m k F found ms h = go (decLe (n + m) slots)
   where
-    single : n + m ≤ slots → Dec (k ≡ m + 2) → verdict (ofSync k) n m F (headerKept ms (syncWaits n m k)) found .laid ≡ eqb k (innerOf n m + (m + 2)) && eqb (getD ms (m + 1) 0) 1 && found
+    single : n + m ≤ slots → Dec (k ≡ m + 2) → verdict (ofSync k) n m F (headerKept ms (syncWaits n m k)) found .laid ≡ eqb k (innerOf n m + (m + 2)) && keptAt ms (m + 1) && found
     single f (yes e) =
         let w : syncWaits n m k ≡ suc (m + 1) = PlainLaws.sync-waits-plain n m k f ∙ e ∙ (omega arith) in
         ap (λ (v : Verdict). v .laid) (PlainLaws.choose-sync-own k n m F (headerKept ms (syncWaits n m k)) found f e)
         ∙ own-laid n m (headerKept ms (syncWaits n m k)) found
         ∙ ap (λ (t : Bool). t && found) (PlainLaws.kept-mark ms (syncWaits n m k) (m + 1) w)
-        ∙ sym (ap (λ (t : Bool). t && eqb (getD ms (m + 1) 0) 1 && found) (eq-eqb k (innerOf n m + (m + 2)) (e ∙ zero-in f)))
+        ∙ sym (ap (λ (t : Bool). t && keptAt ms (m + 1) && found) (eq-eqb k (innerOf n m + (m + 2)) (e ∙ zero-in f)))
       where
         zero-in : n + m ≤ slots → m + 2 ≡ innerOf n m + (m + 2)
         zero-in f = let i : innerOf n m ≡ 0 = rw (PlainLaws.no-apply n m f) in omega arith
     single f (no e) =
         let i : innerOf n m ≡ 0 = rw (PlainLaws.no-apply n m f) in
         ap (λ (v : Verdict). v .laid) (PlainLaws.choose-sync-before k n m F (headerKept ms (syncWaits n m k)) found f e)
-        ∙ sym (ap (λ (t : Bool). t && eqb (getD ms (m + 1) 0) 1 && found) (ne-eqb k (innerOf n m + (m + 2)) (λ z. e (omega arith))))
+        ∙ sym (ap (λ (t : Bool). t && keptAt ms (m + 1) && found) (ne-eqb k (innerOf n m + (m + 2)) (λ z. e (omega arith))))
 
-    over : slots < n + m → Dec (k ≡ n + 3 + (m + 2)) → verdict (ofSync k) n m F (headerKept ms (syncWaits n m k)) found .laid ≡ eqb k (innerOf n m + (m + 2)) && eqb (getD ms (m + 1) 0) 1 && found
+    over : slots < n + m → Dec (k ≡ n + 3 + (m + 2)) → verdict (ofSync k) n m F (headerKept ms (syncWaits n m k)) found .laid ≡ eqb k (innerOf n m + (m + 2)) && keptAt ms (m + 1) && found
     over f (yes e) =
         let i : innerOf n m ≡ n + 3 = rw (PlainLaws.do-apply n m f) in
         let w : syncWaits n m k ≡ suc (m + 1) = PlainLaws.sync-waits-own n m k f (omega arith) ∙ (omega arith) in
         ap (λ (v : Verdict). v .laid) (PlainLaws.choose-sync-last k n m F (headerKept ms (syncWaits n m k)) found f e)
         ∙ own-laid 0 m (headerKept ms (syncWaits n m k)) found
         ∙ ap (λ (t : Bool). t && found) (PlainLaws.kept-mark ms (syncWaits n m k) (m + 1) w)
-        ∙ sym (ap (λ (t : Bool). t && eqb (getD ms (m + 1) 0) 1 && found) (eq-eqb k (innerOf n m + (m + 2)) (omega arith)))
+        ∙ sym (ap (λ (t : Bool). t && keptAt ms (m + 1) && found) (eq-eqb k (innerOf n m + (m + 2)) (omega arith)))
     over f (no e) =
         let i : innerOf n m ≡ n + 3 = rw (PlainLaws.do-apply n m f) in
         ap (λ (v : Verdict). v .laid) (PlainLaws.choose-sync-apply k n m F (headerKept ms (syncWaits n m k)) found f e)
         ∙ apply-laid k n F (headerKept ms (syncWaits n m k))
-        ∙ sym (ap (λ (t : Bool). t && eqb (getD ms (m + 1) 0) 1 && found) (ne-eqb k (innerOf n m + (m + 2)) (λ z. e (omega arith))))
+        ∙ sym (ap (λ (t : Bool). t && keptAt ms (m + 1) && found) (ne-eqb k (innerOf n m + (m + 2)) (λ z. e (omega arith))))
 
-    go : Dec (n + m ≤ slots) → verdict (ofSync k) n m F (headerKept ms (syncWaits n m k)) found .laid ≡ eqb k (innerOf n m + (m + 2)) && eqb (getD ms (m + 1) 0) 1 && found
+    go : Dec (n + m ≤ slots) → verdict (ofSync k) n m F (headerKept ms (syncWaits n m k)) found .laid ≡ eqb k (innerOf n m + (m + 2)) && keptAt ms (m + 1) && found
     go (yes f) = single f (ℕ-discrete k (m + 2))
     go (no f) = over (omega arith) (ℕ-discrete k (n + 3 + (m + 2)))
 
@@ -115,8 +116,8 @@ pub record ShortPhase (old : Disk) (G : List Entry) (place : ℕ) (made : Bool) 
   pub mode : st .rec .mode ≡ down
   pub S : d .S ≡ old
   pub group : d .G ≡ G
-  pub laid : (ms : List ℕ) (found : Bool) → planned d ms found .laid ≡ made && eqb (getD ms place 0) 1 && found
-  pub whole : made ≡ true → (ms : List ℕ) → length ms ≡ st .rec .waiting → allOnes ms ≡ true → (eqb (getD ms place 0) 1 ≡ true) × (sameLog (foundIn (cutSettled ms st)) (cutWritten ms l) ≡ true)
+  pub laid : (ms : List ℕ) (found : Bool) → planned d ms found .laid ≡ made && keptAt ms place && found
+  pub whole : made ≡ true → (ms : List ℕ) → length ms ≡ st .rec .waiting → allKept ms ≡ true → (keptAt ms place ≡ true) × (sameLog (foundIn (cutSettled ms st)) (cutWritten ms l) ≡ true)
 
 abbrev pub Watch : Disk → Progress → State → Ledger → Plain → Type 0
 Watch old (known quiet) st l d = OpenPhase old st d ⊎ OtherPhase old quiet st d
@@ -150,7 +151,7 @@ refused-at : (c : Call) (w : World) (G : List Entry) (place : ℕ) (made : Bool)
 refused-at (local c) w G place made h m = refl
 refused-at (save c) w G place made h m = refl
 refused-at (cut ms) w G place made h m =
-    ap (λ (t : Bool). cond t (known (decided G (made && eqb (getD ms place 0) 1 && foundWritten (cut ms) w) (made && allOnes ms))) (undecided G place made)) (refused-cut ms w h m)
+    ap (λ (t : Bool). cond t (known (decided G (made && keptAt ms place && foundWritten (cut ms) w) (made && allKept ms))) (undecided G place made)) (refused-cut ms w h m)
 
 observe-refused : (c : Call) (w : World) (f : Progress) → refusal c (w .plain) ≢ 0 → WorldSim w → observe c w f ≡ f
 unfolding observe
@@ -221,10 +222,10 @@ open-now c w m n h =
 
 -- ---- sync
 
-ones-mark : (ms : List ℕ) (i : ℕ) → i < length ms → allOnes ms ≡ true → eqb (getD ms i 0) 1 ≡ true
-unfolding allOnes
-ones-mark (k ∷ ms) zero l h = both (eqb k 1) (allOnes ms) h .0
-ones-mark (k ∷ ms) (suc i) l h = ones-mark ms i (omega arith) (both (eqb k 1) (allOnes ms) h .1)
+ones-mark : (ms : List ℕ) (i : ℕ) → i < length ms → allKept ms ≡ true → keptAt ms i ≡ true
+unfolding allKept
+ones-mark (k ∷ ms) zero l h = both (eqb k 1) (allKept ms) h .0
+ones-mark (k ∷ ms) (suc i) l h = ones-mark ms i (omega arith) (both (eqb k 1) (allKept ms) h .1)
 
 module _ (old : Disk) (w : World) (m : WorldSim w) (h : refusal sync (w .plain) ≡ 0) (nf : S.finished sync w ≡ false) where
   o : OpenSim (w .store) (w .ledger) (w .plain)
@@ -313,7 +314,7 @@ module _ (old : Disk) (w : World) (m : WorldSim w) (h : refusal sync (w .plain) 
         group = Facts.plain-group (w .store) (w .ledger) (w .plain) b o;
         laid = λ ms u.
             sync-laid (w .plain .n) (length (w .plain .G)) (w .plain .power) (w .plain .F) u ms (gone .less)
-            ∙ ap₂ (λ (t : Bool) (i : ℕ). t && eqb (getD ms (i + 1) 0) 1 && u) (sym headed-is) count;
+            ∙ ap₂ (λ (t : Bool) (i : ℕ). t && keptAt ms (i + 1) && u) (sym headed-is) count;
         whole = λ e ms l a.
             let q : length ms ≡ w .store .rec .grouped + 2 = l ∙ waits-two e in (
               ones-mark ms (w .store .rec .grouped + 1) (omega arith) a,
@@ -416,11 +417,11 @@ module _ (old : Disk) (ms : List ℕ) (w : World) (m : WorldSim w) (h : refusal 
       (to-watch old f (storeNext (cut ms) w) (ledgerNext (cut ms) w) _
       (record { mode = closed-now; S = ap (λ (t : Bool). cond t (overlay (w .plain .G) (w .plain .S)) (w .plain .S)) z ∙ s; laid = λ ns u. ap (λ (v : Verdict). v .laid) (PlainLaws.choose-none _ _ _ _ u); whole = y }))
 
-  cut-observed : (G : List Entry) (place : ℕ) (made : Bool) → observe (cut ms) w (undecided G place made) ≡ known (decided G (made && eqb (getD ms place 0) 1 && found) (made && allOnes ms))
+  cut-observed : (G : List Entry) (place : ℕ) (made : Bool) → observe (cut ms) w (undecided G place made) ≡ known (decided G (made && keptAt ms place && found) (made && allKept ms))
   unfolding observe
   cut-observed G place made =
-      ap (λ (t : Bool). cond t (known (decided G (made && eqb (getD ms place 0) 1 && foundWritten (cut ms) w) (made && allOnes ms))) (undecided G place made)) (cut-accepted ms w m h)
-      ∙ ap (λ (t : Bool). known (decided G (made && eqb (getD ms place 0) 1 && t) (made && allOnes ms))) (CutStep.found-cut ms w m h)
+      ap (λ (t : Bool). cond t (known (decided G (made && keptAt ms place && foundWritten (cut ms) w) (made && allKept ms))) (undecided G place made)) (cut-accepted ms w m h)
+      ∙ ap (λ (t : Bool). known (decided G (made && keptAt ms place && t) (made && allKept ms))) (CutStep.found-cut ms w m h)
 
   cut-decides : (G : List Entry) (place : ℕ) (made : Bool) → ShortPhase old G place made (w .store) (w .ledger) (w .plain)
       → Watch old (observe (cut ms) w (undecided G place made)) (storeNext (cut ms) w) (ledgerNext (cut ms) w) (plainNext (cut ms) w)
@@ -429,10 +430,10 @@ module _ (old : Disk) (ms : List ℕ) (w : World) (m : WorldSim w) (h : refusal 
       (record {
         mode = closed-now;
         S = ap (λ (t : Bool). cond t (overlay (w .plain .G) (w .plain .S)) (w .plain .S)) (x .laid ms found)
-            ∙ ap₂ (λ (g : List Entry) (d : Disk). cond (made && eqb (getD ms place 0) 1 && found) (overlay g d) d) (x .group) (x .S);
+            ∙ ap₂ (λ (g : List Entry) (d : Disk). cond (made && keptAt ms place && found) (overlay g d) d) (x .group) (x .S);
         laid = λ ns u. ap (λ (v : Verdict). v .laid) (PlainLaws.choose-none _ _ _ _ u);
         whole = λ e.
-            let q = both made (allOnes ms) e in
+            let q = both made (allKept ms) e in
             let y = x .whole (q .0) ms (CutStep.marks-fit ms (w .plain) h ∙ m .basics .mirrors .waiting) (q .1) in
             rw (q .0, y .0, y .1);
       })

@@ -13,6 +13,7 @@ use Rattle.card.specs.Card.{cut, queue}
 use Rattle.card.proofs.All.{All}
 use Rattle.card.proofs.Overlays.{overlay-agree}
 use Rattle.journal.specs.Layout.{slots, isData, mostBlocks}
+use Rattle.crash.proofs.Logs.{entries-disk}
 use Rattle.store.specs.State.{State, Outcome, openMode, withOpened, withGrouped, withQueue, withRecord, withWork}
 use Rattle.store.specs.Lists.{openFrom, groupFrom, listOf, find}
 use Rattle.store.specs.Request as Request
@@ -32,7 +33,6 @@ use Rattle.history.specs.Plain.{Plain, Done, insert, merge, refusal, wit
 use Rattle.history.specs.Dispatch.{dispatch, blockOf}
 use Rattle.history.specs.Ledger.{Ledger, entered}
 use Rattle.history.specs.History.{World, foundWritten}
-use Rattle.history.proofs.Disks.{entries-disk}
 use Rattle.history.proofs.Lists.{Distinct, Data, distinct-insert, all-insert, distinct-merge, all-merge}
 use Rattle.history.proofs.WorkLists.{data-short, put-open, newcomers-merge, joined-group, newest-get}
 use Rattle.history.proofs.CauseLaws.{facts-sizes, record-facts, facts-record, cause-passes}

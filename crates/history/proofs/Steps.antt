@@ -14,6 +14,9 @@ use Rattle.journal.specs.Layout.{slots, firstData}
 use Rattle.journal.specs.Header.{header}
 use Rattle.journal.specs.Log.{headerOf, entries, sumOf}
 use Rattle.journal.specs.Choice.{foreign, choose, choiceNumber}
+use Rattle.crash.proofs.Cards.{WholeCard, FallCard, ClosedCard}
+use Rattle.crash.proofs.Leads.{read-head}
+use Rattle.crash.proofs.Logs.{logD, entries-disk}
 use Rattle.store.specs.Request as Request
 use Rattle.store.specs.State.{State, Outcome, closed, openMode}
 use Rattle.store.specs.Causes.{cause}
@@ -25,8 +28,6 @@ use Rattle.history.specs.Dispatch.{dispatch, blockOf}
 use Rattle.history.specs.Ledger.{Ledger, PlannedHeader, headersOf, noted, entered}
 use Rattle.history.specs.History.{World, storeNext, ledgerNext, foundWritten, exception}
 use Rattle.history.specs.Statements.{Agrees}
-use Rattle.history.proofs.Disks.{logD, entries-disk, WholeCard, FallCard, ClosedCard}
-use Rattle.history.proofs.AfterCut.{read-head}
 use Rattle.history.proofs.CauseLaws.{record-facts, cause-refusal}
 use Rattle.history.proofs.Forms.{called-refused}
 use Rattle.history.proofs.EvenLedgers.{even-refl}

@@ -16,12 +16,18 @@ use Rattle.card.specs.Disk.{Disk, overlay}
 use Rattle.card.specs.Card.{Card, Order, run, cut, settle, blockAt}
 use Rattle.card.proofs.All.{All, all-append, all-at}
 use Rattle.card.proofs.Runs.{run-nil}
+use Rattle.card.specs.Marks.{keptAt, allKept}
 use Rattle.journal.specs.Layout.{headerAt}
 use Rattle.journal.specs.Log.{entries, sumOf}
 use Rattle.journal.specs.Orders.{syncOrders}
 use Rattle.journal.proofs.Logs.{sumOf-nil}
 use Rattle.journal.proofs.Choices.{both}
 use Rattle.journal.proofs.OrderLists.{appendWrites}
+use Rattle.crash.proofs.Batches.{Left}
+use Rattle.crash.proofs.Cards.{WholeCard}
+use Rattle.crash.proofs.Leads.{foundIn}
+use Rattle.crash.proofs.Logs.{logD}
+use Rattle.crash.proofs.Orders.{length-append-writes}
 use Rattle.store.specs.Request as Request
 use Rattle.store.specs.declared.record.Record.{Record}
 use Rattle.store.specs.State.{State, Outcome, withGrouped, withLog, cardIn}
@@ -32,11 +38,8 @@ use Rattle.history.specs.Call.{get, sync}
 use Rattle.history.specs.Plain.{Plain, ofSync, refusal, plainStep, plainSync, syncWaits, ownVerdict, unchanged}
 use Rattle.history.specs.Ledger.{Ledger, waits, syncHeaders, noted, entered, ownHeader, standing, inner, resolved, sameLog}
 use Rattle.history.specs.History.{World, ledgerNext, foundWritten}
-use Rattle.history.specs.Statements.{Logged, allOnes}
-use Rattle.history.proofs.Disks.{logD, WholeCard}
-use Rattle.history.proofs.Batches.{Left, length-append-writes}
+use Rattle.history.specs.Statements.{Logged}
 use Rattle.history.proofs.Plans.{Plan, planned, takes, settles, Fits, Asked, Throughout, takes-append, settles-append, throughout-append, throughout-all}
-use Rattle.history.proofs.AfterCut.{foundIn}
 use Rattle.history.proofs.AppendEnds.{writes-fit, short-before, short-top, whole-found, done-card, done-sum, done-logged}
 use Rattle.history.proofs.CauseLaws.{RecordFacts, record-facts, cause-passes}
 use Rattle.history.proofs.Relation.{OpenSim, cutWritten, cutSettled, leads-still, leads-laid}
@@ -54,12 +57,12 @@ use Rattle.history.proofs.SyncMeets.{Met, met}
 sync-no-get : (a : ℕ) → sync ≡ get a → ⊥
 sync-no-get a e = let z : _≡_ {A = ℕ} 0 1 = cc in omega arith
 
-ones-at : (ms : List ℕ) → allOnes ms ≡ true → All (λ k. k ≡ 1) ms
-unfolding allOnes
+ones-at : (ms : List ℕ) → allKept ms ≡ true → All (λ k. k ≡ 1) ms
+unfolding allKept
 ones-at [] h = tt
-ones-at (k ∷ ms) h = let q = both (eqb k 1) (allOnes ms) h in (eqb-true _ _ (q .0), ones-at ms (q .1))
+ones-at (k ∷ ms) h = let q = both (eqb k 1) (allKept ms) h in (eqb-true _ _ (q .0), ones-at ms (q .1))
 
-one-at : (ms : List ℕ) (i : ℕ) → i < length ms → All (λ k. k ≡ 1) ms → eqb (getD ms i 0) 1 ≡ true
+one-at : (ms : List ℕ) (i : ℕ) → i < length ms → All (λ k. k ≡ 1) ms → keptAt ms i ≡ true
 one-at ms i l a = eq-eqb _ _ (all-at (λ k. k ≡ 1) ms i 0 l a)
 
 module _ (st : State) (v : List Entry) (S : Disk) (x : Bool) (f : Opened st v S) where
@@ -192,8 +195,8 @@ module _ (st : State) (v : List Entry) (S : Disk) (x : Bool) (f : Opened st v S)
         record {
           waiting = wt ∙ (omega (arith, long));
           leads = λ r l ms q.
-              let t : Bool = eqb (getD ms (length G + 1) 0) 1 in
-              let u : Bool = sameLog (foundIn (cut ms r .settled)) (cond (eqb (getD ms (length G + 1) 0) 1) (log ++ G) (y .list)) in
+              let t : Bool = keptAt ms (length G + 1) in
+              let u : Bool = sameLog (foundIn (cut ms r .settled)) (cond (keptAt ms (length G + 1)) (log ++ G) (y .list)) in
               rw (note-top k (omega arith))
               (leads-laid _ _ _ (ownVerdict (y .n) (length G) t u)
               (y .own k _ u (omega arith) ∙ ap (λ (p : Bool). ownVerdict (y .n) (length G) p u) (kept-mark ms _ (length G + 1) wt))
@@ -273,7 +276,7 @@ module _ (st : State) (v : List Entry) (S : Disk) (x : Bool) (f : Opened st v S)
         (throughout-all Whole (y .front) (st .settled) 0 (λ t q k h e. absurd (omega arith)))
         (λ j k h e u r l ms. whole-found (y .meets) (cardIn st) r j l (omega arith) ms, tt)
 
-    own-whole : syncCall st .answer ≡ 4 → syncCall st .orders ≡ inner st + (st .rec .grouped + 2) → (ms : List ℕ) → length ms ≡ st .rec .grouped + 2 → allOnes ms ≡ true
+    own-whole : syncCall st .answer ≡ 4 → syncCall st .orders ≡ inner st + (st .rec .grouped + 2) → (ms : List ℕ) → length ms ≡ st .rec .grouped + 2 → allKept ms ≡ true
         → sameLog (foundIn (cutSettled ms (syncCall st .state))) (cutWritten ms (ledgerNext sync w)) ≡ true
     unfolding entered resolved
     own-whole a q ms l o =
@@ -318,7 +321,7 @@ module _ (w : World) (m : WorldSim w) (h : refusal sync (w .plain) ≡ 0) (o : O
   logged = own-logged (w .store) (w .ledger .written) (w .plain .S) (w .excepted) f z meets
 
   pub short-whole : syncCall (w .store) .answer ≡ 4 → syncCall (w .store) .orders ≡ inner (w .store) + (w .store .rec .grouped + 2)
-      → (ms : List ℕ) → length ms ≡ w .store .rec .grouped + 2 → allOnes ms ≡ true
+      → (ms : List ℕ) → length ms ≡ w .store .rec .grouped + 2 → allKept ms ≡ true
       → sameLog (foundIn (cutSettled ms (syncCall (w .store) .state))) (cutWritten ms (ledgerNext sync w)) ≡ true
   short-whole a q ms l ones =
       subst (λ (i : World). sameLog (foundIn (cutSettled ms (syncCall (i .store) .state))) (cutWritten ms (ledgerNext sync i)) ≡ true) (sym (open-world w (m .basics) o))

@@ -19,11 +19,10 @@ use Rattle.journal.specs.Layout.{descriptorAt}
 use Rattle.journal.specs.Orders.{addressBytes, describe}
 use Rattle.journal.proofs.Descriptors.{length-addressBytes}
 use Rattle.journal.proofs.OrderLists.{slotBlocks, appendWrites}
-use Rattle.history.proofs.Disks.{slotE}
-use Rattle.history.proofs.Batches.{Left}
-use Rattle.history.proofs.AfterCut.{foundIn, found-log}
-use Rattle.history.proofs.Crashes.{header-kept}
-use Rattle.history.proofs.CallCuts.{cut-laid, settled-laid}
+use Rattle.crash.proofs.Appends.{header-kept}
+use Rattle.crash.proofs.Batches.{Left}
+use Rattle.crash.proofs.Leads.{foundIn, found-log}
+use Rattle.crash.proofs.Logs.{slotE}
 use Rattle.history.proofs.AppendEnds.{Appends, wide, writes-whole}
 
 -- "a sync writes the slots from its new count on […] as zero"

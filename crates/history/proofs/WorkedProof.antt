@@ -13,9 +13,12 @@ use Rattle.cells.specs.Entry.{blockBytes, Entry}
 use Rattle.cells.specs.Same.Laws.{same-self}
 use Rattle.card.specs.Disk.{Disk, lay, overlay}
 use Rattle.card.specs.Card.{blockAt, blocksIn}
+use Rattle.card.specs.Marks.{keptAt, allKept}
 use Rattle.journal.specs.declared.lookup.Found.{Found}
 use Rattle.journal.specs.declared.lookup.Found.the-variants.{At, Absent}
 use Rattle.journal.specs.Layout.{descriptorAt, isData, wrongSize}
+use Rattle.crash.proofs.Leads.{foundIn}
+use Rattle.crash.proofs.Logs.{slotE, logD}
 use Rattle.store.specs.Request as Request
 use Rattle.store.specs.declared.record.Record.{Record}
 use Rattle.store.specs.State.{State, Outcome, openMode}
@@ -27,16 +30,14 @@ use Rattle.store.specs.Format.{formatCall}
 use Rattle.store.specs.Put.{putAt, putCall}
 use Rattle.store.specs.Commit.{commitCall}
 use Rattle.history.specs.Call.{power, put, get, commit, sync, recover, cut}
-use Rattle.history.specs.Plain.{Plain, fresh, blankPlain, overOne, refusal, headerKept, plainStep, still}
+use Rattle.history.specs.Plain.{Plain, fresh, blankPlain, refusal, headerKept, plainStep, still}
 use Rattle.history.specs.Dispatch.{dispatch}
 use Rattle.history.specs.Ledger.{sameLog, collides}
 use Rattle.history.specs.History.{World, begun, next, after, storeNext, ledgerNext, foundWritten, acceptedCut, exception}
 use Rattle.history.specs.Statements as S
-use Rattle.history.specs.Statements.{noCut, EndsFinished, noneFinished, shortSync, allOnes, Fate, quiet, decided, Progress, known, undecided, observe, fate, outcome}
+use Rattle.history.specs.Statements.{noCut, EndsFinished, noneFinished, shortSync, Fate, quiet, decided, Progress, known, undecided, observe, fate, outcome}
 use Rattle.history.specs.Linked.{AllPassable}
 use Rattle.history.specs.Worked.{halted, sevens, nines, at40, filed, crashed, answers, Script, Worked}
-use Rattle.history.proofs.Disks.{slotE, logD}
-use Rattle.history.proofs.AfterCut.{foundIn}
 use Rattle.history.proofs.Relation.{cutSettled, cutWritten}
 use Rattle.history.proofs.Steps.{WorldSim}
 use Rattle.history.proofs.CutStep.{found-cut, exception-cut}
@@ -228,7 +229,7 @@ torn-cuts w m = record {
 }
 
 whole-cuts : (w : World) → Filed w → Cuts w (1 ∷ 1 ∷ 1 ∷ []) true 0
-unfolding refusal overOne allOnes
+unfolding refusal overOne allKept
 whole-cuts w m =
     let same = halted-whole (v₃ w) (t₃ w m .sim) old nines (t₃ w m .plain) (1 ∷ 1 ∷ 1 ∷ []) refl refl in
     record {
@@ -271,13 +272,13 @@ module _ (w : World) (m : Filed w) (ms : List ℕ) (same : Bool) (k : ℕ) (c : 
   unfolding noneFinished S.finished
   none-done = ap (λ (a : ℕ). not (eqb a 0) && true) (t₄ w m .answer)
 
-  fated : fate (crashed ms) w (known quiet) ≡ known (decided (at40 nines ∷ []) (eqb (getD ms 2 0) 1 && same) (allOnes ms))
+  fated : fate (crashed ms) w (known quiet) ≡ known (decided (at40 nines ∷ []) (keptAt ms 2 && same) (allKept ms))
   unfolding fate observe shortSync
   fated =
       ap (λ (x : Progress). fate (cut ms ∷ power 100 ∷ []) (v₄ w) x) (observed w m)
       ∙ (λ j.
       fate (power 100 ∷ []) v₅
-      (cond (accepted w m ms (c .fit) j) (known (decided (at40 nines ∷ []) (eqb (getD ms 2 0) 1 && c .found j) (allOnes ms))) (undecided (at40 nines ∷ []) 2 true)))
+      (cond (accepted w m ms (c .fit) j) (known (decided (at40 nines ∷ []) (keptAt ms 2 && c .found j) (allKept ms))) (undecided (at40 nines ∷ []) 2 true)))
 
   later-lines : dispatch (get 40) (storeNext recover v₆) .answer ≡ 0
       → answers (crashed ms ++ (recover ∷ get 40 ∷ [])) w ≡ (0, 0) ∷ (0, 0) ∷ (0, 0) ∷ (4, 3) ∷ (0, 0) ∷ (0, 0) ∷ (0, k) ∷ (0, 0) ∷ []
@@ -347,7 +348,7 @@ module _ (st : State) (f : formatCall st .answer ≡ 0) (size : blocksIn (st .se
     unfolding noCut acceptedCut
     last-cut = refl
 
-    script : (new all : Bool) (b : List ℕ) → eqb (getD ms 2 0) 1 && same ≡ new → allOnes ms ≡ all → outcome (decided (at40 nines ∷ []) new all) old 40 ≡ b → Script st ms same new all k b
+    script : (new all : Bool) (b : List ℕ) → keptAt ms 2 && same ≡ new → allKept ms ≡ all → outcome (decided (at40 nines ∷ []) new all) old 40 ≡ b → Script st ms same new all k b
     unfolding after answers next
     script new all b p q e =
         let x = read .found 40 is-40 in
@@ -370,11 +371,11 @@ module _ (st : State) (f : formatCall st .answer ≡ 0) (size : blocksIn (st .se
         }
 
   torn : Script st (1 ∷ 0 ∷ 1 ∷ []) false false false 2 sevens
-  unfolding allOnes overlay lay
+  unfolding allKept overlay lay
   torn = script (1 ∷ 0 ∷ 1 ∷ []) false 2 (torn-cuts w₃ all-filed) false false sevens refl refl refl
 
   whole : Script st (1 ∷ 1 ∷ 1 ∷ []) true true true 0 nines
-  unfolding allOnes overlay lay
+  unfolding allKept overlay lay
   whole = script (1 ∷ 1 ∷ 1 ∷ []) true 0 (whole-cuts w₃ all-filed) true true nines refl refl refl
 
 -- ---- a card of 64 blocks that format takes

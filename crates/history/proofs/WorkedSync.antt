@@ -11,9 +11,14 @@ use Rattle.cells.specs.Little.{num}
 use Rattle.cells.specs.Entry.{Entry}
 use Rattle.card.specs.Disk.{Disk}
 use Rattle.card.specs.Card.{Card, run, cut, settle, blockAt}
+use Rattle.card.specs.Marks.{allKept}
 use Rattle.journal.specs.Layout.{descriptorAt, slots}
 use Rattle.journal.specs.Log.{entries}
 use Rattle.journal.proofs.OrderLists.{appendWrites}
+use Rattle.crash.proofs.Batches.{Left}
+use Rattle.crash.proofs.Leads.{foundIn}
+use Rattle.crash.proofs.Logs.{slotE, logD}
+use Rattle.crash.proofs.Orders.{length-append-writes}
 use Rattle.store.specs.State.{Outcome, down, withMode, withRecord, withCard, cardIn}
 use Rattle.store.specs.Saves.{groupOf, applies}
 use Rattle.history.specs.Call.{sync}
@@ -21,12 +26,8 @@ use Rattle.history.specs.Plain.{Plain, refusal, headerKept}
 use Rattle.history.specs.Dispatch.{dispatch}
 use Rattle.history.specs.Ledger.{waitsBehind, syncHeaders, noted, entered, applyHeader, ownHeader, standing, inner, resolved, sameLog}
 use Rattle.history.specs.History.{World, storeNext, ledgerNext}
-use Rattle.history.specs.Statements.{allOnes}
 use Rattle.history.specs.Worked.{at40}
-use Rattle.history.proofs.Disks.{slotE, logD}
-use Rattle.history.proofs.Batches.{Left, length-append-writes}
 use Rattle.history.proofs.Plans.{planned, takes}
-use Rattle.history.proofs.AfterCut.{foundIn}
 use Rattle.history.proofs.AppendEnds.{Appends, done-card}
 use Rattle.history.proofs.Relation.{OpenSim, cutSettled, cutWritten}
 use Rattle.history.proofs.Steps.{WorldSim}
@@ -149,7 +150,7 @@ module _ (w : World) (m : WorldSim w) (S : Disk) (b : List ℕ) (n p : ℕ) (few
       ∙ note-at (ownHeader (w .store)) [] (w .store .rec .power) (w .ledger) (omega (arith, power-is, no-inner, grouped-is))
       ∙ (λ i. waitsBehind (grouped-is i + 1) (standing-is i ++ group-is i) (w .ledger))
 
-  halted-same : p ≡ 3 → (ms : List ℕ) → length ms ≡ 3 → allOnes ms ≡ true → sameLog (foundIn (cutSettled ms (storeNext sync w))) (cutWritten ms (ledgerNext sync w)) ≡ true
+  halted-same : p ≡ 3 → (ms : List ℕ) → length ms ≡ 3 → allKept ms ≡ true → sameLog (foundIn (cutSettled ms (storeNext sync w))) (cutWritten ms (ledgerNext sync w)) ≡ true
   halted-same e ms l a =
       let D = halted-call e in
       short-whole w m served o some (ap (λ (x : Outcome). x .answer) D) (ap (λ (x : Outcome). x .orders) D ∙ (omega (arith, power-is, no-inner, grouped-is))) ms (omega (arith, grouped-is)) a
@@ -186,5 +187,5 @@ module _ (w : World) (m : WorldSim w) (S : Disk) (b : List ℕ) (d : w .plain �
       ap foundIn (halted-settled w m S b 1 3 (omega arith) d refl (1 ∷ 0 ∷ 1 ∷ []))
       ∙ torn-found (base-now w m S b 1 3 (omega arith) d) (cardIn (w .store)) (r w m S b 1 3 (omega arith) d) (halted-left w m S b 1 3 (omega arith) d refl)
 
-  pub halted-whole : (ms : List ℕ) → length ms ≡ 3 → allOnes ms ≡ true → sameLog (foundIn (cutSettled ms (storeNext sync w))) (cutWritten ms (ledgerNext sync w)) ≡ true
+  pub halted-whole : (ms : List ℕ) → length ms ≡ 3 → allKept ms ≡ true → sameLog (foundIn (cutSettled ms (storeNext sync w))) (cutWritten ms (ledgerNext sync w)) ≡ true
   halted-whole ms l a = halted-same w m S b 1 3 (omega arith) d refl ms l a

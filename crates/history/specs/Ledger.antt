@@ -5,11 +5,11 @@ use Prim.Native.Nat.{ℕ, _+_, suc}
 use mathlib.Core.Bool.{Bool, true, false, cond, not, _&&_}
 use mathlib.Core.List.{List, [], _∷_, _++_}
 use lib.Dec.{eqb, leb}
-use lib.ListN.{length, getD}
 use Rattle.cells.specs.Entry.{Entry}
-use Rattle.cells.specs.Same.{same}
-use Rattle.fnv.specs.Fnv.{start}
-use Rattle.journal.specs.Log.{headerOf, entries, sumOf}
+use Rattle.card.specs.Marks.{keptAt}
+use Rattle.journal.specs.Log.{headerOf, entries}
+-- equal logs, and a checksum collision: another list than the one written, as long, with the same sum
+unfoldable pub use Rattle.crash.specs.Found.{sameLog, collides}
 use Rattle.journal.specs.Choice.{choose, takenCount}
 use Rattle.store.specs.Save as Save
 use Rattle.store.specs.Save.{Save}
@@ -92,7 +92,7 @@ noted (h ∷ hs) k l =
 -- an accepted cut: the header that waits is the card's if its mark is 1
 unfoldable pub resolved : List ℕ → Pending → List Entry → List Entry
 resolved ms nothing written = written
-resolved ms (waits place list) written = cond (eqb (getD ms place 0) 1) list written
+resolved ms (waits place list) written = cond (keptAt ms place) list written
 
 -- a call of the list, with what it came to
 unfoldable pub entered : Call → State → Ledger → Ledger
@@ -106,14 +106,3 @@ entered (cut ms) st l =
 -- the first n entries, by the header on the card
 unfoldable pub logFound : State → List Entry
 logFound st = entries (st .settled) (headerOf (st .settled) .count)
-
-unfoldable pub sameLog : List Entry → List Entry → Bool
-sameLog [] [] = true
-sameLog [] (f ∷ fs) = false
-sameLog (e ∷ es) [] = false
-sameLog (e ∷ es) (f ∷ fs) = eqb (e .address) (f .address) && same (e .block) (f .block) && sameLog es fs
-
--- a checksum collision: another list than the one written, as long, with the same sum
-unfoldable pub collides : List Entry → List Entry → Bool
-collides found written =
-    not (sameLog found written) && eqb (length found) (length written) && eqb (sumOf start found) (sumOf start written)

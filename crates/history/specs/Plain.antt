@@ -4,9 +4,10 @@ use Prim.Native.Nat.{ℕ, _+_, _-_}
 use mathlib.Core.Bool.{Bool, true, false, cond, not, _&&_, _||_}
 use mathlib.Core.List.{List, [], _∷_}
 use lib.Dec.{eqb, leb, ltb}
-use lib.ListN.{length, getD, replicate}
+use lib.ListN.{length, replicate}
 use Rattle.cells.specs.Entry.{blockBytes, Entry}
 use Rattle.card.specs.Disk.{Disk, overlay}
+use Rattle.card.specs.Marks.{marksFit, keptAt}
 use Rattle.journal.specs.Layout.{slots, isData}
 use Rattle.store.specs.Local as Local
 use Rattle.store.specs.Local.{Local}
@@ -87,11 +88,6 @@ merge (e ∷ es) g = merge es (insert e g)
 
 -- ---- refusals
 
--- a mark over 1
-unfoldable pub overOne : List ℕ → Bool
-overOne [] = false
-overOne (m ∷ ms) = ltb 1 m || overOne ms
-
 -- "mode closed" 3, "mode down" 4, else as the rest says
 abbrev pub whenOpen : Plain → ℕ → ℕ
 whenOpen d rest = cond (eqb (d .mode) 0) 3 (cond (eqb (d .mode) 2) 4 rest)
@@ -107,7 +103,7 @@ refusal (local Local.abandon) d = whenOpen d 0
 refusal (save Save.sync) d = whenOpen d 0
 refusal (save Save.apply) d = whenOpen d 0
 refusal (save Save.recover) d = cond (eqb (d .mode) 2) 4 (cond (eqb (d .mode) 1) 5 0)
-refusal (cut ms) d = cond (not (eqb (length ms) (d .waiting)) || overOne ms) 10 0
+refusal (cut ms) d = cond (not (marksFit ms (d .waiting))) 10 0
 
 -- ---- orders
 
@@ -220,7 +216,7 @@ plainRecover d =
 
 -- "if that write was kept": a header that waits is the last waiting write, and so is its mark
 unfoldable pub headerKept : List ℕ → ℕ → Bool
-headerKept ms waiting = eqb (getD ms (waiting - 1) 0) 1
+headerKept ms waiting = keptAt ms (waiting - 1)
 
 -- "A cut empties G and T, and chooses" S, n and F; the queue is emptied, the record closed, no call cut short since
 abbrev pub closedWith : Disk → ℕ → Bool → Plain → Plain

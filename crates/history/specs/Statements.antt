@@ -6,11 +6,12 @@ use mathlib.Core.Logic.{_≢_, _⊎_}
 use mathlib.Core.Bool.{Bool, true, false, cond, not, _&&_}
 use mathlib.Core.List.{List, [], _∷_, _++_}
 use lib.Dec.{eqb}
-use lib.ListN.{length, getD, take}
+use lib.ListN.{length, take}
 use Rattle.cells.specs.Entry.{Entry}
 use Rattle.fnv.specs.Fnv.{start}
 use Rattle.card.specs.Disk.{Disk, overlay}
 use Rattle.card.specs.Card.{blocksIn, blockAt}
+use Rattle.card.specs.Marks.{keptAt, allKept}
 use Rattle.journal.specs.Layout.{headerAt, isData}
 use Rattle.journal.specs.Header.{encode, header}
 use Rattle.journal.specs.Log.{headerOf, entries, sumOf}
@@ -135,10 +136,6 @@ unfoldable pub countShort : List Call → World → ℕ
 countShort [] w = 0
 countShort (c ∷ cs) w = cond (shortSync c w) 1 0 + countShort cs (next c w)
 
-unfoldable pub allOnes : List ℕ → Bool
-allOnes [] = true
-allOnes (m ∷ ms) = eqb m 1 && allOnes ms
-
 -- what became of a sync that was cut short: none was; or decided at the next accepted cut, with its group: new or not, and whether it
 -- had made all its writes and all were kept
 pub data Fate : Type 0 where
@@ -161,7 +158,7 @@ atCut (local c) w G place made = undecided G place made
 atCut (save c) w G place made = undecided G place made
 atCut (cut ms) w G place made =
     cond (acceptedCut (cut ms) w)
-    (known (decided G (made && eqb (getD ms place 0) 1 && foundWritten (cut ms) w) (made && allOnes ms)))
+    (known (decided G (made && keptAt ms place && foundWritten (cut ms) w) (made && allKept ms)))
     (undecided G place made)
 
 unfoldable pub observe : Call → World → Progress → Progress
