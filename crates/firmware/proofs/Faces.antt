@@ -16,6 +16,7 @@ use Rattle.store.specs.Causes.{cause}
 use Rattle.store.specs.Get.{getPlace}
 use Rattle.inspect.specs.declared.answer.Alike.{Alike}
 use Rattle.inspect.specs.Alike.{alikeOf}
+use Rattle.journal.specs.Geometry.{Geometry}
 use Rattle.firmware.specs.Face.{recordBytes, encodeRecord, decodeRecord, faceOf, handed, faced, bufferNumber, bufferOffset, gotOf, gotIn, got, comparedOf, compared}
 
 -- "another length is 1"
@@ -40,35 +41,36 @@ faced-done call r s w k r′ s′ w′ k′ n o d q h e p f =
     ∙ ap handed (p ∙ ap (λ (x : Record). call (stateOf x s w k)) e)
     ∙ faced-outcome call r s w k h
 
--- likewise get
-pub got-length : (a : ℕ) (r s w k : List ℕ) → length r ≢ recordBytes → gotOf 1 0 0 ≡ got a r s w k
-unfolding got
-got-length a r s w k h = rw (ne-eqb (length r) recordBytes h)
+module _ (geo : Geometry) where
+  -- likewise get
+  pub got-length : (a : ℕ) (r s w k : List ℕ) → length r ≢ recordBytes → gotOf 1 0 0 ≡ got geo a r s w k
+  unfolding got
+  got-length a r s w k h = rw (ne-eqb (length r) recordBytes h)
 
-pub got-place : (a : ℕ) (r s w k : List ℕ) → length r ≡ recordBytes → gotIn a (stateOf (decodeRecord r) s w k) ≡ got a r s w k
-unfolding got
-got-place a r s w k h = rw (eq-eqb (length r) recordBytes h)
+  pub got-place : (a : ℕ) (r s w k : List ℕ) → length r ≡ recordBytes → gotIn geo a (stateOf (decodeRecord r) s w k) ≡ got geo a r s w k
+  unfolding got
+  got-place a r s w k h = rw (eq-eqb (length r) recordBytes h)
 
-pub got-done : (a : ℕ) (r s w k : List ℕ) (n b o : ℕ) (d : Record) (p : Place)
-    → length r ≡ recordBytes
-    → d ≡ decodeRecord r
-    → p ≡ getPlace a (stateOf d s w k)
-    → b ≡ bufferNumber p
-    → o ≡ bufferOffset p
-    → n ≡ cause (get a) (stateOf d s w k)
-    → gotOf n b o ≡ got a r s w k
-got-done a r s w k n b o d p h e f g i m =
-    (λ j. gotOf (m j) (g j) (i j))
-    ∙ ap (λ (x : Place). gotOf (cause (get a) (stateOf d s w k)) (bufferNumber x) (bufferOffset x)) f
-    ∙ ap (λ (x : Record). gotIn a (stateOf x s w k)) e
-    ∙ got-place a r s w k h
+  pub got-done : (a : ℕ) (r s w k : List ℕ) (n b o : ℕ) (d : Record) (p : Place)
+      → length r ≡ recordBytes
+      → d ≡ decodeRecord r
+      → p ≡ getPlace geo a (stateOf d s w k)
+      → b ≡ bufferNumber p
+      → o ≡ bufferOffset p
+      → n ≡ cause geo (get a) (stateOf d s w k)
+      → gotOf n b o ≡ got geo a r s w k
+  got-done a r s w k n b o d p h e f g i m =
+      (λ j. gotOf (m j) (g j) (i j))
+      ∙ ap (λ (x : Place). gotOf (cause geo (get a) (stateOf d s w k)) (bufferNumber x) (bufferOffset x)) f
+      ∙ ap (λ (x : Record). gotIn geo a (stateOf x s w k)) e
+      ∙ got-place a r s w k h
 
--- and alike: a yes is 1
-pub compared-done : (a b : List ℕ) (r : Alike) → r ≡ alikeOf a b → comparedOf (r .number) (boolByte (r .yes)) ≡ compared a b
-unfolding compared
-compared-done a b r e =
-    ap (λ (y : ℕ). comparedOf (r .number) y) (as-byte (r .yes)) ∙ ap (λ (x : Alike). comparedOf (x .number) (cond (x .yes) 1 0)) e
-  where
-    as-byte : (y : Bool) → boolByte y ≡ cond y 1 0
-    as-byte true = refl
-    as-byte false = refl
+  -- and alike: a yes is 1
+  pub compared-done : (a b : List ℕ) (r : Alike) → r ≡ alikeOf geo a b → comparedOf (r .number) (boolByte (r .yes)) ≡ compared geo a b
+  unfolding compared
+  compared-done a b r e =
+      ap (λ (y : ℕ). comparedOf (r .number) y) (as-byte (r .yes)) ∙ ap (λ (x : Alike). comparedOf (x .number) (cond (x .yes) 1 0)) e
+    where
+      as-byte : (y : Bool) → boolByte y ≡ cond y 1 0
+      as-byte true = refl
+      as-byte false = refl

@@ -16,6 +16,7 @@ use Rattle.store.specs.Causes.{cause}
 use Rattle.store.specs.Get.{getPlace}
 use Rattle.inspect.specs.declared.answer.Tally.{Tally}
 use Rattle.inspect.specs.Alike.{alikeOf}
+use Rattle.journal.specs.Geometry.{Geometry}
 
 -- "36 lent bytes"
 abbrev pub recordBytes : ℕ
@@ -94,12 +95,13 @@ pub record Got : Type 0 where
 abbrev pub gotOf : ℕ → ℕ → ℕ → Got
 gotOf n b o = record { number = n; buffer = b; offset = o }
 
--- "its number comes from a question with the same inputs"
-abbrev pub gotIn : ℕ → State → Got
-gotIn a st = gotOf (cause (get a) st) (bufferNumber (getPlace a st)) (bufferOffset (getPlace a st))
+module _ (geo : Geometry) where
+  -- "its number comes from a question with the same inputs"
+  abbrev pub gotIn : ℕ → State → Got
+  gotIn a st = gotOf (cause geo (get a) st) (bufferNumber (getPlace geo a st)) (bufferOffset (getPlace geo a st))
 
-unfoldable pub got : ℕ → List ℕ → List ℕ → List ℕ → List ℕ → Got
-got a r s w k = cond (eqb (length r) recordBytes) (gotIn a (stateOf (decodeRecord r) s w k)) (gotOf 1 0 0)
+  unfoldable pub got : ℕ → List ℕ → List ℕ → List ℕ → List ℕ → Got
+  got a r s w k = cond (eqb (length r) recordBytes) (gotIn a (stateOf (decodeRecord r) s w k)) (gotOf 1 0 0)
 
 -- ---- "Two calls read settled bytes alone"
 
@@ -114,5 +116,6 @@ pub record Compared : Type 0 where
 abbrev pub comparedOf : ℕ → ℕ → Compared
 comparedOf n y = record { number = n; yes = y }
 
-unfoldable pub compared : List ℕ → List ℕ → Compared
-compared a b = comparedOf (alikeOf a b .number) (cond (alikeOf a b .yes) 1 0)
+module _ (geo : Geometry) where
+  unfoldable pub compared : List ℕ → List ℕ → Compared
+  compared a b = comparedOf (alikeOf geo a b .number) (cond (alikeOf geo a b .yes) 1 0)

@@ -10,6 +10,7 @@ ghost use Rattle.store.specs.Put.{putCall};
 ghost use Rattle.store.specs.Abandon.{abandonCall};
 ghost use Rattle.store.specs.Commit.{commitCall};
 ghost use Rattle.store.specs.Cut.{cutCall};
+ghost use Rattle.journal.specs.Geometry.{trap};
 ghost use Rattle.firmware.specs.Face.{faceOf, faced};
 
 #[no_mangle]
@@ -19,7 +20,7 @@ pub extern "C" fn trapcard_format(
     waiting: &mut [u8],
     work: &mut [u8],
 ) -> u32
-    ensures { λ r. ⌜ faceOf r 0 (now (rec .exit)) (now (settled .exit)) (now (waiting .exit)) (now (work .exit)) ≡ faced formatCall (now (rec .entry)) (now (settled .entry)) (now (waiting .entry)) (now (work .entry)) ⌝ }
+    ensures { λ r. ⌜ faceOf r 0 (now (rec .exit)) (now (settled .exit)) (now (waiting .exit)) (now (work .exit)) ≡ faced (formatCall trap) (now (rec .entry)) (now (settled .entry)) (now (waiting .entry)) (now (work .entry)) ⌝ }
 {
     if rec.len() != RECORD {
         return SIZE;
@@ -38,7 +39,7 @@ pub extern "C" fn trapcard_power(
     work: &[u8],
     count: u32,
 ) -> u32
-    ensures { λ r. ⌜ faceOf r 0 (now (rec .exit)) (now (settled .entry)) (now (waiting .entry)) (now (work .entry)) ≡ faced (powerCall count) (now (rec .entry)) (now (settled .entry)) (now (waiting .entry)) (now (work .entry)) ⌝ }
+    ensures { λ r. ⌜ faceOf r 0 (now (rec .exit)) (now (settled .entry)) (now (waiting .entry)) (now (work .entry)) ≡ faced (powerCall trap count) (now (rec .entry)) (now (settled .entry)) (now (waiting .entry)) (now (work .entry)) ⌝ }
 {
     if rec.len() != RECORD {
         return SIZE;
@@ -58,7 +59,7 @@ pub extern "C" fn trapcard_put(
     address: u32,
     block: &[u8],
 ) -> u32
-    ensures { λ r. ⌜ faceOf r 0 (now (rec .exit)) (now (settled .entry)) (now (waiting .entry)) (now (work .exit)) ≡ faced (putCall address (now (block .entry))) (now (rec .entry)) (now (settled .entry)) (now (waiting .entry)) (now (work .entry)) ⌝ }
+    ensures { λ r. ⌜ faceOf r 0 (now (rec .exit)) (now (settled .entry)) (now (waiting .entry)) (now (work .exit)) ≡ faced (putCall trap address (now (block .entry))) (now (rec .entry)) (now (settled .entry)) (now (waiting .entry)) (now (work .entry)) ⌝ }
 {
     if rec.len() != RECORD {
         return SIZE;
@@ -76,7 +77,7 @@ pub extern "C" fn trapcard_commit(
     waiting: &[u8],
     work: &mut [u8],
 ) -> u32
-    ensures { λ r. ⌜ faceOf r 0 (now (rec .exit)) (now (settled .entry)) (now (waiting .entry)) (now (work .exit)) ≡ faced commitCall (now (rec .entry)) (now (settled .entry)) (now (waiting .entry)) (now (work .entry)) ⌝ }
+    ensures { λ r. ⌜ faceOf r 0 (now (rec .exit)) (now (settled .entry)) (now (waiting .entry)) (now (work .exit)) ≡ faced (commitCall trap) (now (rec .entry)) (now (settled .entry)) (now (waiting .entry)) (now (work .entry)) ⌝ }
 {
     if rec.len() != RECORD {
         return SIZE;
@@ -94,7 +95,7 @@ pub extern "C" fn trapcard_abandon(
     waiting: &[u8],
     work: &[u8],
 ) -> u32
-    ensures { λ r. ⌜ faceOf r 0 (now (rec .exit)) (now (settled .entry)) (now (waiting .entry)) (now (work .entry)) ≡ faced abandonCall (now (rec .entry)) (now (settled .entry)) (now (waiting .entry)) (now (work .entry)) ⌝ }
+    ensures { λ r. ⌜ faceOf r 0 (now (rec .exit)) (now (settled .entry)) (now (waiting .entry)) (now (work .entry)) ≡ faced (abandonCall trap) (now (rec .entry)) (now (settled .entry)) (now (waiting .entry)) (now (work .entry)) ⌝ }
 {
     if rec.len() != RECORD {
         return SIZE;
@@ -113,7 +114,7 @@ pub extern "C" fn trapcard_cut(
     work: &[u8],
     marks: &[u8],
 ) -> u32
-    ensures { λ r. ⌜ faceOf r 0 (now (rec .exit)) (now (settled .exit)) (now (waiting .entry)) (now (work .entry)) ≡ faced (cutCall (now (marks .entry))) (now (rec .entry)) (now (settled .entry)) (now (waiting .entry)) (now (work .entry)) ⌝ }
+    ensures { λ r. ⌜ faceOf r 0 (now (rec .exit)) (now (settled .exit)) (now (waiting .entry)) (now (work .entry)) ≡ faced (cutCall trap (now (marks .entry))) (now (rec .entry)) (now (settled .entry)) (now (waiting .entry)) (now (work .entry)) ⌝ }
 {
     if rec.len() != RECORD {
         return SIZE;

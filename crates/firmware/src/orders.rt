@@ -5,6 +5,7 @@ use crate::record::decode;
 use crate::record::encode;
 ghost use mathlib.Core.Path.{_≡_};
 ghost use Rattle.store.specs.Saves.{syncCall, applyCall, recoverCall};
+ghost use Rattle.journal.specs.Geometry.{trap};
 ghost use Rattle.firmware.specs.Face.{faceOf, faced};
 
 #[no_mangle]
@@ -15,7 +16,7 @@ pub extern "C" fn trapcard_sync(
     work: &[u8],
     orders: &mut u32,
 ) -> u32
-    ensures { λ r. ⌜ faceOf r (now (orders .exit)) (now (rec .exit)) (now (settled .exit)) (now (waiting .exit)) (now (work .entry)) ≡ faced syncCall (now (rec .entry)) (now (settled .entry)) (now (waiting .entry)) (now (work .entry)) ⌝ }
+    ensures { λ r. ⌜ faceOf r (now (orders .exit)) (now (rec .exit)) (now (settled .exit)) (now (waiting .exit)) (now (work .entry)) ≡ faced (syncCall trap) (now (rec .entry)) (now (settled .entry)) (now (waiting .entry)) (now (work .entry)) ⌝ }
 {
     if rec.len() != RECORD {
         *orders = 0;
@@ -36,7 +37,7 @@ pub extern "C" fn trapcard_apply(
     work: &[u8],
     orders: &mut u32,
 ) -> u32
-    ensures { λ r. ⌜ faceOf r (now (orders .exit)) (now (rec .exit)) (now (settled .exit)) (now (waiting .exit)) (now (work .entry)) ≡ faced applyCall (now (rec .entry)) (now (settled .entry)) (now (waiting .entry)) (now (work .entry)) ⌝ }
+    ensures { λ r. ⌜ faceOf r (now (orders .exit)) (now (rec .exit)) (now (settled .exit)) (now (waiting .exit)) (now (work .entry)) ≡ faced (applyCall trap) (now (rec .entry)) (now (settled .entry)) (now (waiting .entry)) (now (work .entry)) ⌝ }
 {
     if rec.len() != RECORD {
         *orders = 0;
@@ -57,7 +58,7 @@ pub extern "C" fn trapcard_recover(
     work: &[u8],
     orders: &mut u32,
 ) -> u32
-    ensures { λ r. ⌜ faceOf r (now (orders .exit)) (now (rec .exit)) (now (settled .exit)) (now (waiting .exit)) (now (work .entry)) ≡ faced recoverCall (now (rec .entry)) (now (settled .entry)) (now (waiting .entry)) (now (work .entry)) ⌝ }
+    ensures { λ r. ⌜ faceOf r (now (orders .exit)) (now (rec .exit)) (now (settled .exit)) (now (waiting .exit)) (now (work .entry)) ≡ faced (recoverCall trap) (now (rec .entry)) (now (settled .entry)) (now (waiting .entry)) (now (work .entry)) ⌝ }
 {
     if rec.len() != RECORD {
         *orders = 0;

@@ -5,6 +5,7 @@ use crate::record::decode;
 use store::place::Place;
 ghost use mathlib.Core.Path.{_≡_};
 ghost use Rattle.inspect.specs.Tally.{tallyOf};
+ghost use Rattle.journal.specs.Geometry.{trap};
 ghost use Rattle.firmware.specs.Face.{bufferNumber, bufferOffset, gotOf, got, tallied, comparedOf, compared};
 
 // The buffers that a get names.
@@ -44,7 +45,7 @@ pub extern "C" fn trapcard_get(
     buffer: &mut u32,
     offset: &mut u64,
 ) -> u32
-    ensures { λ r. ⌜ gotOf r (now (buffer .exit)) (now (offset .exit)) ≡ got address (now (rec .entry)) (now (settled .entry)) (now (waiting .entry)) (now (work .entry)) ⌝ }
+    ensures { λ r. ⌜ gotOf r (now (buffer .exit)) (now (offset .exit)) ≡ got trap address (now (rec .entry)) (now (settled .entry)) (now (waiting .entry)) (now (work .entry)) ⌝ }
 {
     if rec.len() != RECORD {
         *buffer = NOWHERE;
@@ -60,7 +61,7 @@ pub extern "C" fn trapcard_get(
 
 #[no_mangle]
 pub extern "C" fn trapcard_tally(settled: &[u8], sum: &mut u64) -> u32
-    ensures { λ r. ⌜ tallied r (now (sum .exit)) ≡ tallyOf (now (settled .entry)) ⌝ }
+    ensures { λ r. ⌜ tallied r (now (sum .exit)) ≡ tallyOf trap (now (settled .entry)) ⌝ }
 {
     let tally = inspect::tally::tally(settled);
     *sum = tally.sum;
@@ -69,7 +70,7 @@ pub extern "C" fn trapcard_tally(settled: &[u8], sum: &mut u64) -> u32
 
 #[no_mangle]
 pub extern "C" fn trapcard_alike(a: &[u8], b: &[u8], yes: &mut u32) -> u32
-    ensures { λ r. ⌜ comparedOf r (now (yes .exit)) ≡ compared (now (a .entry)) (now (b .entry)) ⌝ }
+    ensures { λ r. ⌜ comparedOf r (now (yes .exit)) ≡ compared trap (now (a .entry)) (now (b .entry)) ⌝ }
 {
     let alike = inspect::alike::alike(a, b);
     *yes = alike.yes as u32;

@@ -6,6 +6,7 @@ use mathlib.Core.List.{List, [], _∷_}
 use lib.ListN.{length}
 use Rattle.cells.specs.Entry.{blockBytes, Entry}
 use Rattle.card.specs.Disk.{Disk, overlay}
+use Rattle.card.specs.Marks.{overOne, marksFit, keptAt}
 use Rattle.history.specs.Call.{Call, power, put, commit, sync, recover, cut}
 use Rattle.history.specs.Plain.{Plain, Done, ofSync, blankPlain, withS, withLists, withCount, withPower, done, cutShort, closedWith, has, insert, merge, refusal, headerKept, verdict, ownVerdict, plainSync, plainRecover, plainCut, plainStep, still}
 use Rattle.history.specs.Dispatch.{dispatch}
@@ -48,11 +49,11 @@ unfolding plainStep refusal plainSync
 plain-halted t S b = refl
 
 pub plain-torn : (S : Disk) (b : List ℕ) → plainStep (cut (1 ∷ 0 ∷ 1 ∷ [])) false (downAt S (at40 b ∷ [])) ≡ still (closedAt S 1 0 true)
-unfolding plainStep refusal overOne plainCut headerKept verdict ownVerdict
+unfolding plainStep refusal marksFit overOne plainCut headerKept keptAt verdict ownVerdict
 plain-torn S b = refl
 
 pub plain-whole : (S : Disk) (b : List ℕ) → plainStep (cut (1 ∷ 1 ∷ 1 ∷ [])) true (downAt S (at40 b ∷ [])) ≡ still (closedAt (overlay (at40 b ∷ []) S) 2 0 false)
-unfolding plainStep refusal overOne plainCut headerKept verdict ownVerdict
+unfolding plainStep refusal marksFit overOne plainCut headerKept keptAt verdict ownVerdict
 plain-whole S b = refl
 
 pub plain-again : (t : Bool) (S : Disk) (n p k : ℕ) (F : Bool) → plainStep (power k) t (closedAt S n p F) ≡ still (closedAt S n k F)

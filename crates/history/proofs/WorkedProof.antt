@@ -13,7 +13,7 @@ use Rattle.cells.specs.Entry.{blockBytes, Entry}
 use Rattle.cells.specs.Same.Laws.{same-self}
 use Rattle.card.specs.Disk.{Disk, lay, overlay}
 use Rattle.card.specs.Card.{blockAt, blocksIn}
-use Rattle.card.specs.Marks.{keptAt, allKept}
+use Rattle.card.specs.Marks.{overOne, marksFit, keptAt, allKept}
 use Rattle.journal.specs.declared.lookup.Found.{Found}
 use Rattle.journal.specs.declared.lookup.Found.the-variants.{At, Absent}
 use Rattle.journal.specs.Layout.{descriptorAt, isData, wrongSize}
@@ -215,7 +215,7 @@ record Cuts (w : World) (ms : List ℕ) (same : Bool) (k : ℕ) : Type 0 where
   recovers : (t : Bool) → plainStep recover t (closedAt S n 100 F) ≡ record { answer = 0; orders = k; plain = openAt S [] [] n left }
 
 torn-cuts : (w : World) → Filed w → Cuts w (1 ∷ 0 ∷ 1 ∷ []) false 2
-unfolding refusal overOne headerKept
+unfolding refusal marksFit overOne headerKept keptAt
 torn-cuts w m = record {
   fit = refl;
   found = found-is w m (1 ∷ 0 ∷ 1 ∷ []) refl ∙ ap₂ sameLog (torn-log w m) (own-log w m (1 ∷ 0 ∷ 1 ∷ []) refl) ∙ other-log;
@@ -229,7 +229,7 @@ torn-cuts w m = record {
 }
 
 whole-cuts : (w : World) → Filed w → Cuts w (1 ∷ 1 ∷ 1 ∷ []) true 0
-unfolding refusal overOne allKept
+unfolding refusal marksFit overOne allKept
 whole-cuts w m =
     let same = halted-whole (v₃ w) (t₃ w m .sim) old nines (t₃ w m .plain) (1 ∷ 1 ∷ 1 ∷ []) refl refl in
     record {

@@ -16,8 +16,10 @@ use Rattle.store.specs.State.{State}
 use Rattle.store.specs.Request.{get}
 use Rattle.store.specs.Causes.{cause}
 use Rattle.store.specs.Get.{getPlace, bytesAt, partAt}
+use Rattle.journal.specs.Geometry.{trap}
 use Rattle.script.specs.Numbers.{zeroDigit}
 use Rattle.script.specs.Replies.{Reply, got, values}
+
 
 -- ---- get
 
@@ -36,13 +38,13 @@ third-got k p st = go (eqb k 0)
     go false = refl
 
 pub got-done : (a n t : ℕ) (st : State) (r settled work : RefT (List ℕ)) → settled .now ≡ st .settled → work .now ≡ st .work
-    → n ≡ cause (get a) st → viewOf r ≡ partAt (getPlace a st) settled work → t ≡ getD (r .now) 0 0
+    → n ≡ cause trap (get a) st → viewOf r ≡ partAt (getPlace trap a st) settled work → t ≡ getD (r .now) 0 0
     → _≡_ {A = Reply} (record { answer = n; third = t; state = st }) (got a st)
 unfolding getPlace
 got-done a n t st r settled work hs hw hn hr ht =
-    let bytes : r .now ≡ bytesAt (getPlace a st) st = ap (λ (v : View). v .bytes) hr ∙ part-bytes (getPlace a st) settled work st hs hw in
-    let third : t ≡ cond (eqb (cause (get a) st) 0) (getD (bytesAt (getPlace a st) st) 0 0) 0 =
-    ht ∙ ap (λ (l : List ℕ). getD l 0 0) bytes ∙ third-got (cause (get a) st) _ st in
+    let bytes : r .now ≡ bytesAt (getPlace trap a st) st = ap (λ (v : View). v .bytes) hr ∙ part-bytes (getPlace trap a st) settled work st hs hw in
+    let third : t ≡ cond (eqb (cause trap (get a) st) 0) (getD (bytesAt (getPlace trap a st) st) 0 0) 0 =
+    ht ∙ ap (λ (l : List ℕ). getD l 0 0) bytes ∙ third-got (cause trap (get a) st) _ st in
     λ j. record { answer = hn j; third = third j; state = st }
 
 -- ---- marks

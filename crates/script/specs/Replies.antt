@@ -16,11 +16,13 @@ use Rattle.store.specs.Get.{getPlace, bytesAt}
 use Rattle.store.specs.Commit.{commitCall}
 use Rattle.store.specs.Saves.{syncCall, applyCall, recoverCall}
 use Rattle.store.specs.Cut.{cutCall}
+use Rattle.journal.specs.Geometry.{trap}
 use Rattle.script.specs.declared.command.Command.{Command}
 use Rattle.script.specs.declared.command.Command.the-variants.{Format, Power, Put, Get, Commit, Abandon, Sync, Apply, Recover, Cut, Bad}
 use Rattle.script.specs.Numbers.{zeroDigit}
 use Rattle.script.specs.Commands.{keptBytes}
 use Rattle.script.specs.Answers.{answerLine}
+
 
 -- the answer, the third number, and what is left
 pub record Reply : Type 0 where
@@ -36,8 +38,8 @@ saved o = record { answer = o .answer; third = o .orders; state = o .state }
 abbrev pub got : ℕ → State → Reply
 got a st =
     record {
-      answer = cause (get a) st;
-      third = cond (eqb (cause (get a) st) 0) (getD (bytesAt (getPlace a st) st) 0 0) 0;
+      answer = cause trap (get a) st;
+      third = cond (eqb (cause trap (get a) st) 0) (getD (bytesAt (getPlace trap a st) st) 0 0) 0;
       state = st;
     }
 
@@ -59,16 +61,16 @@ abbrev pub marks : List ℕ → List ℕ
 marks line = values (drop 4 line)
 
 unfoldable pub perform : Command → List ℕ → State → Reply
-perform Format line st = called (formatCall st)
-perform (Power k) line st = called (powerCall k st)
-perform (Put a b) line st = called (putCall a (replicate blockBytes b) st)
+perform Format line st = called (formatCall trap st)
+perform (Power k) line st = called (powerCall trap k st)
+perform (Put a b) line st = called (putCall trap a (replicate blockBytes b) st)
 perform (Get a) line st = got a st
-perform Commit line st = called (commitCall st)
-perform Abandon line st = called (abandonCall st)
-perform Sync line st = saved (syncCall st)
-perform Apply line st = saved (applyCall st)
-perform Recover line st = saved (recoverCall st)
-perform Cut line st = called (cutCall (marks line) st)
+perform Commit line st = called (commitCall trap st)
+perform Abandon line st = called (abandonCall trap st)
+perform Sync line st = saved (syncCall trap st)
+perform Apply line st = saved (applyCall trap st)
+perform Recover line st = saved (recoverCall trap st)
+perform Cut line st = called (cutCall trap (marks line) st)
 perform Bad line st = record { answer = 11; third = 0; state = st }
 
 -- the line that says so

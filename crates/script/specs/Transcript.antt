@@ -8,10 +8,12 @@ use Rattle.cells.specs.Entry.{blockBytes}
 use Rattle.fnv.specs.Fnv.{start}
 use Rattle.store.specs.State.{State, closed}
 use Rattle.store.specs.Causes.{waitingBytes, workBytes}
+use Rattle.journal.specs.Geometry.{trap}
 use Rattle.script.specs.Fields.{push}
 use Rattle.script.specs.Commands.{parse}
 use Rattle.script.specs.Answers.{lf}
 use Rattle.script.specs.Replies.{Reply, perform, answered}
+
 
 -- "each ended by LF, which the last may lack": nothing behind the last LF is no line
 unfoldable pub linesOf : List ℕ → List (List ℕ)
@@ -36,8 +38,8 @@ beginning =
     record {
       rec = record { mode = closed; blocks = 64; opened = 0; grouped = 0; logged = 0; waiting = 0; power = 0; sum = start };
       settled = replicate (blockBytes * 64) 0;
-      waiting = replicate waitingBytes 0;
-      work = replicate workBytes 0;
+      waiting = replicate (waitingBytes trap) 0;
+      work = replicate (workBytes trap) 0;
     }
 
 unfoldable pub transcript : List ℕ → List ℕ

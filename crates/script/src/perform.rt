@@ -13,6 +13,7 @@ ghost use Rattle.cells.specs.Entry.{blockBytes};
 ghost use Rattle.store.specs.CodeState.{stateOf};
 ghost use Rattle.store.specs.Put.{putCall};
 ghost use Rattle.store.specs.Cut.{cutCall};
+ghost use Rattle.journal.specs.Geometry.{trap};
 ghost use Rattle.script.specs.Commands.{keptBytes};
 ghost use Rattle.script.specs.Replies as Replies;
 ghost use Rattle.script.specs.Replies.{mostMarks, got};
@@ -90,7 +91,7 @@ pub(crate) fn perform(
 
 // A put of a block filled with a byte.
 fn put(rec: Record, settled: &[u8], waiting: &[u8], work: &mut [u8], address: u32, byte: u8) -> Done
-    ensures { λ r. ⌜ replyOf (r .number) (r .third) (r .rec) (now (settled .entry)) (now (waiting .entry)) (now (work .exit)) ≡ Replies.called (putCall address (replicate blockBytes byte) (stateOf rec (now (settled .entry)) (now (waiting .entry)) (now (work .entry)))) ⌝ }
+    ensures { λ r. ⌜ replyOf (r .number) (r .third) (r .rec) (now (settled .entry)) (now (waiting .entry)) (now (work .exit)) ≡ Replies.called (putCall trap address (replicate blockBytes byte) (stateOf rec (now (settled .entry)) (now (waiting .entry)) (now (work .entry)))) ⌝ }
 {
     let block = [byte; BLOCK];
     called(rec.put(settled, waiting, work, address, &block))
@@ -118,7 +119,7 @@ fn first(s: &[u8]) -> u32
 // A cut with the marks of its line.
 fn cut(line: &[u8], rec: Record, settled: &mut [u8], waiting: &[u8], work: &[u8]) -> Done
     requires { ⌜ length (now line) ≤ keptBytes ⌝ }
-    ensures { λ r. ⌜ replyOf (r .number) (r .third) (r .rec) (now (settled .exit)) (now (waiting .entry)) (now (work .entry)) ≡ Replies.called (cutCall (Replies.marks (now (line .entry))) (stateOf rec (now (settled .entry)) (now (waiting .entry)) (now (work .entry)))) ⌝ }
+    ensures { λ r. ⌜ replyOf (r .number) (r .third) (r .rec) (now (settled .exit)) (now (waiting .entry)) (now (work .entry)) ≡ Replies.called (cutCall trap (Replies.marks (now (line .entry))) (stateOf rec (now (settled .entry)) (now (waiting .entry)) (now (work .entry)))) ⌝ }
 {
     let mut marks = [0u8; MARKS];
     let count = read_marks(line, &mut marks);

@@ -1,11 +1,13 @@
 -- `firmware::reads::trapcard_get` meets its contract.
+use Rattle.journal.specs.Geometry.{trap}
 use Rattle.firmware.proofs.Faces.{got-length, got-done}
 use borrow.Author.Needs.{needs}
 use Rattle.firmware.proofs.reads.trapcard_get.Statement.{statement}
 use Rattle.firmware.proofs.reads.trapcard_get.Tie as tie
 
+
 returns : tie.Need-returns
-returns c = got-length _ _ _ _ _ (c .if1 .taken)
+returns c = got-length trap _ _ _ _ _ (c .if1 .taken)
 
 decode-requires : tie.Need-decode-requires
 decode-requires c κs = search needs
@@ -29,7 +31,7 @@ returns-2 c =
     let p = b .before in
     let d = p .before in
     let l = d .before in
-    got-done _ _ _ _ _ _ _ _ _ _ (l .if1 .left) (d .decode .ensures) (p .get-place .ensures) (b .buffer-number .ensures) (o .buffer-offset .ensures) (c .get-number .ensures)
+    got-done trap _ _ _ _ _ _ _ _ _ _ (l .if1 .left) (d .decode .ensures) (p .get-place .ensures) (b .buffer-number .ensures) (o .buffer-offset .ensures) (c .get-number .ensures)
 
 pub trapcard-get-spec : {M : Type 1} → statement M
 trapcard-get-spec =

@@ -7,9 +7,11 @@ use borrow.Author.Needs.{needs}
 use lib.Seq.{length-take-le}
 use Rattle.store.specs.CodeState.{stateOf}
 use Rattle.store.specs.Cut.{cutCall}
+use Rattle.journal.specs.Geometry.{trap}
 use Rattle.script.specs.Replies.{called}
 use Rattle.script.proofs.perform.cut.Statement.{statement}
 use Rattle.script.proofs.perform.cut.Tie as tie
+
 
 slice-aggregate-read-marks : tie.Need-slice-aggregate-read-marks
 slice-aggregate-read-marks c = search needs
@@ -38,7 +40,7 @@ returns : tie.Need-returns
 returns c =
     let a = c .before .before .before .before .before .before .before .before .before .before .before .before .before .args in
     let st = stateOf (a .rec) (a .settled .now) (a .waiting .now) (a .work .now) in
-    rw (c .called .ensures) (ap called (c .before .before .before .cut .ensures ∙ ap (λ (ms : List ℕ). cutCall ms st) (c .before .before .before .before .before .before .before .read-marks .ensures .1)))
+    rw (c .called .ensures) (ap called (c .before .before .before .cut .ensures ∙ ap (λ (ms : List ℕ). cutCall trap ms st) (c .before .before .before .before .before .before .before .read-marks .ensures .1)))
 
 pub cut-spec : {M : Type 1} → statement M
 cut-spec =
