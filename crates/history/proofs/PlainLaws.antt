@@ -6,7 +6,7 @@ use mathlib.Core.Bool.{Bool, true, false, cond, not}
 use mathlib.Core.List.{List, []}
 use native.Mathlib.Omega.{arith}
 use borrow.Author.Tests.{eq-eqb, ne-eqb, le-leb, lt-leb, lt-ltb, le-ltb}
-use lib.Dec.{eqb}
+use lib.Dec.{eqb, ltb}
 use lib.ListN.{length, getD}
 use Rattle.card.specs.Disk.{overlay}
 use Rattle.journal.specs.Layout.{slots}
@@ -20,12 +20,6 @@ no-apply n m h = rw (le-leb _ _ h)
 pub do-apply : (n m : ℕ) → slots < n + m → applies n m ≡ true
 do-apply n m h = rw (lt-leb _ _ h)
 
-pub takes-plain : (n m : ℕ) → n + m ≤ slots → syncTakes n m ≡ m + 3
-takes-plain n m h = rw (no-apply n m h)
-
-pub takes-apply : (n m : ℕ) → slots < n + m → syncTakes n m ≡ n + 3 + (m + 3)
-takes-apply n m h = rw (do-apply n m h)
-
 pub waits-homes : (n k : ℕ) → k ≤ n → applyWaits n k ≡ k
 waits-homes n k h = rw (le-leb _ _ h)
 
@@ -35,14 +29,30 @@ waits-flushed n k h = rw (lt-leb k n (omega arith), ne-eqb k (n + 2) (λ e. omeg
 pub waits-header : (n k : ℕ) → k ≡ n + 2 → applyWaits n k ≡ 1
 waits-header n k h = rw (lt-leb k n (omega arith), eq-eqb k (n + 2) h)
 
-pub sync-waits-plain : (n m k : ℕ) → n + m ≤ slots → syncWaits n m k ≡ k
-sync-waits-plain n m k h = rw (no-apply n m h)
-
 pub sync-waits-apply : (n m k : ℕ) → slots < n + m → k < n + 3 → syncWaits n m k ≡ applyWaits n k
 sync-waits-apply n m k h l = rw (do-apply n m h, lt-ltb k (n + 3) l)
 
-pub sync-waits-own : (n m k : ℕ) → slots < n + m → n + 3 ≤ k → syncWaits n m k ≡ k - (n + 3)
-sync-waits-own n m k h l = rw (do-apply n m h, le-ltb k (n + 3) l)
+-- ---- a sync: the orders of the apply inside, and n as its own part meets it
+
+abbrev pub innerTakes : ℕ → ℕ → ℕ
+innerTakes n m = cond (applies n m) (n + 3) 0
+
+abbrev pub countMet : ℕ → ℕ → ℕ
+countMet n m = cond (applies n m) 0 n
+
+pub sync-takes : (n m : ℕ) → syncTakes n m ≡ innerTakes n m + (m + 3)
+sync-takes n m = go (applies n m)
+  where
+    go : (t : Bool) → cond t (n + 3 + (m + 3)) (m + 3) ≡ cond t (n + 3) 0 + (m + 3)
+    go true = refl
+    go false = omega arith
+
+pub sync-waits-own : (n m k : ℕ) → innerTakes n m ≤ k → syncWaits n m k ≡ k - innerTakes n m
+sync-waits-own n m k h = go (applies n m) h
+  where
+    go : (t : Bool) → cond t (n + 3) 0 ≤ k → cond t (cond (ltb k (n + 3)) (applyWaits n k) (k - (n + 3))) k ≡ k - cond t (n + 3) 0
+    go true l = rw (le-ltb k (n + 3) l)
+    go false l = omega arith
 
 -- ---- the steps
 
@@ -165,6 +175,16 @@ pub apply-behind : (k n : ℕ) (F kept : Bool) → n + 2 < k → applyVerdict k 
 unfolding applyVerdict
 apply-behind k n F kept h = rw (le-ltb k (n + 2) (omega arith), ne-eqb k (n + 2) (λ e. omega arith))
 
+-- an apply's choice lays nothing
+pub apply-laid : (k n : ℕ) (F kept : Bool) → applyVerdict k n F kept .laid ≡ false
+unfolding applyVerdict
+apply-laid k n F kept = go (ltb k (n + 2)) (eqb k (n + 2))
+  where
+    go : (s t : Bool) → cond s (unchanged n F) (cond t (unchanged (cond kept 0 n) false) (unchanged 0 false)) .laid ≡ false
+    go true t = refl
+    go false true = refl
+    go false false = refl
+
 pub choose-apply : (k n m : ℕ) (F kept found : Bool) → verdict (ofApply k) n m F kept found ≡ applyVerdict k n F kept
 unfolding verdict
 choose-apply k n m F kept found = refl
@@ -177,21 +197,40 @@ pub choose-recover : (n m : ℕ) (F kept found : Bool) → verdict (ofRecover 1)
 unfolding verdict
 choose-recover n m F kept found = refl
 
-pub choose-sync-before : (k n m : ℕ) (F kept found : Bool) → n + m ≤ slots → k ≢ m + 2 → verdict (ofSync k) n m F kept found ≡ unchanged n F
-unfolding verdict
-choose-sync-before k n m F kept found h z = rw (no-apply n m h, ne-eqb k (m + 2) z)
-
-pub choose-sync-own : (k n m : ℕ) (F kept found : Bool) → n + m ≤ slots → k ≡ m + 2 → verdict (ofSync k) n m F kept found ≡ ownVerdict n m kept found
-unfolding verdict
-choose-sync-own k n m F kept found h z = rw (no-apply n m h, eq-eqb k (m + 2) z)
-
 pub choose-sync-apply : (k n m : ℕ) (F kept found : Bool) → slots < n + m → k ≢ n + 3 + (m + 2) → verdict (ofSync k) n m F kept found ≡ applyVerdict k n F kept
 unfolding verdict
 choose-sync-apply k n m F kept found h z = rw (do-apply n m h, ne-eqb k (n + 3 + (m + 2)) z)
 
-pub choose-sync-last : (k n m : ℕ) (F kept found : Bool) → slots < n + m → k ≡ n + 3 + (m + 2) → verdict (ofSync k) n m F kept found ≡ ownVerdict 0 m kept found
+-- behind the apply inside: at its own header, and before it
+pub choose-sync-own : (k n m : ℕ) (F kept found : Bool) → k ≡ innerTakes n m + (m + 2) → verdict (ofSync k) n m F kept found ≡ ownVerdict (countMet n m) m kept found
 unfolding verdict
-choose-sync-last k n m F kept found h z = rw (do-apply n m h, eq-eqb k (n + 3 + (m + 2)) z)
+choose-sync-own k n m F kept found e = go (applies n m) e
+  where
+    go : (t : Bool) → k ≡ cond t (n + 3) 0 + (m + 2)
+        → cond t (cond (eqb k (n + 3 + (m + 2))) (ownVerdict 0 m kept found) (applyVerdict k n F kept)) (cond (eqb k (m + 2)) (ownVerdict n m kept found) (unchanged n F))
+        ≡ ownVerdict (cond t 0 n) m kept found
+    go true z = rw (eq-eqb k (n + 3 + (m + 2)) z)
+    go false z = rw (eq-eqb k (m + 2) (omega arith))
+
+pub choose-sync-before : (k n m : ℕ) (kept found : Bool) → innerTakes n m ≤ k → k < innerTakes n m + (m + 2) → verdict (ofSync k) n m false kept found ≡ unchanged (countMet n m) false
+unfolding verdict
+choose-sync-before k n m kept found h l = go (applies n m) h l
+  where
+    go : (t : Bool) → cond t (n + 3) 0 ≤ k → k < cond t (n + 3) 0 + (m + 2)
+        → cond t (cond (eqb k (n + 3 + (m + 2))) (ownVerdict 0 m kept found) (applyVerdict k n false kept)) (cond (eqb k (m + 2)) (ownVerdict n m kept found) (unchanged n false))
+        ≡ unchanged (cond t 0 n) false
+    go true a b = rw (ne-eqb k (n + 3 + (m + 2)) (λ e. omega arith)) (apply-behind k n false kept (omega arith))
+    go false a b = rw (ne-eqb k (m + 2) (λ e. omega arith))
+
+-- elsewhere it lays nothing
+pub sync-still : (k n m : ℕ) (F kept found : Bool) → k ≢ innerTakes n m + (m + 2) → verdict (ofSync k) n m F kept found .laid ≡ false
+unfolding verdict
+sync-still k n m F kept found e = go (applies n m) e
+  where
+    go : (t : Bool) → k ≢ cond t (n + 3) 0 + (m + 2)
+        → cond t (cond (eqb k (n + 3 + (m + 2))) (ownVerdict 0 m kept found) (applyVerdict k n F kept)) (cond (eqb k (m + 2)) (ownVerdict n m kept found) (unchanged n F)) .laid ≡ false
+    go true z = rw (ne-eqb k (n + 3 + (m + 2)) z) (apply-laid k n F kept)
+    go false z = rw (ne-eqb k (m + 2) (λ y. z (omega arith)))
 
 pub own-lost : (n m : ℕ) (found : Bool) → ownVerdict n m false found ≡ unchanged n false
 unfolding ownVerdict

@@ -28,12 +28,11 @@ use Rattle.history.proofs.Plans.{Plan, planned, takes, settles, Fits, T
 use Rattle.history.proofs.AppendEnds.{Appends}
 use Rattle.history.proofs.CauseLaws.{RecordFacts, record-facts}
 use Rattle.history.proofs.Relation.{leads-still}
-use Rattle.history.proofs.PlainLaws.{no-apply, do-apply, takes-plain, takes-apply, sync-waits-plain, sync-waits-apply, sync-waits-own, choose-sync-before, choose-sync-own, choose-sync-apply, choose-sync-last, apply-behind}
+use Rattle.history.proofs.PlainLaws.{innerTakes, countMet, no-apply, do-apply, sync-waits-apply, choose-sync-apply, apply-laid}
 use Rattle.history.proofs.Notes.{note-past}
 use Rattle.history.proofs.GivesStep.{CutsAt}
 use Rattle.history.proofs.OpenFacts as Facts
 use Rattle.history.proofs.Worlds.{settledLedger, plainNow, openWorld, Opened}
-use Rattle.history.proofs.ApplyStep.{apply-laid}
 use Rattle.history.proofs.Checkpoints.{checkpoint, checkpoint-orders, checkpoint-takes, checkpoint-fits, CheckpointCuts, checkpoint-cuts, size-emptied, emptied-card}
 
 module _ (st : State) (v : List Entry) (S : Disk) (x : Bool) where
@@ -62,11 +61,8 @@ module _ (st : State) (v : List Entry) (S : Disk) (x : Bool) where
     pub standing-is : standing st ≡ logD (blockAt (settles front (st .settled))) n
     pub notes : (k : ℕ) → takes front ≤ k → noted (syncHeaders st) k (settledLedger v) ≡ noted (ownHeader st ∷ []) k (settledLedger list)
     -- the plain disk
-    pub takes-is : syncTakes (st .rec .logged) (length G) ≡ takes front + (length G + 3)
-    pub n-is : cond (Plain.applies (st .rec .logged) (length G)) 0 (st .rec .logged) ≡ n
-    pub waits : (k : ℕ) → takes front ≤ k → syncWaits (st .rec .logged) (length G) k ≡ k - takes front
-    pub before : (k : ℕ) (t u : Bool) → takes front ≤ k → k < takes front + (length G + 2) → verdict (ofSync k) (st .rec .logged) (length G) false t u ≡ unchanged n false
-    pub own : (k : ℕ) (t u : Bool) → k ≡ takes front + (length G + 2) → verdict (ofSync k) (st .rec .logged) (length G) false t u ≡ ownVerdict n (length G) t u
+    pub inner-plain : innerTakes (st .rec .logged) (length G) ≡ takes front
+    pub n-is : countMet (st .rec .logged) (length G) ≡ n
     -- cut short inside
     pub cuts : Throughout (CutsAt w (syncHeaders st) ofSync (syncWaits (st .rec .logged) (length G))) front (st .settled) 0
 
@@ -116,11 +112,8 @@ module _ (st : State) (v : List Entry) (S : Disk) (x : Bool) (f : Opened st v S)
       inner-is = rw single;
       standing-is = rw single (Facts.entries-log st (settledLedger v) d (f .basics) (f .sim));
       notes = λ k h. rw single;
-      takes-is = takes-plain n m room ∙ (omega arith);
+      inner-plain = rw (no-apply n m room);
       n-is = rw (no-apply n m room);
-      waits = λ k h. sync-waits-plain n m k room ∙ (omega arith);
-      before = λ k t u h l. choose-sync-before k n m false t u room (λ e. omega arith);
-      own = λ k t u e. choose-sync-own k n m false t u room (omega arith);
       cuts = tt;
     }
 
@@ -189,11 +182,8 @@ module _ (st : State) (v : List Entry) (S : Disk) (x : Bool) (f : Opened st v S)
       inner-is = rw applying (sym count);
       standing-is = rw applying;
       notes = λ k h. ap (λ (hs : List PlannedHeader). noted hs k (settledLedger v)) heads ∙ note-past (applyHeader st) (ownHeader st ∷ []) k (settledLedger v) (omega (arith, count));
-      takes-is = takes-apply n m over ∙ (omega (arith, count));
+      inner-plain = rw (do-apply n m over) (sym count);
       n-is = rw (do-apply n m over);
-      waits = λ k h. sync-waits-own n m k over (omega (arith, count)) ∙ ap (λ (i : ℕ). k - i) (sym count);
-      before = λ k t u h l. choose-sync-apply k n m false t u over (λ e. omega (arith, count)) ∙ apply-behind k n false t (omega (arith, count));
-      own = λ k t u e. choose-sync-last k n m false t u over (omega (arith, count));
       cuts = cuts;
     }
 

@@ -29,7 +29,7 @@ use Rattle.store.specs.Lists.{groupFrom, listOf}
 use Rattle.store.specs.Causes.{cause}
 use Rattle.store.specs.Saves.{carried, syncCall, groupOf, applies, metByAppend, innerOrders}
 use Rattle.history.specs.Call.{get, sync}
-use Rattle.history.specs.Plain.{Plain, ofSync, refusal, plainStep, plainSync, syncWaits, ownVerdict, unchanged}
+use Rattle.history.specs.Plain.{Plain, ofSync, refusal, plainStep, plainSync, syncTakes, syncWaits, ownVerdict, unchanged}
 use Rattle.history.specs.Ledger.{Ledger, waits, syncHeaders, noted, entered, ownHeader, standing, inner, resolved, sameLog}
 use Rattle.history.specs.History.{World, ledgerNext, foundWritten}
 use Rattle.history.specs.Statements.{Logged, allOnes}
@@ -40,7 +40,7 @@ use Rattle.history.proofs.AfterCut.{foundIn}
 use Rattle.history.proofs.AppendEnds.{writes-fit, short-before, short-top, whole-found, done-card, done-sum, done-logged}
 use Rattle.history.proofs.CauseLaws.{RecordFacts, record-facts, cause-passes}
 use Rattle.history.proofs.Relation.{OpenSim, cutWritten, cutSettled, leads-still, leads-laid}
-use Rattle.history.proofs.PlainLaws.{sync-nothing, sync-finished, sync-short, kept-mark}
+use Rattle.history.proofs.PlainLaws.{sync-takes, sync-waits-own, choose-sync-own, choose-sync-before, sync-nothing, sync-finished, sync-short, kept-mark}
 use Rattle.history.proofs.Steps.{WorldSim, StepOK, same-cause, refused-step, plain-served, noted-none}
 use Rattle.history.proofs.SimpleSteps.{is-open}
 use Rattle.history.proofs.Notes.{note-before, note-at, note-past, noted-end}
@@ -155,6 +155,12 @@ module _ (st : State) (v : List Entry) (S : Disk) (x : Bool) (f : Opened st v S)
     count : takes plan ≡ takes (y .front) + (length G + 3)
     count = takes-append (y .front) (W ∷ []) ∙ (omega (arith, length-W))
 
+    waits-own : (k : ℕ) → takes (y .front) ≤ k → syncWaits (st .rec .logged) (length G) k ≡ k - takes (y .front)
+    waits-own k l = sync-waits-own (st .rec .logged) (length G) k (omega (arith, y .inner-plain)) ∙ ap (λ (i : ℕ). k - i) (y .inner-plain)
+
+    takes-is : syncTakes (st .rec .logged) (length G) ≡ takes plan
+    takes-is = sync-takes (st .rec .logged) (length G) ∙ (omega (arith, y .inner-plain, count))
+
     -- ---- its own header in the ledger
 
     note-early : (k : ℕ) → takes (y .front) ≤ k → k < takes (y .front) + (length G + 2) → noted (syncHeaders st) k (settledLedger v) ≡ settledLedger (y .list)
@@ -178,17 +184,17 @@ module _ (st : State) (v : List Entry) (S : Disk) (x : Bool) (f : Opened st v S)
     cuts-before : (j k : ℕ) → j ≤ length G + 1 → k ≡ takes (y .front) + j → CutsAt w (syncHeaders st) ofSync (syncWaits (st .rec .logged) (length G)) s (take j W) k
     unfolding resolved
     cuts-before j k h e = record {
-      waiting = y .waits k (omega arith) ∙ sym (length-take j W ∙ (omega (arith, length-W)));
+      waiting = waits-own k (omega arith) ∙ sym (length-take j W ∙ (omega (arith, length-W)));
       leads = λ r l ms q.
           rw (note-early k (omega arith) (omega arith))
-          (leads-still _ _ (unchanged (y .n) false) (y .before k _ _ (omega arith) (omega arith)) refl (short-before (y .meets) (cardIn st) r j l h ms));
+          (leads-still _ _ (unchanged (y .n) false) (choose-sync-before k (st .rec .logged) (length G) _ _ (omega (arith, y .inner-plain)) (omega (arith, y .inner-plain)) ∙ ap (λ (i : ℕ). unchanged i false) (y .n-is)) refl (short-before (y .meets) (cardIn st) r j l h ms));
     }
 
     cuts-top : (j k : ℕ) → j ≡ length G + 2 → k ≡ takes (y .front) + j → CutsAt w (syncHeaders st) ofSync (syncWaits (st .rec .logged) (length G)) s (take j W) k
     unfolding resolved
     cuts-top j k h e =
         let long : length (take j W) ≡ length G + 2 = length-take j W ∙ (omega (arith, length-W)) in
-        let wt : syncWaits (st .rec .logged) (length G) k ≡ suc (length G + 1) = y .waits k (omega arith) ∙ (omega arith) in
+        let wt : syncWaits (st .rec .logged) (length G) k ≡ suc (length G + 1) = waits-own k (omega arith) ∙ (omega arith) in
         record {
           waiting = wt ∙ (omega (arith, long));
           leads = λ r l ms q.
@@ -196,7 +202,7 @@ module _ (st : State) (v : List Entry) (S : Disk) (x : Bool) (f : Opened st v S)
               let u : Bool = sameLog (foundIn (cut ms r .settled)) (cond (eqb (getD ms (length G + 1) 0) 1) (log ++ G) (y .list)) in
               rw (note-top k (omega arith))
               (leads-laid _ _ _ (ownVerdict (y .n) (length G) t u)
-              (y .own k _ u (omega arith) ∙ ap (λ (p : Bool). ownVerdict (y .n) (length G) p u) (kept-mark ms _ (length G + 1) wt))
+              (choose-sync-own k (st .rec .logged) (length G) false _ u (omega (arith, y .inner-plain)) ∙ (λ i. ownVerdict (y .n-is i) (length G) (kept-mark ms _ (length G + 1) wt i) u))
               (short-top (y .meets) (cardIn st) r j l h ms (q ∙ long) t u refl refl));
         }
 
@@ -236,10 +242,10 @@ module _ (st : State) (v : List Entry) (S : Disk) (x : Bool) (f : Opened st v S)
       waits = syncWaits (st .rec .logged) (length G);
       S = overlay G S;
       plain-done = λ p.
-          plain ∙ sync-finished d some-G (omega (arith, y .takes-is, count))
+          plain ∙ sync-finished d some-G (omega (arith, takes-is))
           ∙ ap₂ (λ (k c : ℕ). record { answer = 0; orders = k; plain = openPlain st (withGrouped 0 (withLog c (sumOf (y .sum) G) (st .rec))) (overlay G S) (st .rec .power - k) })
-          (y .takes-is ∙ sym count) (ap₂ (λ (a b : ℕ). a + b) (y .n-is) length-G);
-      plain-short = λ p. plain ∙ sync-short d some-G (omega (arith, y .takes-is, count));
+          takes-is (ap₂ (λ (a b : ℕ). a + b) (y .n-is) length-G);
+      plain-short = λ p. plain ∙ sync-short d some-G (omega (arith, takes-is));
       cuts = cuts;
       list = log ++ G;
       noted-all = note-done;
