@@ -32,7 +32,7 @@ use Rattle.history.proofs.SimpleSteps.{is-open}
 use Rattle.history.proofs.Notes.{note-past, noted-end}
 use Rattle.history.proofs.GivesStep.{openPlain, countable, open-listed, group-listed, CutsAt, Gives, gives-step}
 use Rattle.history.proofs.OpenFacts.{none-waits}
-use Rattle.history.proofs.Worlds.{settledLedger, plainNow, openWorld, Opened, opened-sim, open-world, opened}
+use Rattle.history.proofs.Worlds.{settledLedger, plainNow, openWorld, Opened, opened-sim, open-step}
 use Rattle.history.proofs.Checkpoints.{checkpoint, checkpoint-orders, checkpoint-takes, checkpoint-fits, CheckpointCuts, checkpoint-cuts, emptied-card}
 
 -- a call that changes nothing
@@ -140,10 +140,4 @@ module _ (st : State) (v : List Entry) (S : Disk) (x : Bool) (f : Opened st v S)
       go (no z) = gives-step apply w (plan z) b (gives z)
 
 pub apply-step : (w : World) → WorldSim w → StepOK apply w
-apply-step w m = go (ℕ-discrete (refusal apply (w .plain)) 0)
-  where
-    go : Dec (refusal apply (w .plain) ≡ 0) → StepOK apply w
-    go (no h) = refused-step apply w m h
-    go (yes h) =
-        let o : OpenSim (w .store) (w .ledger) (w .plain) = is-open (w .store) (w .ledger) (w .plain) m Request.apply refl (cause-passes Request.apply (w .store) (same-cause (w .store) (w .ledger) (w .plain) m apply ∙ h)) in
-        subst (StepOK apply) (sym (open-world w (m .basics) o)) (apply-open (w .store) (w .ledger .written) (w .plain .S) (w .excepted) (opened w (m .basics) o))
+apply-step = open-step apply refl apply-open

@@ -1,5 +1,5 @@
 -- A plan: batches given one after the other. What stands on the card for any power; and what is asked wherever power can end.
-use Prim.Native.Nat.{ℕ, _+_, _*_, _-_, _^_, _≤_, _<_}
+use Prim.Native.Nat.{ℕ, zero, suc, _+_, _*_, _-_, _^_, _≤_, _<_}
 use mathlib.Core.Path.{_≡_, refl, ap, ap₂, sym, subst, _∙_}
 use mathlib.Core.List.{List, [], _∷_, _++_, map, append-assoc}
 use native.Mathlib.Omega.{arith}
@@ -66,6 +66,15 @@ Asked = List ℕ → List Entry → ℕ → Type 0
 abbrev pub Throughout : Asked → Plan → List ℕ → ℕ → Type 0
 Throughout X [] s k = Unit {0}
 Throughout X (W ∷ Ws) s k = ((j i : ℕ) → j ≤ length W → i ≡ k + j → X s (take j W) i) × Throughout X Ws (settle W s) (k + (length W + 1))
+
+-- a batch of one write
+pub for-one : (X : Asked) (e : Entry) (s : List ℕ) (k : ℕ) → ((i : ℕ) → i ≡ k → X s [] i) → ((i : ℕ) → i ≡ k + 1 → X s (e ∷ []) i) → Throughout X ((e ∷ []) ∷ []) s k
+for-one X e s k a b = (go, tt)
+  where
+    go : (j i : ℕ) → j ≤ 1 → i ≡ k + j → X s (take j (e ∷ [])) i
+    go zero i h q = a i (omega arith)
+    go (suc zero) i h q = b i q
+    go (suc (suc j)) i h q = absurd (omega arith)
 
 pub throughout-append : (X : Asked) (a b : Plan) (s : List ℕ) (k i : ℕ) → i ≡ k + takes a → Throughout X a s k → Throughout X b (settles a s) i → Throughout X (a ++ b) s k
 throughout-append X [] b s k i e x y = let z : i ≡ k = omega arith in subst (λ (n : ℕ). Throughout X b s n) z y

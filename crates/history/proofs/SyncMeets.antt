@@ -11,9 +11,10 @@ use lib.ListN.{length}
 use Rattle.cells.specs.Entry.{Entry}
 use Rattle.fnv.specs.Fnv.{start}
 use Rattle.card.specs.Disk.{Disk}
-use Rattle.card.specs.Card.{Order, blockAt}
+use Rattle.card.specs.Card.{Order, blockAt, blocksIn}
 use Rattle.card.proofs.All.{All}
 use Rattle.journal.specs.Layout.{slots}
+use Rattle.journal.specs.Log.{sumOf}
 use Rattle.journal.specs.Orders.{syncOrders}
 use Rattle.journal.proofs.Logs.{sumOf-nil}
 use Rattle.journal.proofs.OrderLists.{appendWrites, append-writes, append-afresh}
@@ -23,7 +24,7 @@ use Rattle.history.specs.Plain as Plain
 use Rattle.history.specs.Plain.{Plain, ofSync, syncTakes, syncWaits, applyWaits, applyVerdict, ownVerdict, verdict, headerKept, unchanged}
 use Rattle.history.specs.Ledger.{PlannedHeader, syncHeaders, noted, applyHeader, ownHeader, standing, inner}
 use Rattle.history.specs.History.{World}
-use Rattle.history.proofs.Disks.{logD}
+use Rattle.history.proofs.Disks.{logD, WholeCard}
 use Rattle.history.proofs.Plans.{Plan, planned, takes, settles, Fits, Throughout, planned-append, throughout-map}
 use Rattle.history.proofs.AppendEnds.{Appends}
 use Rattle.history.proofs.CauseLaws.{RecordFacts, record-facts}
@@ -82,6 +83,20 @@ module _ (st : State) (v : List Entry) (S : Disk) (x : Bool) (f : Opened st v S)
   length-G : length (groupOf st) ≡ st .rec .grouped
   length-G = Facts.length-group st (settledLedger v) d (f .basics) (f .sim)
 
+  pub appends : (s : List ℕ) (k h : ℕ) (l : List Entry) → st .rec .blocks ≡ blocksIn s → k + length (groupOf st) ≤ slots → h ≡ sumOf start (logD (blockAt s) k) → WholeCard (st .rec .blocks) (blockAt s) l S k
+      → Appends (st .rec .blocks) s k h (groupOf st) l S
+  appends s k h l size room sum card = record {
+    big = Facts.big st (settledLedger v) d (f .basics) (f .sim);
+    small = Facts.small st (settledLedger v) d (f .basics) (f .sim);
+    size = size;
+    room = room;
+    sum = sum;
+    card = card;
+    whole = Facts.group-whole st (settledLedger v) d (f .basics) (f .sim);
+    low = Facts.group-short st (settledLedger v) d (f .basics) (f .sim);
+    all-data = Facts.group-data st (settledLedger v) d (f .basics) (f .sim);
+  }
+
   -- ---- there is room
 
   module _ (room : n + length (groupOf st) ≤ slots) where
@@ -95,17 +110,7 @@ module _ (st : State) (v : List Entry) (S : Disk) (x : Bool) (f : Opened st v S)
       n = n;
       sum = st .rec .sum;
       list = v;
-      meets = record {
-        big = Facts.big st (settledLedger v) d (f .basics) (f .sim);
-        small = Facts.small st (settledLedger v) d (f .basics) (f .sim);
-        size = Facts.size st (settledLedger v) d (f .basics) (f .sim);
-        room = room;
-        sum = Facts.sum st (settledLedger v) d (f .basics) (f .sim);
-        card = f .sim .card;
-        whole = Facts.group-whole st (settledLedger v) d (f .basics) (f .sim);
-        low = Facts.group-short st (settledLedger v) d (f .basics) (f .sim);
-        all-data = Facts.group-data st (settledLedger v) d (f .basics) (f .sim);
-      };
+      meets = appends (st .settled) n (st .rec .sum) v (Facts.size st (settledLedger v) d (f .basics) (f .sim)) room (Facts.sum st (settledLedger v) d (f .basics) (f .sim)) (f .sim .card);
       fits = tt;
       orders = λ some. rw (ne-eqb m 0 some, le-leb (n + m) slots room) (append-writes (N st v S x) (st .settled) n (st .rec .sum) (groupOf st) ∙ sym (append-nil _));
       record-is = rw single;
@@ -165,17 +170,7 @@ module _ (st : State) (v : List Entry) (S : Disk) (x : Bool) (f : Opened st v S)
       n = 0;
       sum = start;
       list = [];
-      meets = record {
-        big = Facts.big st (settledLedger v) d (f .basics) (f .sim);
-        small = Facts.small st (settledLedger v) d (f .basics) (f .sim);
-        size = size-emptied st (settledLedger v) d (f .basics) (f .sim);
-        room = omega (arith, length-G, rc .group-count);
-        sum = sym (sumOf-nil start);
-        card = emptied-card st (settledLedger v) d (f .basics) (f .sim);
-        whole = Facts.group-whole st (settledLedger v) d (f .basics) (f .sim);
-        low = Facts.group-short st (settledLedger v) d (f .basics) (f .sim);
-        all-data = Facts.group-data st (settledLedger v) d (f .basics) (f .sim);
-      };
+      meets = appends _ 0 start [] (size-emptied st (settledLedger v) d (f .basics) (f .sim)) (omega (arith, length-G, rc .group-count)) (sym (sumOf-nil start)) (emptied-card st (settledLedger v) d (f .basics) (f .sim));
       fits = checkpoint-fits st (settledLedger v) d (f .basics) (f .sim);
       orders = orders;
       record-is = rw applying;

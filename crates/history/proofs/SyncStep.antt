@@ -47,7 +47,7 @@ use Rattle.history.proofs.Notes.{note-before, note-at, note-past, noted
 use Rattle.history.proofs.CallEnds.{carried-done}
 use Rattle.history.proofs.GivesStep.{openPlain, Countable, none-listed, countable, open-listed, CutsAt, Gives, gives-step, gives-enough, gives-less, gives-settled, short-call, stopped}
 use Rattle.history.proofs.OpenFacts as Facts
-use Rattle.history.proofs.Worlds.{settledLedger, plainNow, openWorld, Opened, opened-sim, open-world, opened}
+use Rattle.history.proofs.Worlds.{settledLedger, plainNow, openWorld, Opened, opened-sim, open-world, opened, open-step}
 use Rattle.history.proofs.ApplyStep.{nothing-step}
 use Rattle.history.proofs.SyncMeets.{Met, met}
 
@@ -303,13 +303,7 @@ module _ (st : State) (v : List Entry) (S : Disk) (x : Bool) (f : Opened st v S)
       go (no z) = gives-step sync w _ (f .basics) (gives z (met st v S x f z))
 
 pub sync-step : (w : World) → WorldSim w → StepOK sync w
-sync-step w m = go (ℕ-discrete (refusal sync (w .plain)) 0)
-  where
-    go : Dec (refusal sync (w .plain) ≡ 0) → StepOK sync w
-    go (no h) = refused-step sync w m h
-    go (yes h) =
-        let o : OpenSim (w .store) (w .ledger) (w .plain) = is-open (w .store) (w .ledger) (w .plain) m Request.sync refl (cause-passes Request.sync (w .store) (same-cause (w .store) (w .ledger) (w .plain) m sync ∙ h)) in
-        subst (StepOK sync) (sym (open-world w (m .basics) o)) (sync-open (w .store) (w .ledger .written) (w .plain .S) (w .excepted) (opened w (m .basics) o))
+sync-step = open-step sync refl sync-open
 
 -- ---- of any open world
 
