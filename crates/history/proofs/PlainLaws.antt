@@ -1,16 +1,17 @@
 -- The plain disk's steps, case by case.
 use Prim.Native.Nat.{ℕ, suc, _+_, _-_, _≤_, _<_}
-use mathlib.Core.Path.{_≡_, refl, ap}
+use mathlib.Core.Path.{_≡_, refl, ap, sym, _∙_}
 use mathlib.Core.Logic.{_≢_}
-use mathlib.Core.Bool.{Bool, true, false, cond, not}
+use mathlib.Core.Bool.{Bool, true, false, cond, not, _&&_}
 use mathlib.Core.List.{List, []}
 use native.Mathlib.Omega.{arith}
+use native.Mathlib.Decide.{ℕ-discrete}
 use borrow.Author.Tests.{eq-eqb, ne-eqb, le-leb, lt-leb, lt-ltb, le-ltb}
 use lib.Dec.{eqb, ltb}
 use lib.ListN.{length, getD}
 use Rattle.card.specs.Disk.{overlay}
 use Rattle.journal.specs.Layout.{slots}
-use Rattle.history.specs.Plain.{Plain, none, ofSync, ofApply, ofRecover, applies, syncTakes, applyWaits, syncWaits, unchanged, applyVerdict, ownVerdict, verdict, cutShort, plainSync, plainApply, plainRecover, headerKept}
+use Rattle.history.specs.Plain.{Plain, none, ofSync, ofApply, ofRecover, applies, syncTakes, applyWaits, syncWaits, unchanged, Verdict, applyVerdict, ownVerdict, verdict, cutShort, plainSync, plainApply, plainRecover, headerKept}
 
 -- ---- orders and waiting writes
 
@@ -248,3 +249,26 @@ own-other n m = refl
 pub kept-mark : (ms : List ℕ) (w k : ℕ) → w ≡ suc k → headerKept ms w ≡ eqb (getD ms k 0) 1
 unfolding headerKept
 kept-mark ms w k h = ap (λ (i : ℕ). eqb (getD ms i 0) 1) (let e : w - 1 ≡ k = omega arith in e)
+
+-- ---- when a cut lays the group of a sync cut short
+
+own-laid : (n m : ℕ) (t u : Bool) → ownVerdict n m t u .laid ≡ t && u
+unfolding ownVerdict
+own-laid n m true true = refl
+own-laid n m true false = refl
+own-laid n m false u = refl
+
+pub sync-laid : (n m k : ℕ) (F found : Bool) (ms : List ℕ)
+    → verdict (ofSync k) n m F (headerKept ms (syncWaits n m k)) found .laid ≡ eqb k (innerTakes n m + (m + 2)) && eqb (getD ms (m + 1) 0) 1 && found
+sync-laid n m k F found ms = go (ℕ-discrete k (innerTakes n m + (m + 2)))
+  where
+    go : Dec (k ≡ innerTakes n m + (m + 2)) → verdict (ofSync k) n m F (headerKept ms (syncWaits n m k)) found .laid ≡ eqb k (innerTakes n m + (m + 2)) && eqb (getD ms (m + 1) 0) 1 && found
+    go (yes e) =
+        let w : syncWaits n m k ≡ suc (m + 1) = sync-waits-own n m k (omega arith) ∙ (omega arith) in
+        ap (λ (v : Verdict). v .laid) (choose-sync-own k n m F (headerKept ms (syncWaits n m k)) found e)
+        ∙ own-laid (countMet n m) m (headerKept ms (syncWaits n m k)) found
+        ∙ ap (λ (t : Bool). t && found) (kept-mark ms (syncWaits n m k) (m + 1) w)
+        ∙ sym (ap (λ (t : Bool). t && eqb (getD ms (m + 1) 0) 1 && found) (eq-eqb k (innerTakes n m + (m + 2)) e))
+    go (no e) =
+        sync-still k n m F (headerKept ms (syncWaits n m k)) found e
+        ∙ sym (ap (λ (t : Bool). t && eqb (getD ms (m + 1) 0) 1 && found) (ne-eqb k (innerTakes n m + (m + 2)) e))

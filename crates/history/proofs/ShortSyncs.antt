@@ -42,29 +42,6 @@ use Rattle.history.proofs.ListInduction.{step, next-sim, clean-first}
 use Rattle.history.proofs.PlainAnswers.{sync-cases}
 use Rattle.history.proofs.ReadsBack.{power-served, cut-accepted}
 
--- ---- when a cut lays the group of a sync cut short
-
-own-laid : (n m : ℕ) (t u : Bool) → ownVerdict n m t u .laid ≡ t && u
-unfolding ownVerdict
-own-laid n m true true = refl
-own-laid n m true false = refl
-own-laid n m false u = refl
-
-pub sync-laid : (n m k : ℕ) (F found : Bool) (ms : List ℕ)
-    → verdict (ofSync k) n m F (headerKept ms (syncWaits n m k)) found .laid ≡ eqb k (innerTakes n m + (m + 2)) && eqb (getD ms (m + 1) 0) 1 && found
-sync-laid n m k F found ms = go (ℕ-discrete k (innerTakes n m + (m + 2)))
-  where
-    go : Dec (k ≡ innerTakes n m + (m + 2)) → verdict (ofSync k) n m F (headerKept ms (syncWaits n m k)) found .laid ≡ eqb k (innerTakes n m + (m + 2)) && eqb (getD ms (m + 1) 0) 1 && found
-    go (yes e) =
-        let w : syncWaits n m k ≡ suc (m + 1) = PlainLaws.sync-waits-own n m k (omega arith) ∙ (omega arith) in
-        ap (λ (v : Verdict). v .laid) (PlainLaws.choose-sync-own k n m F (headerKept ms (syncWaits n m k)) found e)
-        ∙ own-laid (countMet n m) m (headerKept ms (syncWaits n m k)) found
-        ∙ ap (λ (t : Bool). t && found) (PlainLaws.kept-mark ms (syncWaits n m k) (m + 1) w)
-        ∙ sym (ap (λ (t : Bool). t && eqb (getD ms (m + 1) 0) 1 && found) (eq-eqb k (innerTakes n m + (m + 2)) e))
-    go (no e) =
-        PlainLaws.sync-still k n m F (headerKept ms (syncWaits n m k)) found e
-        ∙ sym (ap (λ (t : Bool). t && eqb (getD ms (m + 1) 0) 1 && found) (ne-eqb k (innerTakes n m + (m + 2)) e))
-
 -- ---- phases
 
 abbrev pub planned : Plain → List ℕ → Bool → Verdict
@@ -285,7 +262,7 @@ module _ (old : Disk) (w : World) (m : WorldSim w) (h : refusal sync (w .plain) 
         S = y .1;
         group = Facts.plain-group (w .store) (w .ledger) (w .plain) b o;
         laid = λ ms u.
-            sync-laid (w .plain .n) (length (w .plain .G)) (w .plain .power) (w .plain .F) u ms
+            PlainLaws.sync-laid (w .plain .n) (length (w .plain .G)) (w .plain .power) (w .plain .F) u ms
             ∙ ap₂ (λ (t : Bool) (i : ℕ). t && eqb (getD ms (i + 1) 0) 1 && u) (sym headed-is) count;
         whole = λ e ms l a.
             let q : length ms ≡ w .store .rec .grouped + 2 = l ∙ waits-two e in (
