@@ -202,36 +202,35 @@ pub choose-sync-apply : (k n m : ℕ) (F kept found : Bool) → slots < n + m �
 unfolding verdict
 choose-sync-apply k n m F kept found h z = rw (do-apply n m h, ne-eqb k (n + 3 + (m + 2)) z)
 
--- behind the apply inside: at its own header, and before it
+-- its own at its header, else the apply's inside or none
+sync-verdict : (k n m : ℕ) (F kept found : Bool)
+    → verdict (ofSync k) n m F kept found ≡ cond (eqb k (innerTakes n m + (m + 2))) (ownVerdict (countMet n m) m kept found) (cond (applies n m) (applyVerdict k n F kept) (unchanged n F))
+unfolding verdict
+sync-verdict k n m F kept found = go (applies n m)
+  where
+    go : (t : Bool) → cond t (cond (eqb k (n + 3 + (m + 2))) (ownVerdict 0 m kept found) (applyVerdict k n F kept)) (cond (eqb k (m + 2)) (ownVerdict n m kept found) (unchanged n F))
+        ≡ cond (eqb k (cond t (n + 3) 0 + (m + 2))) (ownVerdict (cond t 0 n) m kept found) (cond t (applyVerdict k n F kept) (unchanged n F))
+    go true = refl
+    go false = let e : 0 + (m + 2) ≡ m + 2 = omega arith in rw e
+
 pub choose-sync-own : (k n m : ℕ) (F kept found : Bool) → k ≡ innerTakes n m + (m + 2) → verdict (ofSync k) n m F kept found ≡ ownVerdict (countMet n m) m kept found
-unfolding verdict
-choose-sync-own k n m F kept found e = go (applies n m) e
-  where
-    go : (t : Bool) → k ≡ cond t (n + 3) 0 + (m + 2)
-        → cond t (cond (eqb k (n + 3 + (m + 2))) (ownVerdict 0 m kept found) (applyVerdict k n F kept)) (cond (eqb k (m + 2)) (ownVerdict n m kept found) (unchanged n F))
-        ≡ ownVerdict (cond t 0 n) m kept found
-    go true z = rw (eq-eqb k (n + 3 + (m + 2)) z)
-    go false z = rw (eq-eqb k (m + 2) (omega arith))
+choose-sync-own k n m F kept found e = sync-verdict k n m F kept found ∙ rw (eq-eqb k (innerTakes n m + (m + 2)) e)
 
+-- behind the apply inside, before its own header
 pub choose-sync-before : (k n m : ℕ) (kept found : Bool) → innerTakes n m ≤ k → k < innerTakes n m + (m + 2) → verdict (ofSync k) n m false kept found ≡ unchanged (countMet n m) false
-unfolding verdict
-choose-sync-before k n m kept found h l = go (applies n m) h l
+choose-sync-before k n m kept found h l = sync-verdict k n m false kept found ∙ rw (ne-eqb k (innerTakes n m + (m + 2)) (λ e. omega arith)) (go (applies n m) h)
   where
-    go : (t : Bool) → cond t (n + 3) 0 ≤ k → k < cond t (n + 3) 0 + (m + 2)
-        → cond t (cond (eqb k (n + 3 + (m + 2))) (ownVerdict 0 m kept found) (applyVerdict k n false kept)) (cond (eqb k (m + 2)) (ownVerdict n m kept found) (unchanged n false))
-        ≡ unchanged (cond t 0 n) false
-    go true a b = rw (ne-eqb k (n + 3 + (m + 2)) (λ e. omega arith)) (apply-behind k n false kept (omega arith))
-    go false a b = rw (ne-eqb k (m + 2) (λ e. omega arith))
+    go : (t : Bool) → cond t (n + 3) 0 ≤ k → cond t (applyVerdict k n false kept) (unchanged n false) ≡ unchanged (cond t 0 n) false
+    go true a = apply-behind k n false kept (omega arith)
+    go false a = refl
 
--- elsewhere it lays nothing
+-- but at its own header it lays nothing
 pub sync-still : (k n m : ℕ) (F kept found : Bool) → k ≢ innerTakes n m + (m + 2) → verdict (ofSync k) n m F kept found .laid ≡ false
-unfolding verdict
-sync-still k n m F kept found e = go (applies n m) e
+sync-still k n m F kept found e = ap (λ (v : Verdict). v .laid) (sync-verdict k n m F kept found) ∙ rw (ne-eqb k (innerTakes n m + (m + 2)) e) (go (applies n m))
   where
-    go : (t : Bool) → k ≢ cond t (n + 3) 0 + (m + 2)
-        → cond t (cond (eqb k (n + 3 + (m + 2))) (ownVerdict 0 m kept found) (applyVerdict k n F kept)) (cond (eqb k (m + 2)) (ownVerdict n m kept found) (unchanged n F)) .laid ≡ false
-    go true z = rw (ne-eqb k (n + 3 + (m + 2)) z) (apply-laid k n F kept)
-    go false z = rw (ne-eqb k (m + 2) (λ y. z (omega arith)))
+    go : (t : Bool) → cond t (applyVerdict k n F kept) (unchanged n F) .laid ≡ false
+    go true = apply-laid k n F kept
+    go false = refl
 
 pub own-lost : (n m : ℕ) (found : Bool) → ownVerdict n m false found ≡ unchanged n false
 unfolding ownVerdict

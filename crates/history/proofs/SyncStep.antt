@@ -112,16 +112,8 @@ module _ (st : State) (v : List Entry) (S : Disk) (x : Bool) (f : Opened st v S)
       let single : applies st ≡ false = rw (eq-eqb _ 0 z) in
       let same : withGrouped 0 (withLog (metByAppend st .logged + st .rec .grouped) (sumOf (metByAppend st .sum) G) (metByAppend st)) ≡ st .rec =
       rw single
-      (λ i. record {
-        mode = st .rec .mode;
-        blocks = st .rec .blocks;
-        opened = st .rec .opened;
-        grouped = sym z i;
-        logged = (ap (λ (k : ℕ). st .rec .logged + k) z ∙ add-zero (st .rec .logged)) i;
-        waiting = st .rec .waiting;
-        power = st .rec .power;
-        sum = (ap (λ (g : List Entry). sumOf (st .rec .sum) g) nil ∙ sumOf-nil (st .rec .sum)) i;
-      }) in
+      (λ i. withGrouped (sym z i)
+      (withLog ((ap (λ (k : ℕ). st .rec .logged + k) z ∙ add-zero (st .rec .logged)) i) ((ap (λ (g : List Entry). sumOf (st .rec .sum) g) nil ∙ sumOf-nil (st .rec .sum)) i) (st .rec))) in
       let D : syncCall st ≡ record { answer = 0; orders = 0; state = st } =
       call
       ∙ ap₂ (λ (os : List Order) (r : Record). carried os r (cond (leb (length (innerOrders st)) (st .rec .power)) (metByAppend st) (st .rec)) st) (rw (eq-eqb _ 0 zero-G)) same
