@@ -26,13 +26,13 @@ use Rattle.history.specs.History.{World, ledgerNext, foundWritten}
 use Rattle.history.proofs.Plans.{Plan, planned, takes, Throughout, throughout-map}
 use Rattle.history.proofs.CauseLaws.{RecordFacts, record-facts, cause-passes}
 use Rattle.history.proofs.Relation.{Basics, OpenSim, leads-still}
-use Rattle.history.proofs.PlainLaws.{apply-nothing, apply-finished, apply-short, choose-apply}
+use Rattle.history.proofs.PlainLaws.{apply-laid, apply-nothing, apply-finished, apply-short, choose-apply}
 use Rattle.history.proofs.Steps.{WorldSim, StepOK, sim-step, sim-at, same-cause, refused-step, plain-served, noted-none}
 use Rattle.history.proofs.SimpleSteps.{is-open}
 use Rattle.history.proofs.Notes.{note-past, noted-end}
 use Rattle.history.proofs.GivesStep.{openPlain, countable, open-listed, group-listed, CutsAt, Gives, gives-step}
 use Rattle.history.proofs.OpenFacts.{none-waits}
-use Rattle.history.proofs.Worlds.{settledLedger, plainNow, openWorld, Opened, opened-sim, open-world, opened}
+use Rattle.history.proofs.Worlds.{settledLedger, plainNow, openWorld, Opened, opened-sim, open-step}
 use Rattle.history.proofs.Checkpoints.{checkpoint, checkpoint-orders, checkpoint-takes, checkpoint-fits, CheckpointCuts, checkpoint-cuts, emptied-card}
 
 -- a call that changes nothing
@@ -46,16 +46,6 @@ nothing-step c w m D P E g =
       block = λ a e z. absurd (g a e);
       sim = sim-at (ap (λ (o : Outcome). o .state) D) E (ap (λ (o : Done). o .plain) P) m;
     })
-
--- a choice that lays nothing
-pub apply-laid : (k n : ℕ) (F kept : Bool) → applyVerdict k n F kept .laid ≡ false
-unfolding applyVerdict
-apply-laid k n F kept = go (lib.Dec.ltb k (n + 2)) (eqb k (n + 2))
-  where
-    go : (s t : Bool) → cond s (unchanged n F) (cond t (unchanged (cond kept 0 n) false) (unchanged 0 false)) .laid ≡ false
-    go true t = refl
-    go false true = refl
-    go false false = refl
 
 apply-no-get : (a : ℕ) → apply ≡ get a → ⊥
 apply-no-get a e = let z : _≡_ {A = ℕ} 0 1 = cc in omega arith
@@ -150,10 +140,4 @@ module _ (st : State) (v : List Entry) (S : Disk) (x : Bool) (f : Opened st v S)
       go (no z) = gives-step apply w (plan z) b (gives z)
 
 pub apply-step : (w : World) → WorldSim w → StepOK apply w
-apply-step w m = go (ℕ-discrete (refusal apply (w .plain)) 0)
-  where
-    go : Dec (refusal apply (w .plain) ≡ 0) → StepOK apply w
-    go (no h) = refused-step apply w m h
-    go (yes h) =
-        let o : OpenSim (w .store) (w .ledger) (w .plain) = is-open (w .store) (w .ledger) (w .plain) m Request.apply refl (cause-passes Request.apply (w .store) (same-cause (w .store) (w .ledger) (w .plain) m apply ∙ h)) in
-        subst (StepOK apply) (sym (open-world w (m .basics) o)) (apply-open (w .store) (w .ledger .written) (w .plain .S) (w .excepted) (opened w (m .basics) o))
+apply-step = open-step apply refl apply-open

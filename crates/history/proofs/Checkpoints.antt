@@ -25,7 +25,11 @@ use Rattle.crash.proofs.Logs.{data-below}
 use Rattle.store.specs.State.{State, cardIn}
 use Rattle.history.specs.Plain.{Plain, applyVerdict, applyWaits, headerKept}
 use Rattle.history.specs.Ledger.{Ledger, PlannedHeader, noted, applyHeader, resolved}
-use Rattle.history.proofs.Plans.{Plan, planned, takes, settles, Fits, Throughout, length-settles}
+use Rattle.history.proofs.Disks.{WholeCard, data-below}
+use Rattle.history.proofs.Batches.{Left}
+use Rattle.history.proofs.Plans.{Plan, planned, takes, settles, Fits, Throughout, for-one, length-settles}
+use Rattle.history.proofs.AfterCut.{Leads, homes-done, empty-card}
+use Rattle.history.proofs.CallCuts.{settled-laid, homes-cuts, still-cuts, header-cuts}
 use Rattle.history.proofs.Lists.{Data}
 use Rattle.history.proofs.Relation.{Basics, OpenSim, cutWritten}
 use Rattle.history.proofs.PlainLaws.{waits-homes, waits-flushed, waits-header, apply-before, apply-at, kept-mark}
@@ -139,9 +143,4 @@ module _ (st : State) (l : Ledger) (d : Plain) (b : Basics st d) (o : OpenSim st
         }
 
     pub checkpoint-cuts : Throughout (CheckpointCuts hs) checkpoint (st .settled) 0
-    checkpoint-cuts = (at-home, (behind, tt))
-      where
-        behind : (j k : ℕ) → j ≤ 1 → k ≡ 0 + (length log + 1) + j → CheckpointCuts hs homed (take j (top ∷ [])) k
-        behind zero k h e = flushed k (omega (arith, length-log))
-        behind (suc zero) k h e = headed k (omega (arith, length-log))
-        behind (suc (suc j)) k h e = absurd (omega arith)
+    checkpoint-cuts = (at-home, for-one (CheckpointCuts hs) top homed (0 + (length log + 1)) (λ k e. flushed k (omega (arith, length-log))) (λ k e. headed k (omega (arith, length-log))))

@@ -1,16 +1,17 @@
 -- The plain disk's steps, case by case.
 use Prim.Native.Nat.{ℕ, suc, _+_, _-_, _≤_, _<_}
-use mathlib.Core.Path.{_≡_, refl, ap}
+use mathlib.Core.Path.{_≡_, refl, ap, sym, _∙_}
 use mathlib.Core.Logic.{_≢_}
-use mathlib.Core.Bool.{Bool, true, false, cond, not}
-use mathlib.Core.List.{List}
+use mathlib.Core.Bool.{Bool, true, false, cond, not, _&&_}
+use mathlib.Core.List.{List, []}
 use native.Mathlib.Omega.{arith}
+use native.Mathlib.Decide.{ℕ-discrete}
 use borrow.Author.Tests.{eq-eqb, ne-eqb, le-leb, lt-leb, lt-ltb, le-ltb}
-use lib.Dec.{eqb}
+use lib.Dec.{eqb, ltb}
 use lib.ListN.{length, getD}
 use Rattle.card.specs.Marks.{keptAt}
 use Rattle.journal.specs.Layout.{slots}
-use Rattle.history.specs.Plain.{Plain, none, ofSync, ofApply, ofRecover, applies, syncTakes, applyWaits, syncWaits, unchanged, applyVerdict, ownVerdict, verdict, cutShort, plainSync, plainApply, plainRecover, headerKept, done, still, synced, emptied, recovered}
+use Rattle.history.specs.Plain.{Plain, none, ofSync, ofApply, ofRecover, applies, syncTakes, applyWaits, syncWaits, unchanged, Verdict, applyVerdict, ownVerdict, verdict, cutShort, plainSync, plainApply, plainRecover, headerKept}
 
 -- ---- orders and waiting writes
 
@@ -19,12 +20,6 @@ no-apply n m h = rw (le-leb _ _ h)
 
 pub do-apply : (n m : ℕ) → slots < n + m → applies n m ≡ true
 do-apply n m h = rw (lt-leb _ _ h)
-
-pub takes-plain : (n m : ℕ) → n + m ≤ slots → syncTakes n m ≡ m + 3
-takes-plain n m h = rw (no-apply n m h)
-
-pub takes-apply : (n m : ℕ) → slots < n + m → syncTakes n m ≡ n + 3 + (m + 3)
-takes-apply n m h = rw (do-apply n m h)
 
 pub waits-homes : (n k : ℕ) → k ≤ n → applyWaits n k ≡ k
 waits-homes n k h = rw (le-leb _ _ h)
@@ -35,14 +30,30 @@ waits-flushed n k h = rw (lt-leb k n (omega arith), ne-eqb k (n + 2) (λ e. omeg
 pub waits-header : (n k : ℕ) → k ≡ n + 2 → applyWaits n k ≡ 1
 waits-header n k h = rw (lt-leb k n (omega arith), eq-eqb k (n + 2) h)
 
-pub sync-waits-plain : (n m k : ℕ) → n + m ≤ slots → syncWaits n m k ≡ k
-sync-waits-plain n m k h = rw (no-apply n m h)
-
 pub sync-waits-apply : (n m k : ℕ) → slots < n + m → k < n + 3 → syncWaits n m k ≡ applyWaits n k
 sync-waits-apply n m k h l = rw (do-apply n m h, lt-ltb k (n + 3) l)
 
-pub sync-waits-own : (n m k : ℕ) → slots < n + m → n + 3 ≤ k → syncWaits n m k ≡ k - (n + 3)
-sync-waits-own n m k h l = rw (do-apply n m h, le-ltb k (n + 3) l)
+-- ---- a sync: the orders of the apply inside, and n as its own part meets it
+
+abbrev pub innerTakes : ℕ → ℕ → ℕ
+innerTakes n m = cond (applies n m) (n + 3) 0
+
+abbrev pub countMet : ℕ → ℕ → ℕ
+countMet n m = cond (applies n m) 0 n
+
+pub sync-takes : (n m : ℕ) → syncTakes n m ≡ innerTakes n m + (m + 3)
+sync-takes n m = go (applies n m)
+  where
+    go : (t : Bool) → cond t (n + 3 + (m + 3)) (m + 3) ≡ cond t (n + 3) 0 + (m + 3)
+    go true = refl
+    go false = omega arith
+
+pub sync-waits-own : (n m k : ℕ) → innerTakes n m ≤ k → syncWaits n m k ≡ k - innerTakes n m
+sync-waits-own n m k h = go (applies n m) h
+  where
+    go : (t : Bool) → cond t (n + 3) 0 ≤ k → cond t (cond (ltb k (n + 3)) (applyWaits n k) (k - (n + 3))) k ≡ k - cond t (n + 3) 0
+    go true l = rw (le-ltb k (n + 3) l)
+    go false l = omega arith
 
 -- ---- the steps
 
@@ -105,6 +116,16 @@ pub apply-behind : (k n : ℕ) (F kept : Bool) → n + 2 < k → applyVerdict k 
 unfolding applyVerdict
 apply-behind k n F kept h = rw (le-ltb k (n + 2) (omega arith), ne-eqb k (n + 2) (λ e. omega arith))
 
+-- an apply's choice lays nothing
+pub apply-laid : (k n : ℕ) (F kept : Bool) → applyVerdict k n F kept .laid ≡ false
+unfolding applyVerdict
+apply-laid k n F kept = go (ltb k (n + 2)) (eqb k (n + 2))
+  where
+    go : (s t : Bool) → cond s (unchanged n F) (cond t (unchanged (cond kept 0 n) false) (unchanged 0 false)) .laid ≡ false
+    go true t = refl
+    go false true = refl
+    go false false = refl
+
 pub choose-apply : (k n m : ℕ) (F kept found : Bool) → verdict (ofApply k) n m F kept found ≡ applyVerdict k n F kept
 unfolding verdict
 choose-apply k n m F kept found = refl
@@ -117,21 +138,39 @@ pub choose-recover : (n m : ℕ) (F kept found : Bool) → verdict (ofRecover 1)
 unfolding verdict
 choose-recover n m F kept found = refl
 
-pub choose-sync-before : (k n m : ℕ) (F kept found : Bool) → n + m ≤ slots → k ≢ m + 2 → verdict (ofSync k) n m F kept found ≡ unchanged n F
-unfolding verdict
-choose-sync-before k n m F kept found h z = rw (no-apply n m h, ne-eqb k (m + 2) z)
-
-pub choose-sync-own : (k n m : ℕ) (F kept found : Bool) → n + m ≤ slots → k ≡ m + 2 → verdict (ofSync k) n m F kept found ≡ ownVerdict n m kept found
-unfolding verdict
-choose-sync-own k n m F kept found h z = rw (no-apply n m h, eq-eqb k (m + 2) z)
-
 pub choose-sync-apply : (k n m : ℕ) (F kept found : Bool) → slots < n + m → k ≢ n + 3 + (m + 2) → verdict (ofSync k) n m F kept found ≡ applyVerdict k n F kept
 unfolding verdict
 choose-sync-apply k n m F kept found h z = rw (do-apply n m h, ne-eqb k (n + 3 + (m + 2)) z)
 
-pub choose-sync-last : (k n m : ℕ) (F kept found : Bool) → slots < n + m → k ≡ n + 3 + (m + 2) → verdict (ofSync k) n m F kept found ≡ ownVerdict 0 m kept found
+-- its own at its header, else the apply's inside or none
+sync-verdict : (k n m : ℕ) (F kept found : Bool)
+    → verdict (ofSync k) n m F kept found ≡ cond (eqb k (innerTakes n m + (m + 2))) (ownVerdict (countMet n m) m kept found) (cond (applies n m) (applyVerdict k n F kept) (unchanged n F))
 unfolding verdict
-choose-sync-last k n m F kept found h z = rw (do-apply n m h, eq-eqb k (n + 3 + (m + 2)) z)
+sync-verdict k n m F kept found = go (applies n m)
+  where
+    go : (t : Bool) → cond t (cond (eqb k (n + 3 + (m + 2))) (ownVerdict 0 m kept found) (applyVerdict k n F kept)) (cond (eqb k (m + 2)) (ownVerdict n m kept found) (unchanged n F))
+        ≡ cond (eqb k (cond t (n + 3) 0 + (m + 2))) (ownVerdict (cond t 0 n) m kept found) (cond t (applyVerdict k n F kept) (unchanged n F))
+    go true = refl
+    go false = let e : 0 + (m + 2) ≡ m + 2 = omega arith in rw e
+
+pub choose-sync-own : (k n m : ℕ) (F kept found : Bool) → k ≡ innerTakes n m + (m + 2) → verdict (ofSync k) n m F kept found ≡ ownVerdict (countMet n m) m kept found
+choose-sync-own k n m F kept found e = sync-verdict k n m F kept found ∙ rw (eq-eqb k (innerTakes n m + (m + 2)) e)
+
+-- behind the apply inside, before its own header
+pub choose-sync-before : (k n m : ℕ) (kept found : Bool) → innerTakes n m ≤ k → k < innerTakes n m + (m + 2) → verdict (ofSync k) n m false kept found ≡ unchanged (countMet n m) false
+choose-sync-before k n m kept found h l = sync-verdict k n m false kept found ∙ rw (ne-eqb k (innerTakes n m + (m + 2)) (λ e. omega arith)) (go (applies n m) h)
+  where
+    go : (t : Bool) → cond t (n + 3) 0 ≤ k → cond t (applyVerdict k n false kept) (unchanged n false) ≡ unchanged (cond t 0 n) false
+    go true a = apply-behind k n false kept (omega arith)
+    go false a = refl
+
+-- but at its own header it lays nothing
+pub sync-still : (k n m : ℕ) (F kept found : Bool) → k ≢ innerTakes n m + (m + 2) → verdict (ofSync k) n m F kept found .laid ≡ false
+sync-still k n m F kept found e = ap (λ (v : Verdict). v .laid) (sync-verdict k n m F kept found) ∙ rw (ne-eqb k (innerTakes n m + (m + 2)) e) (go (applies n m))
+  where
+    go : (t : Bool) → cond t (applyVerdict k n F kept) (unchanged n F) .laid ≡ false
+    go true = apply-laid k n F kept
+    go false = refl
 
 pub own-lost : (n m : ℕ) (found : Bool) → ownVerdict n m false found ≡ unchanged n false
 unfolding ownVerdict
@@ -148,4 +187,27 @@ own-other n m = refl
 -- the header's mark
 pub kept-mark : (ms : List ℕ) (w k : ℕ) → w ≡ suc k → headerKept ms w ≡ keptAt ms k
 unfolding headerKept
-kept-mark ms w k h = ap (λ (i : ℕ). keptAt ms i) (let e : w - 1 ≡ k = omega arith in e)
+kept-mark ms w k h = ap (λ (i : ℕ). eqb (getD ms i 0) 1) (let e : w - 1 ≡ k = omega arith in e)
+
+-- ---- when a cut lays the group of a sync cut short
+
+own-laid : (n m : ℕ) (t u : Bool) → ownVerdict n m t u .laid ≡ t && u
+unfolding ownVerdict
+own-laid n m true true = refl
+own-laid n m true false = refl
+own-laid n m false u = refl
+
+pub sync-laid : (n m k : ℕ) (F found : Bool) (ms : List ℕ)
+    → verdict (ofSync k) n m F (headerKept ms (syncWaits n m k)) found .laid ≡ eqb k (innerTakes n m + (m + 2)) && eqb (getD ms (m + 1) 0) 1 && found
+sync-laid n m k F found ms = go (ℕ-discrete k (innerTakes n m + (m + 2)))
+  where
+    go : Dec (k ≡ innerTakes n m + (m + 2)) → verdict (ofSync k) n m F (headerKept ms (syncWaits n m k)) found .laid ≡ eqb k (innerTakes n m + (m + 2)) && eqb (getD ms (m + 1) 0) 1 && found
+    go (yes e) =
+        let w : syncWaits n m k ≡ suc (m + 1) = sync-waits-own n m k (omega arith) ∙ (omega arith) in
+        ap (λ (v : Verdict). v .laid) (choose-sync-own k n m F (headerKept ms (syncWaits n m k)) found e)
+        ∙ own-laid (countMet n m) m (headerKept ms (syncWaits n m k)) found
+        ∙ ap (λ (t : Bool). t && found) (kept-mark ms (syncWaits n m k) (m + 1) w)
+        ∙ sym (ap (λ (t : Bool). t && eqb (getD ms (m + 1) 0) 1 && found) (eq-eqb k (innerTakes n m + (m + 2)) e))
+    go (no e) =
+        sync-still k n m F (headerKept ms (syncWaits n m k)) found e
+        ∙ sym (ap (λ (t : Bool). t && eqb (getD ms (m + 1) 0) 1 && found) (ne-eqb k (innerTakes n m + (m + 2)) e))

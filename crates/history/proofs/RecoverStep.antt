@@ -37,7 +37,7 @@ use Rattle.history.specs.Plain.{Plain, ofRecover, refusal, plainStep, pl
 use Rattle.history.specs.Ledger.{Ledger, waits, recoverHeaders, noted, entered, taken, resolved}
 use Rattle.history.specs.History.{World, foundWritten}
 use Rattle.history.proofs.CauseLaws.{RecordFacts, record-facts, cause-passes}
-use Rattle.history.proofs.Plans.{Plan}
+use Rattle.history.proofs.Plans.{Plan, Asked, for-one}
 use Rattle.history.proofs.Relation.{OpenSim, ClosedSim, DownSim, Sim, leads-still}
 use Rattle.history.proofs.PlainLaws.{recover-whole, recover-fallback, recover-short, choose-recover-none, choose-recover, kept-mark}
 use Rattle.history.proofs.Steps.{WorldSim, StepOK, same-cause, refused-step, plain-served, noted-none, small-N, big-N, choose-whole, choose-fallback}
@@ -147,8 +147,11 @@ module _ (st : State) (v : List Entry) (S : Disk) (n : ℕ) (F x : Bool) (f : Cl
     top-whole : Whole top
     top-whole = length-encode (header N n (sumOf start (logD (blockAt s) n)) n (sumOf start (logD (blockAt s) n)))
 
+    abbrev At : Asked
+    At = CutsAt w (recoverHeaders st) ofRecover (λ k. k)
+
     -- before the header
-    still : CutsAt w (recoverHeaders st) ofRecover (λ k. k) s [] 0
+    still : At s [] 0
     unfolding resolved
     still = record {
       waiting = refl;
@@ -163,7 +166,7 @@ module _ (st : State) (v : List Entry) (S : Disk) (n : ℕ) (F x : Bool) (f : Cl
     unfolding recoverHeaders noted
     note-top = ap (λ (y : List Entry). record { written = v; pending = waits 0 y }) list
 
-    headed : CutsAt w (recoverHeaders st) ofRecover (λ k. k) s (top ∷ []) 1
+    headed : At s (top ∷ []) 1
     unfolding resolved
     headed = record {
       waiting = refl;
@@ -173,11 +176,6 @@ module _ (st : State) (v : List Entry) (S : Disk) (n : ℕ) (F x : Bool) (f : Cl
           (choose-recover n 0 F (headerKept ms 1) _ ∙ ap (λ (t : Bool). unchanged n (not t)) (kept-mark ms 1 0 refl)) refl
           (fall-cuts N s n v S _ c ms big (rc .blocks) r top-whole l y (keptAt ms 0) refl));
     }
-
-    cuts : (j k : ℕ) → j ≤ 1 → k ≡ 0 + j → CutsAt w (recoverHeaders st) ofRecover (λ k. k) s (take j (top ∷ [])) k
-    cuts zero k h y = subst (CutsAt w (recoverHeaders st) ofRecover (λ k. k) s []) (let z : 0 ≡ k = omega arith in z) still
-    cuts (suc zero) k h y = subst (CutsAt w (recoverHeaders st) ofRecover (λ k. k) s (top ∷ [])) (let z : 1 ≡ k = omega arith in z) headed
-    cuts (suc (suc j)) k h y = absurd (omega arith)
 
     fallen : WholeCard N (blockAt (settle (top ∷ []) s)) (logD (blockAt s) n) S n
     fallen = fallen-card N s v S n (settle (top ∷ []) s) big r (λ a q. settled-laid (top ∷ []) s (settle (top ∷ []) s) a refl (omega (arith, rc .blocks)) (top-whole, tt))
@@ -198,7 +196,7 @@ module _ (st : State) (v : List Entry) (S : Disk) (n : ℕ) (F x : Bool) (f : Cl
       S = S;
       plain-done = λ p. plain ∙ recover-fallback d e p;
       plain-short = λ p. plain ∙ recover-short d e p;
-      cuts = (cuts, tt);
+      cuts = for-one At top s 0 (λ i z. subst (At s []) (sym z) still) (λ i z. subst (At s (top ∷ [])) (let q : 1 ≡ i = omega arith in q) headed);
       list = logD (blockAt s) n;
       noted-all = ap settledLedger list;
       mode = refl;

@@ -1,5 +1,5 @@
 -- What becomes of a sync that is cut short, from a finished sync or recovery to the next recovery.
-use Prim.Native.Nat.{ℕ, zero, suc, _+_, _≤_, _<_}
+use Prim.Native.Nat.{ℕ, zero, suc, _+_, _-_, _≤_, _<_}
 use mathlib.Core.Path.{_≡_, refl, ap, ap₂, sym, _∙_}
 use mathlib.Core.Logic.{_≢_, _⊎_}
 use mathlib.Core.Bool.{Bool, true, false, true≢false, cond, not, _&&_}
@@ -35,64 +35,16 @@ use Rattle.store.proofs.Causes.{needsOpen}
 use Rattle.history.proofs.CauseLaws.{cause-passes}
 use Rattle.history.proofs.Relation.{Basics, OpenSim, ClosedSim, DownSim, cutSettled, cutWritten}
 use Rattle.history.proofs.PlainLaws
+use Rattle.history.proofs.PlainLaws.{innerTakes, countMet, apply-laid}
 use Rattle.history.proofs.Steps.{plainNext, WorldSim, same-cause, dispatch-refused, entered-refused, plain-refused, plain-served}
 use Rattle.history.proofs.SimpleSteps.{is-open}
 use Rattle.history.proofs.OpenFacts as Facts
-use Rattle.history.proofs.ApplyStep.{apply-laid}
 use Rattle.history.proofs.CutStep as CutStep
 use Rattle.history.proofs.RecoverStep.{is-closed}
 use Rattle.history.proofs.SyncStep.{short-whole}
 use Rattle.history.proofs.ListInduction.{step, next-sim, clean-first}
 use Rattle.history.proofs.PlainAnswers.{sync-cases, LocalKind, powers, opens, local-kind}
 use Rattle.history.proofs.ReadsBack.{power-served, cut-accepted}
-
--- ---- when a cut lays the group of a sync cut short
-
-own-laid : (n m : ℕ) (t u : Bool) → ownVerdict n m t u .laid ≡ t && u
-unfolding ownVerdict
-own-laid n m true true = refl
-own-laid n m true false = refl
-own-laid n m false u = refl
-
-abbrev innerOf : ℕ → ℕ → ℕ
-innerOf n m = cond (applies n m) (n + 3) 0
-
-pub sync-laid : (n m k : ℕ) (F found : Bool) (ms : List ℕ) → k < syncTakes n m
-    → verdict (ofSync k) n m F (headerKept ms (syncWaits n m k)) found .laid ≡ eqb k (innerOf n m + (m + 2)) && keptAt ms (m + 1) && found
-sync-laid n m k F found ms h = go (decLe (n + m) slots)
-  where
-    single : n + m ≤ slots → Dec (k ≡ m + 2) → verdict (ofSync k) n m F (headerKept ms (syncWaits n m k)) found .laid ≡ eqb k (innerOf n m + (m + 2)) && keptAt ms (m + 1) && found
-    single f (yes e) =
-        let w : syncWaits n m k ≡ suc (m + 1) = PlainLaws.sync-waits-plain n m k f ∙ e ∙ (omega arith) in
-        ap (λ (v : Verdict). v .laid) (PlainLaws.choose-sync-own k n m F (headerKept ms (syncWaits n m k)) found f e)
-        ∙ own-laid n m (headerKept ms (syncWaits n m k)) found
-        ∙ ap (λ (t : Bool). t && found) (PlainLaws.kept-mark ms (syncWaits n m k) (m + 1) w)
-        ∙ sym (ap (λ (t : Bool). t && keptAt ms (m + 1) && found) (eq-eqb k (innerOf n m + (m + 2)) (e ∙ zero-in f)))
-      where
-        zero-in : n + m ≤ slots → m + 2 ≡ innerOf n m + (m + 2)
-        zero-in f = let i : innerOf n m ≡ 0 = rw (PlainLaws.no-apply n m f) in omega arith
-    single f (no e) =
-        let i : innerOf n m ≡ 0 = rw (PlainLaws.no-apply n m f) in
-        ap (λ (v : Verdict). v .laid) (PlainLaws.choose-sync-before k n m F (headerKept ms (syncWaits n m k)) found f e)
-        ∙ sym (ap (λ (t : Bool). t && keptAt ms (m + 1) && found) (ne-eqb k (innerOf n m + (m + 2)) (λ z. e (omega arith))))
-
-    over : slots < n + m → Dec (k ≡ n + 3 + (m + 2)) → verdict (ofSync k) n m F (headerKept ms (syncWaits n m k)) found .laid ≡ eqb k (innerOf n m + (m + 2)) && keptAt ms (m + 1) && found
-    over f (yes e) =
-        let i : innerOf n m ≡ n + 3 = rw (PlainLaws.do-apply n m f) in
-        let w : syncWaits n m k ≡ suc (m + 1) = PlainLaws.sync-waits-own n m k f (omega arith) ∙ (omega arith) in
-        ap (λ (v : Verdict). v .laid) (PlainLaws.choose-sync-last k n m F (headerKept ms (syncWaits n m k)) found f e)
-        ∙ own-laid 0 m (headerKept ms (syncWaits n m k)) found
-        ∙ ap (λ (t : Bool). t && found) (PlainLaws.kept-mark ms (syncWaits n m k) (m + 1) w)
-        ∙ sym (ap (λ (t : Bool). t && keptAt ms (m + 1) && found) (eq-eqb k (innerOf n m + (m + 2)) (omega arith)))
-    over f (no e) =
-        let i : innerOf n m ≡ n + 3 = rw (PlainLaws.do-apply n m f) in
-        ap (λ (v : Verdict). v .laid) (PlainLaws.choose-sync-apply k n m F (headerKept ms (syncWaits n m k)) found f e)
-        ∙ apply-laid k n F (headerKept ms (syncWaits n m k))
-        ∙ sym (ap (λ (t : Bool). t && keptAt ms (m + 1) && found) (ne-eqb k (innerOf n m + (m + 2)) (λ z. e (omega arith))))
-
-    go : Dec (n + m ≤ slots) → verdict (ofSync k) n m F (headerKept ms (syncWaits n m k)) found .laid ≡ eqb k (innerOf n m + (m + 2)) && keptAt ms (m + 1) && found
-    go (yes f) = single f (ℕ-discrete k (m + 2))
-    go (no f) = over (omega arith) (ℕ-discrete k (n + 3 + (m + 2)))
 
 -- ---- phases
 
@@ -271,12 +223,12 @@ module _ (old : Disk) (w : World) (m : WorldSim w) (h : refusal sync (w .plain) 
   grouped-some : w .store .rec .grouped ≢ 0
   grouped-some e = gone .some (count ∙ e)
 
-  inner-is : inner (w .store) ≡ innerOf (w .plain .n) (length (w .plain .G))
+  inner-is : inner (w .store) ≡ innerTakes (w .plain .n) (length (w .plain .G))
   inner-is =
       ap (λ (t : Bool). cond (not t && not (leb (w .store .rec .logged + w .store .rec .grouped) slots)) (w .store .rec .logged + 3) 0) (ne-eqb _ 0 grouped-some)
       ∙ ap₂ (λ (x y : ℕ). cond (not (leb (x + y) slots)) (x + 3) 0) (sym (o .n)) (sym count)
 
-  headed-is : headed w ≡ eqb (w .plain .power) (innerOf (w .plain .n) (length (w .plain .G)) + (length (w .plain .G) + 2))
+  headed-is : headed w ≡ eqb (w .plain .power) (innerTakes (w .plain .n) (length (w .plain .G)) + (length (w .plain .G) + 2))
   headed-is = ap₂ (λ (x y : ℕ). eqb x y) orders-power (ap₂ (λ (x y : ℕ). x + (y + 2)) inner-is (sym count))
 
   observed : observe sync w (known quiet) ≡ undecided (groupOf (w .store)) (w .store .rec .grouped + 1) (headed w)
@@ -288,20 +240,11 @@ module _ (old : Disk) (w : World) (m : WorldSim w) (h : refusal sync (w .plain) 
   -- behind its own header m + 2 writes wait
   waits-two : headed w ≡ true → storeNext sync w .rec .waiting ≡ w .store .rec .grouped + 2
   waits-two e =
-      let k : w .plain .power ≡ innerOf (w .plain .n) (length (w .plain .G)) + (length (w .plain .G) + 2) = borrow.Author.Tests.eqb-true _ _ (sym headed-is ∙ e) in
+      let k : w .plain .power ≡ innerTakes (w .plain .n) (length (w .plain .G)) + (length (w .plain .G) + 2) = borrow.Author.Tests.eqb-true _ _ (sym headed-is ∙ e) in
       step sync w m .agrees .waiting ∙ ap (λ (x : Done). x .plain .waiting) short-plain
-      ∙ waits (w .plain .n) (length (w .plain .G)) (w .plain .power) k
+      ∙ PlainLaws.sync-waits-own (w .plain .n) (length (w .plain .G)) (w .plain .power) (omega arith)
+      ∙ (let q : w .plain .power - innerTakes (w .plain .n) (length (w .plain .G)) ≡ length (w .plain .G) + 2 = omega arith in q)
       ∙ ap (λ (x : ℕ). x + 2) count
-    where
-      waits : (n m k : ℕ) → k ≡ innerOf n m + (m + 2) → syncWaits n m k ≡ m + 2
-      waits n m k e = go (decLe (n + m) slots)
-        where
-          go : Dec (n + m ≤ slots) → syncWaits n m k ≡ m + 2
-          go (yes f) = let i : innerOf n m ≡ 0 = rw (PlainLaws.no-apply n m f) in PlainLaws.sync-waits-plain n m k f ∙ (omega arith)
-          go (no f) =
-              let g : slots < n + m = omega arith in
-              let i : innerOf n m ≡ n + 3 = rw (PlainLaws.do-apply n m g) in
-              PlainLaws.sync-waits-own n m k g (omega arith) ∙ (omega arith)
 
   sync-watch : (f : Progress) → Watch old f (w .store) (w .ledger) (w .plain) → Watch old (observe sync w f) (storeNext sync w) (ledgerNext sync w) (plainNext sync w)
   sync-watch f x =
@@ -313,8 +256,8 @@ module _ (old : Disk) (w : World) (m : WorldSim w) (h : refusal sync (w .plain) 
         S = y .1;
         group = Facts.plain-group (w .store) (w .ledger) (w .plain) b o;
         laid = λ ms u.
-            sync-laid (w .plain .n) (length (w .plain .G)) (w .plain .power) (w .plain .F) u ms (gone .less)
-            ∙ ap₂ (λ (t : Bool) (i : ℕ). t && keptAt ms (i + 1) && u) (sym headed-is) count;
+            PlainLaws.sync-laid (w .plain .n) (length (w .plain .G)) (w .plain .power) (w .plain .F) u ms
+            ∙ ap₂ (λ (t : Bool) (i : ℕ). t && eqb (getD ms (i + 1) 0) 1 && u) (sym headed-is) count;
         whole = λ e ms l a.
             let q : length ms ≡ w .store .rec .grouped + 2 = l ∙ waits-two e in (
               ones-mark ms (w .store .rec .grouped + 1) (omega arith) a,

@@ -11,9 +11,10 @@ use lib.ListN.{length}
 use Rattle.cells.specs.Entry.{Entry}
 use Rattle.fnv.specs.Fnv.{start}
 use Rattle.card.specs.Disk.{Disk}
-use Rattle.card.specs.Card.{Order, blockAt}
+use Rattle.card.specs.Card.{Order, blockAt, blocksIn}
 use Rattle.card.proofs.All.{All}
 use Rattle.journal.specs.Layout.{slots}
+use Rattle.journal.specs.Log.{sumOf}
 use Rattle.journal.specs.Orders.{syncOrders}
 use Rattle.journal.proofs.Logs.{sumOf-nil}
 use Rattle.journal.proofs.OrderLists.{appendWrites, append-writes, append-afresh}
@@ -24,16 +25,16 @@ use Rattle.history.specs.Plain as Plain
 use Rattle.history.specs.Plain.{Plain, ofSync, syncTakes, syncWaits, applyWaits, applyVerdict, ownVerdict, verdict, headerKept, unchanged}
 use Rattle.history.specs.Ledger.{PlannedHeader, syncHeaders, noted, applyHeader, ownHeader, standing, inner}
 use Rattle.history.specs.History.{World}
+use Rattle.history.proofs.Disks.{logD, WholeCard}
 use Rattle.history.proofs.Plans.{Plan, planned, takes, settles, Fits, Throughout, planned-append, throughout-map}
 use Rattle.history.proofs.AppendEnds.{Appends}
 use Rattle.history.proofs.CauseLaws.{RecordFacts, record-facts}
 use Rattle.history.proofs.Relation.{leads-still}
-use Rattle.history.proofs.PlainLaws.{no-apply, do-apply, takes-plain, takes-apply, sync-waits-plain, sync-waits-apply, sync-waits-own, choose-sync-before, choose-sync-own, choose-sync-apply, choose-sync-last, apply-behind}
+use Rattle.history.proofs.PlainLaws.{innerTakes, countMet, no-apply, do-apply, sync-waits-apply, choose-sync-apply, apply-laid}
 use Rattle.history.proofs.Notes.{note-past}
 use Rattle.history.proofs.GivesStep.{CutsAt}
 use Rattle.history.proofs.OpenFacts as Facts
 use Rattle.history.proofs.Worlds.{settledLedger, plainNow, openWorld, Opened}
-use Rattle.history.proofs.ApplyStep.{apply-laid}
 use Rattle.history.proofs.Checkpoints.{checkpoint, checkpoint-orders, checkpoint-takes, checkpoint-fits, CheckpointCuts, checkpoint-cuts, size-emptied, emptied-card}
 
 module _ (st : State) (v : List Entry) (S : Disk) (x : Bool) where
@@ -62,11 +63,8 @@ module _ (st : State) (v : List Entry) (S : Disk) (x : Bool) where
     pub standing-is : standing st ≡ logD (blockAt (settles front (st .settled))) n
     pub notes : (k : ℕ) → takes front ≤ k → noted (syncHeaders st) k (settledLedger v) ≡ noted (ownHeader st ∷ []) k (settledLedger list)
     -- the plain disk
-    pub takes-is : syncTakes (st .rec .logged) (length G) ≡ takes front + (length G + 3)
-    pub n-is : cond (Plain.applies (st .rec .logged) (length G)) 0 (st .rec .logged) ≡ n
-    pub waits : (k : ℕ) → takes front ≤ k → syncWaits (st .rec .logged) (length G) k ≡ k - takes front
-    pub before : (k : ℕ) (t u : Bool) → takes front ≤ k → k < takes front + (length G + 2) → verdict (ofSync k) (st .rec .logged) (length G) false t u ≡ unchanged n false
-    pub own : (k : ℕ) (t u : Bool) → k ≡ takes front + (length G + 2) → verdict (ofSync k) (st .rec .logged) (length G) false t u ≡ ownVerdict n (length G) t u
+    pub inner-plain : innerTakes (st .rec .logged) (length G) ≡ takes front
+    pub n-is : countMet (st .rec .logged) (length G) ≡ n
     -- cut short inside
     pub cuts : Throughout (CutsAt w (syncHeaders st) ofSync (syncWaits (st .rec .logged) (length G))) front (st .settled) 0
 
@@ -86,6 +84,20 @@ module _ (st : State) (v : List Entry) (S : Disk) (x : Bool) (f : Opened st v S)
   length-G : length (groupOf st) ≡ st .rec .grouped
   length-G = Facts.length-group st (settledLedger v) d (f .basics) (f .sim)
 
+  pub appends : (s : List ℕ) (k h : ℕ) (l : List Entry) → st .rec .blocks ≡ blocksIn s → k + length (groupOf st) ≤ slots → h ≡ sumOf start (logD (blockAt s) k) → WholeCard (st .rec .blocks) (blockAt s) l S k
+      → Appends (st .rec .blocks) s k h (groupOf st) l S
+  appends s k h l size room sum card = record {
+    big = Facts.big st (settledLedger v) d (f .basics) (f .sim);
+    small = Facts.small st (settledLedger v) d (f .basics) (f .sim);
+    size = size;
+    room = room;
+    sum = sum;
+    card = card;
+    whole = Facts.group-whole st (settledLedger v) d (f .basics) (f .sim);
+    low = Facts.group-short st (settledLedger v) d (f .basics) (f .sim);
+    all-data = Facts.group-data st (settledLedger v) d (f .basics) (f .sim);
+  }
+
   -- ---- there is room
 
   module _ (room : n + length (groupOf st) ≤ slots) where
@@ -99,28 +111,15 @@ module _ (st : State) (v : List Entry) (S : Disk) (x : Bool) (f : Opened st v S)
       n = n;
       sum = st .rec .sum;
       list = v;
-      meets = record {
-        big = Facts.big st (settledLedger v) d (f .basics) (f .sim);
-        small = Facts.small st (settledLedger v) d (f .basics) (f .sim);
-        size = Facts.size st (settledLedger v) d (f .basics) (f .sim);
-        room = room;
-        sum = Facts.sum st (settledLedger v) d (f .basics) (f .sim);
-        card = f .sim .card;
-        whole = Facts.group-whole st (settledLedger v) d (f .basics) (f .sim);
-        low = Facts.group-short st (settledLedger v) d (f .basics) (f .sim);
-        all-data = Facts.group-data st (settledLedger v) d (f .basics) (f .sim);
-      };
+      meets = appends (st .settled) n (st .rec .sum) v (Facts.size st (settledLedger v) d (f .basics) (f .sim)) room (Facts.sum st (settledLedger v) d (f .basics) (f .sim)) (f .sim .card);
       fits = tt;
       orders = λ some. rw (ne-eqb m 0 some, le-leb (n + m) slots room) (append-writes (N st v S x) (st .settled) n (st .rec .sum) (groupOf st) ∙ sym (append-nil _));
       record-is = rw single;
       inner-is = rw single;
       standing-is = rw single (Facts.entries-log st (settledLedger v) d (f .basics) (f .sim));
       notes = λ k h. rw single;
-      takes-is = takes-plain n m room ∙ (omega arith);
+      inner-plain = rw (no-apply n m room);
       n-is = rw (no-apply n m room);
-      waits = λ k h. sync-waits-plain n m k room ∙ (omega arith);
-      before = λ k t u h l. choose-sync-before k n m false t u room (λ e. omega arith);
-      own = λ k t u e. choose-sync-own k n m false t u room (omega arith);
       cuts = tt;
     }
 
@@ -172,28 +171,15 @@ module _ (st : State) (v : List Entry) (S : Disk) (x : Bool) (f : Opened st v S)
       n = 0;
       sum = start;
       list = [];
-      meets = record {
-        big = Facts.big st (settledLedger v) d (f .basics) (f .sim);
-        small = Facts.small st (settledLedger v) d (f .basics) (f .sim);
-        size = size-emptied st (settledLedger v) d (f .basics) (f .sim);
-        room = omega (arith, length-G, rc .group-count);
-        sum = sym (sumOf-nil start);
-        card = emptied-card st (settledLedger v) d (f .basics) (f .sim);
-        whole = Facts.group-whole st (settledLedger v) d (f .basics) (f .sim);
-        low = Facts.group-short st (settledLedger v) d (f .basics) (f .sim);
-        all-data = Facts.group-data st (settledLedger v) d (f .basics) (f .sim);
-      };
+      meets = appends _ 0 start [] (size-emptied st (settledLedger v) d (f .basics) (f .sim)) (omega (arith, length-G, rc .group-count)) (sym (sumOf-nil start)) (emptied-card st (settledLedger v) d (f .basics) (f .sim));
       fits = checkpoint-fits st (settledLedger v) d (f .basics) (f .sim);
       orders = orders;
       record-is = rw applying;
       inner-is = rw applying (sym count);
       standing-is = rw applying;
       notes = λ k h. ap (λ (hs : List PlannedHeader). noted hs k (settledLedger v)) heads ∙ note-past (applyHeader st) (ownHeader st ∷ []) k (settledLedger v) (omega (arith, count));
-      takes-is = takes-apply n m over ∙ (omega (arith, count));
+      inner-plain = rw (do-apply n m over) (sym count);
       n-is = rw (do-apply n m over);
-      waits = λ k h. sync-waits-own n m k over (omega (arith, count)) ∙ ap (λ (i : ℕ). k - i) (sym count);
-      before = λ k t u h l. choose-sync-apply k n m false t u over (λ e. omega (arith, count)) ∙ apply-behind k n false t (omega (arith, count));
-      own = λ k t u e. choose-sync-last k n m false t u over (omega (arith, count));
       cuts = cuts;
     }
 

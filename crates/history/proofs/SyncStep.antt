@@ -35,7 +35,7 @@ use Rattle.store.specs.Lists.{groupFrom, listOf}
 use Rattle.store.specs.Causes.{cause}
 use Rattle.store.specs.Saves.{carried, syncCall, groupOf, applies, metByAppend, innerOrders}
 use Rattle.history.specs.Call.{get, sync}
-use Rattle.history.specs.Plain.{Plain, ofSync, refusal, plainStep, plainSync, syncWaits, ownVerdict, unchanged}
+use Rattle.history.specs.Plain.{Plain, ofSync, refusal, plainStep, plainSync, syncTakes, syncWaits, ownVerdict, unchanged}
 use Rattle.history.specs.Ledger.{Ledger, waits, syncHeaders, noted, entered, ownHeader, standing, inner, resolved, sameLog}
 use Rattle.history.specs.History.{World, ledgerNext, foundWritten}
 use Rattle.history.specs.Statements.{Logged}
@@ -43,14 +43,14 @@ use Rattle.history.proofs.Plans.{Plan, planned, takes, settles, Fits, A
 use Rattle.history.proofs.AppendEnds.{writes-fit, short-before, short-top, whole-found, done-card, done-sum, done-logged}
 use Rattle.history.proofs.CauseLaws.{RecordFacts, record-facts, cause-passes}
 use Rattle.history.proofs.Relation.{OpenSim, cutWritten, cutSettled, leads-still, leads-laid}
-use Rattle.history.proofs.PlainLaws.{sync-nothing, sync-finished, sync-short, kept-mark}
+use Rattle.history.proofs.PlainLaws.{sync-takes, sync-waits-own, choose-sync-own, choose-sync-before, sync-nothing, sync-finished, sync-short, kept-mark}
 use Rattle.history.proofs.Steps.{WorldSim, StepOK, same-cause, refused-step, plain-served, noted-none}
 use Rattle.history.proofs.SimpleSteps.{is-open}
 use Rattle.history.proofs.Notes.{note-before, note-at, note-past, noted-end}
 use Rattle.history.proofs.CallEnds.{carried-done}
 use Rattle.history.proofs.GivesStep.{openPlain, Countable, none-listed, countable, open-listed, CutsAt, Gives, gives-step, gives-enough, gives-less, gives-settled, short-call, stopped}
 use Rattle.history.proofs.OpenFacts as Facts
-use Rattle.history.proofs.Worlds.{settledLedger, plainNow, openWorld, Opened, opened-sim, open-world, opened}
+use Rattle.history.proofs.Worlds.{settledLedger, plainNow, openWorld, Opened, opened-sim, open-world, opened, open-step}
 use Rattle.history.proofs.ApplyStep.{nothing-step}
 use Rattle.history.proofs.SyncMeets.{Met, met}
 
@@ -115,16 +115,8 @@ module _ (st : State) (v : List Entry) (S : Disk) (x : Bool) (f : Opened st v S)
       let single : applies st ≡ false = rw (eq-eqb _ 0 z) in
       let same : withGrouped 0 (withLog (metByAppend st .logged + st .rec .grouped) (sumOf (metByAppend st .sum) G) (metByAppend st)) ≡ st .rec =
       rw single
-      (λ i. record {
-        mode = st .rec .mode;
-        blocks = st .rec .blocks;
-        opened = st .rec .opened;
-        grouped = sym z i;
-        logged = (ap (λ (k : ℕ). st .rec .logged + k) z ∙ add-zero (st .rec .logged)) i;
-        waiting = st .rec .waiting;
-        power = st .rec .power;
-        sum = (ap (λ (g : List Entry). sumOf (st .rec .sum) g) nil ∙ sumOf-nil (st .rec .sum)) i;
-      }) in
+      (λ i. withGrouped (sym z i)
+      (withLog ((ap (λ (k : ℕ). st .rec .logged + k) z ∙ add-zero (st .rec .logged)) i) ((ap (λ (g : List Entry). sumOf (st .rec .sum) g) nil ∙ sumOf-nil (st .rec .sum)) i) (st .rec))) in
       let D : syncCall st ≡ record { answer = 0; orders = 0; state = st } =
       call
       ∙ ap₂ (λ (os : List Order) (r : Record). carried os r (cond (leb (length (innerOrders st)) (st .rec .power)) (metByAppend st) (st .rec)) st) (rw (eq-eqb _ 0 zero-G)) same
@@ -158,6 +150,12 @@ module _ (st : State) (v : List Entry) (S : Disk) (x : Bool) (f : Opened st v S)
     count : takes plan ≡ takes (y .front) + (length G + 3)
     count = takes-append (y .front) (W ∷ []) ∙ (omega (arith, length-W))
 
+    waits-own : (k : ℕ) → takes (y .front) ≤ k → syncWaits (st .rec .logged) (length G) k ≡ k - takes (y .front)
+    waits-own k l = sync-waits-own (st .rec .logged) (length G) k (omega (arith, y .inner-plain)) ∙ ap (λ (i : ℕ). k - i) (y .inner-plain)
+
+    takes-is : syncTakes (st .rec .logged) (length G) ≡ takes plan
+    takes-is = sync-takes (st .rec .logged) (length G) ∙ (omega (arith, y .inner-plain, count))
+
     -- ---- its own header in the ledger
 
     note-early : (k : ℕ) → takes (y .front) ≤ k → k < takes (y .front) + (length G + 2) → noted (syncHeaders st) k (settledLedger v) ≡ settledLedger (y .list)
@@ -181,17 +179,17 @@ module _ (st : State) (v : List Entry) (S : Disk) (x : Bool) (f : Opened st v S)
     cuts-before : (j k : ℕ) → j ≤ length G + 1 → k ≡ takes (y .front) + j → CutsAt w (syncHeaders st) ofSync (syncWaits (st .rec .logged) (length G)) s (take j W) k
     unfolding resolved
     cuts-before j k h e = record {
-      waiting = y .waits k (omega arith) ∙ sym (length-take j W ∙ (omega (arith, length-W)));
+      waiting = waits-own k (omega arith) ∙ sym (length-take j W ∙ (omega (arith, length-W)));
       leads = λ r l ms q.
           rw (note-early k (omega arith) (omega arith))
-          (leads-still _ _ (unchanged (y .n) false) (y .before k _ _ (omega arith) (omega arith)) refl (short-before (y .meets) (cardIn st) r j l h ms));
+          (leads-still _ _ (unchanged (y .n) false) (choose-sync-before k (st .rec .logged) (length G) _ _ (omega (arith, y .inner-plain)) (omega (arith, y .inner-plain)) ∙ ap (λ (i : ℕ). unchanged i false) (y .n-is)) refl (short-before (y .meets) (cardIn st) r j l h ms));
     }
 
     cuts-top : (j k : ℕ) → j ≡ length G + 2 → k ≡ takes (y .front) + j → CutsAt w (syncHeaders st) ofSync (syncWaits (st .rec .logged) (length G)) s (take j W) k
     unfolding resolved
     cuts-top j k h e =
         let long : length (take j W) ≡ length G + 2 = length-take j W ∙ (omega (arith, length-W)) in
-        let wt : syncWaits (st .rec .logged) (length G) k ≡ suc (length G + 1) = y .waits k (omega arith) ∙ (omega arith) in
+        let wt : syncWaits (st .rec .logged) (length G) k ≡ suc (length G + 1) = waits-own k (omega arith) ∙ (omega arith) in
         record {
           waiting = wt ∙ (omega (arith, long));
           leads = λ r l ms q.
@@ -199,7 +197,7 @@ module _ (st : State) (v : List Entry) (S : Disk) (x : Bool) (f : Opened st v S)
               let u : Bool = sameLog (foundIn (cut ms r .settled)) (cond (keptAt ms (length G + 1)) (log ++ G) (y .list)) in
               rw (note-top k (omega arith))
               (leads-laid _ _ _ (ownVerdict (y .n) (length G) t u)
-              (y .own k _ u (omega arith) ∙ ap (λ (p : Bool). ownVerdict (y .n) (length G) p u) (kept-mark ms _ (length G + 1) wt))
+              (choose-sync-own k (st .rec .logged) (length G) false _ u (omega (arith, y .inner-plain)) ∙ (λ i. ownVerdict (y .n-is i) (length G) (kept-mark ms _ (length G + 1) wt i) u))
               (short-top (y .meets) (cardIn st) r j l h ms (q ∙ long) t u refl refl));
         }
 
@@ -239,10 +237,10 @@ module _ (st : State) (v : List Entry) (S : Disk) (x : Bool) (f : Opened st v S)
       waits = syncWaits (st .rec .logged) (length G);
       S = overlay G S;
       plain-done = λ p.
-          plain ∙ sync-finished d some-G (omega (arith, y .takes-is, count))
+          plain ∙ sync-finished d some-G (omega (arith, takes-is))
           ∙ ap₂ (λ (k c : ℕ). record { answer = 0; orders = k; plain = openPlain st (withGrouped 0 (withLog c (sumOf (y .sum) G) (st .rec))) (overlay G S) (st .rec .power - k) })
-          (y .takes-is ∙ sym count) (ap₂ (λ (a b : ℕ). a + b) (y .n-is) length-G);
-      plain-short = λ p. plain ∙ sync-short d some-G (omega (arith, y .takes-is, count));
+          takes-is (ap₂ (λ (a b : ℕ). a + b) (y .n-is) length-G);
+      plain-short = λ p. plain ∙ sync-short d some-G (omega (arith, takes-is));
       cuts = cuts;
       list = log ++ G;
       noted-all = note-done;
@@ -300,13 +298,7 @@ module _ (st : State) (v : List Entry) (S : Disk) (x : Bool) (f : Opened st v S)
       go (no z) = gives-step sync w _ (f .basics) (gives z (met st v S x f z))
 
 pub sync-step : (w : World) → WorldSim w → StepOK sync w
-sync-step w m = go (ℕ-discrete (refusal sync (w .plain)) 0)
-  where
-    go : Dec (refusal sync (w .plain) ≡ 0) → StepOK sync w
-    go (no h) = refused-step sync w m h
-    go (yes h) =
-        let o : OpenSim (w .store) (w .ledger) (w .plain) = is-open (w .store) (w .ledger) (w .plain) m Request.sync refl (cause-passes Request.sync (w .store) (same-cause (w .store) (w .ledger) (w .plain) m sync ∙ h)) in
-        subst (StepOK sync) (sym (open-world w (m .basics) o)) (sync-open (w .store) (w .ledger .written) (w .plain .S) (w .excepted) (opened w (m .basics) o))
+sync-step = open-step sync refl sync-open
 
 -- ---- of any open world
 

@@ -1,18 +1,23 @@
 -- An open world, and a closed one, written out: the plain disk and the ledger by the store's own record and lists.
 use Prim.Native.Nat.{ℕ}
-use mathlib.Core.Path.{_≡_, refl, sym, _∙_}
+use mathlib.Core.Path.{_≡_, refl, sym, subst, _∙_}
 use mathlib.Core.Logic.{_⊎_}
-use mathlib.Core.Bool.{Bool}
+use mathlib.Core.Bool.{Bool, true}
 use mathlib.Core.List.{List, []}
 use native.Mathlib.Omega.{arith}
+use native.Mathlib.Decide.{ℕ-discrete}
 use Rattle.cells.specs.Entry.{Entry}
 use Rattle.card.specs.Disk.{Disk}
 use Rattle.store.specs.State.{State, closed}
-use Rattle.history.specs.Plain.{Plain, none}
+use Rattle.store.specs.Causes.{needsOpen}
+use Rattle.history.specs.Call.{Call, requestOf}
+use Rattle.history.specs.Plain.{Plain, none, refusal}
 use Rattle.history.specs.Ledger.{Ledger, nothing}
 use Rattle.history.specs.History.{World}
 use Rattle.history.proofs.Relation.{Basics, OpenSim, ClosedSim, Sim}
-use Rattle.history.proofs.CauseLaws.{record-facts, idle}
+use Rattle.history.proofs.CauseLaws.{record-facts, idle, cause-passes}
+use Rattle.history.proofs.Steps.{WorldSim, StepOK, same-cause, refused-step}
+use Rattle.history.proofs.SimpleSteps.{is-open}
 use Rattle.history.proofs.GivesStep.{openPlain}
 use Rattle.history.proofs.OpenFacts as Facts
 
@@ -61,6 +66,16 @@ module _ (w : World) (b : Basics (w .store) (w .plain)) (o : OpenSim (w .store) 
     basics = record { sizes = b .sizes; counts = b .counts; mirrors = record { mode = sym (o .mode); N = refl; waiting = sym idle-open; T = λ z. refl; G = λ z. refl }; power = refl };
     sim = record { mode = o .mode; n = refl; F = refl; short = refl; pending = refl; sum = o .sum; card = o .card };
   }
+
+-- a call that needs an open record: its step in such a world is its step
+pub open-step : (c : Call) → needsOpen (requestOf c) ≡ true → ((st : State) (v : List Entry) (S : Disk) (x : Bool) → Opened st v S → StepOK c (openWorld st v S x)) → (w : World) → WorldSim w → StepOK c w
+open-step c n f w m = go (ℕ-discrete (refusal c (w .plain)) 0)
+  where
+    go : Dec (refusal c (w .plain) ≡ 0) → StepOK c w
+    go (no h) = refused-step c w m h
+    go (yes h) =
+        let o : OpenSim (w .store) (w .ledger) (w .plain) = is-open (w .store) (w .ledger) (w .plain) m (requestOf c) n (cause-passes (requestOf c) (w .store) (same-cause (w .store) (w .ledger) (w .plain) m c ∙ h)) in
+        subst (StepOK c) (sym (open-world w (m .basics) o)) (f (w .store) (w .ledger .written) (w .plain .S) (w .excepted) (opened w (m .basics) o))
 
 -- ---- closed
 
