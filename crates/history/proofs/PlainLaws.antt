@@ -9,7 +9,7 @@ use borrow.Author.Tests.{eq-eqb, ne-eqb, le-leb, lt-leb, lt-ltb, le-ltb}
 use lib.Dec.{eqb}
 use lib.ListN.{length, getD}
 use Rattle.journal.specs.Layout.{slots}
-use Rattle.history.specs.Plain.{Plain, none, ofSync, ofApply, ofRecover, applies, syncTakes, applyWaits, syncWaits, unchanged, applyVerdict, ownVerdict, verdict, cutShort, plainSync, plainApply, plainRecover, headerKept, done, still, synced, emptied, recovered}
+use Rattle.history.specs.Plain.{Plain, none, ofSync, ofApply, ofRecover, applies, syncTakes, applyWaits, syncWaits, unchanged, applyVerdict, ownVerdict, verdict, cutShort, plainSync, plainApply, plainRecover, headerKept, done, still, synced, cleared, recovered}
 
 -- ---- orders and waiting writes
 
@@ -64,7 +64,7 @@ unfolding plainApply
 apply-nothing d h = rw (eq-eqb _ _ h)
 
 pub apply-finished : (d : Plain) → d .n ≢ 0 → d .n + 3 ≤ d .power
-    → plainApply d ≡ done (d .n + 3) (emptied d)
+    → plainApply d ≡ done (d .n + 3) (cleared d)
 unfolding plainApply
 apply-finished d h p = rw (ne-eqb _ _ h, le-leb _ _ p)
 
