@@ -7,7 +7,6 @@ use mathlib.Core.List.{List, [], _∷_, _++_}
 use native.Mathlib.Omega.{arith}
 use native.Mathlib.Decide.{ℕ-discrete, decLe}
 use borrow.Author.Tests.{eq-eqb, ne-eqb, eqb-true, not-true}
-use lib.Dec.{eqb}
 use Rattle.card.specs.Disk.{Disk, overlay}
 use Rattle.card.specs.Card.{blocksIn}
 use Rattle.card.proofs.Overlays.{overlay-nil}
@@ -31,7 +30,7 @@ use Rattle.history.proofs.CutStep as CutStep
 use Rattle.history.proofs.ListInduction.{step, next-sim, after-sim, after-append, clean-before, clean-first, begun-sim, formatted-now}
 use Rattle.history.proofs.PlainAnswers.{sync-cases, LocalKind, powers, opens, local-kind, served-N}
 use Rattle.history.proofs.ReadsBack.{found-closed, plain-same, recovered-sim, recovered-mode, power-served}
-use Rattle.history.proofs.ShortSyncs.{Watch, open-now, closed-watch, watch-list, short-plain}
+use Rattle.history.proofs.ShortSyncs.{Watch, short-is, not-short, open-serves, open-now, closed-watch, watch-list, short-plain}
 
 -- ---- N never changes
 
@@ -134,12 +133,7 @@ stays-shut c w m z nf = go (ℕ-discrete (refusal c (w .plain)) 0)
         z (sym (ap (λ (o : Outcome). o .state .rec .mode) (dispatch-refused c (w .store) k)) ∙ e)
 
 shut-short : (c : Call) (w : World) → w .store .rec .mode ≢ openMode → shortSync c w ≡ false
-unfolding shortSync
-shut-short (local c) w z = refl
-shut-short (save Save.sync) w z = rw (ne-eqb _ _ z)
-shut-short (save Save.apply) w z = refl
-shut-short (save Save.recover) w z = refl
-shut-short (cut ms) w z = refl
+shut-short c w z = not-short c w (λ e o. z o)
 
 count-shut : (cs : List Call) (w : World) → WorldSim w → w .store .rec .mode ≢ openMode → noneFinished cs w ≡ true → after cs w .excepted ≡ false → countShort cs w ≡ 0
 unfolding after next noneFinished countShort
@@ -149,25 +143,15 @@ count-shut (c ∷ cs) w m z n e =
     let r = count-shut cs (next c w) (next-sim c w m (clean-first c cs w e)) (stays-shut c w m z (not-true _ (p .0))) (p .1) e in
     ap₂ (λ (t : Bool) (k : ℕ). cond t 1 0 + k) (shut-short c w z) r
 
--- on an open record a sync is never refused
-open-serves : (w : World) → WorldSim w → w .store .rec .mode ≡ openMode → refusal sync (w .plain) ≡ 0
-unfolding refusal
-open-serves w m o =
-    let d : w .plain .mode ≡ 1 = m .basics .mirrors .mode ∙ o in
-    rw (ne-eqb (w .plain .mode) 0 (λ z. omega arith), ne-eqb (w .plain .mode) 2 (λ z. omega arith))
-
 -- a sync that is cut short leaves the record down
 short-down : (c : Call) (w : World) → WorldSim w → S.finished c w ≡ false → shortSync c w ≡ true → storeNext c w .rec .mode ≢ openMode
-unfolding shortSync
-short-down (local c) w m nf h e = absurd (mathlib.Core.Bool.false≢true h)
-short-down (save Save.sync) w m nf h e =
-    let o : w .store .rec .mode ≡ openMode = eqb-true _ _ (both (eqb (w .store .rec .mode) openMode) (eqb (dispatch sync (w .store) .answer) 4) h .0) in
-    let r : refusal sync (w .plain) ≡ 0 = open-serves w m o in
-    let k : _≡_ {A = ℕ} 2 1 = sym (step sync w m .agrees .mode ∙ ap (λ (x : Done). x .plain .mode) (short-plain (w .plain .S) w m r nf)) ∙ e in
+short-down c w m nf h e =
+    let s = short-is c w h in
+    let r : refusal sync (w .plain) ≡ 0 = open-serves w m (s .mode) in
+    let f : S.finished sync w ≡ false = ap (λ (x : Call). S.finished x w) (sym (s .is)) ∙ nf in
+    let o : storeNext sync w .rec .mode ≡ openMode = ap (λ (x : Call). storeNext x w .rec .mode) (sym (s .is)) ∙ e in
+    let k : _≡_ {A = ℕ} 2 1 = sym (step sync w m .agrees .mode ∙ ap (λ (x : Done). x .plain .mode) (short-plain (w .plain .S) w m r f)) ∙ o in
     omega arith
-short-down (save Save.apply) w m nf h e = absurd (mathlib.Core.Bool.false≢true h)
-short-down (save Save.recover) w m nf h e = absurd (mathlib.Core.Bool.false≢true h)
-short-down (cut ms) w m nf h e = absurd (mathlib.Core.Bool.false≢true h)
 
 count-one : (cs : List Call) (w : World) → WorldSim w → noneFinished cs w ≡ true → after cs w .excepted ≡ false → countShort cs w ≤ 1
 unfolding after next noneFinished countShort

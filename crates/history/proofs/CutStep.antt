@@ -10,7 +10,6 @@ use borrow.Author.Tests.{eq-eqb, eqb-true}
 use lib.Dec.{eqb}
 use lib.ListN.{length}
 use Rattle.cells.specs.Entry.{Entry}
-use Rattle.fnv.specs.Fnv.{start}
 use Rattle.card.specs.Disk.{Disk, overlay}
 use Rattle.card.specs.Card as Card
 use Rattle.card.specs.Card.{blockAt, kept, settle}
@@ -18,10 +17,10 @@ use Rattle.card.proofs.Cuts.{cut-length}
 use Rattle.crash.proofs.Cards.{ClosedCard}
 use Rattle.crash.proofs.Leads.{closed-leads, foundIn}
 use Rattle.store.specs.Request as Request
-use Rattle.store.specs.State.{State, Outcome, closed, down, withMode, withOpened, withGrouped, withLog, withRecord, withCard, cardIn}
+use Rattle.store.specs.State.{State, Outcome, down, withRecord, withCard, cardIn}
 use Rattle.store.specs.Causes.{cause}
 use Rattle.store.specs.Outcomes.{completed}
-use Rattle.store.specs.Cut.{cutCall}
+use Rattle.store.specs.Cut.{shut, cutCall}
 use Rattle.store.proofs.Causes.{sizes-facts}
 use Rattle.history.specs.Call.{get, cut}
 use Rattle.history.specs.Plain.{Plain, Done, plainStep, none, still, closedWith, Verdict, refusal, plainCut, headerKept}
@@ -65,7 +64,7 @@ all-cuts ms st l d m h = go (m .phase)
 -- ---- the state after an accepted cut
 
 abbrev pub afterCut : List ℕ → State → State
-afterCut ms st = withCard (Card.cut ms (cardIn st)) (withRecord (withMode closed (withOpened 0 (withGrouped 0 (withLog 0 start (st .rec))))) st)
+afterCut ms st = withCard (Card.cut ms (cardIn st)) (withRecord (shut (st .rec)) st)
 
 pub cut-served : (ms : List ℕ) (st : State) → cause (Request.cut ms) st ≡ 0 → cutCall ms st ≡ completed (afterCut ms st)
 unfolding cutCall

@@ -177,7 +177,7 @@ fits st l s b =
 
 -- what C's bytes are decoded to
 held : (f : Face) (st : State) → BytesOf f st → Fitting (st .rec) → stateOf (decodeRecord (f .rec)) (f .settled) (f .waiting) (f .work) ≡ st
-held f st h t = λ j. record { rec = rec j; settled = h .settled j; waiting = h .waiting j; work = h .work j }
+held f st h t = λ j. stateOf (rec j) (h .settled j) (h .waiting j) (h .work j)
   where
     rec : decodeRecord (f .rec) ≡ st .rec
     rec = ap decodeRecord (h .rec) ∙ decode-encode (st .rec) t

@@ -11,7 +11,7 @@ use lib.Dec.{eqb, ltb}
 use lib.ListN.{length, getD}
 use Rattle.card.specs.Marks.{keptAt}
 use Rattle.journal.specs.Layout.{slots}
-use Rattle.history.specs.Plain.{Plain, none, ofSync, ofApply, ofRecover, applies, syncTakes, applyWaits, syncWaits, unchanged, Verdict, applyVerdict, ownVerdict, verdict, cutShort, plainSync, plainApply, plainRecover, headerKept}
+use Rattle.history.specs.Plain.{Plain, none, ofSync, ofApply, ofRecover, applies, syncTakes, applyWaits, syncWaits, unchanged, Verdict, applyVerdict, ownVerdict, verdict, cutShort, plainSync, plainApply, plainRecover, headerKept, done, still, synced, cleared, recovered}
 
 -- ---- orders and waiting writes
 
@@ -76,7 +76,7 @@ unfolding plainApply
 apply-nothing d h = rw (eq-eqb _ _ h)
 
 pub apply-finished : (d : Plain) → d .n ≢ 0 → d .n + 3 ≤ d .power
-    → plainApply d ≡ done (d .n + 3) (emptied d)
+    → plainApply d ≡ done (d .n + 3) (cleared d)
 unfolding plainApply
 apply-finished d h p = rw (ne-eqb _ _ h, le-leb _ _ p)
 

@@ -2,11 +2,11 @@
 use Prim.Native.Nat.{ℕ, zero, suc, _+_, _-_, _≤_, _<_}
 use mathlib.Core.Path.{_≡_, refl, ap, ap₂, sym, _∙_}
 use mathlib.Core.Logic.{_≢_, _⊎_}
-use mathlib.Core.Bool.{Bool, true, false, true≢false, cond, not, _&&_}
+use mathlib.Core.Bool.{Bool, true, false, true≢false, false≢true, cond, not, _&&_}
 use mathlib.Core.List.{List, [], _∷_}
 use native.Mathlib.Omega.{arith}
 use native.Mathlib.Decide.{ℕ-discrete, decLe}
-use borrow.Author.Tests.{eq-eqb, ne-eqb, not-true}
+use borrow.Author.Tests.{eq-eqb, ne-eqb, eqb-true, not-true}
 use lib.Dec.{eqb, leb}
 use lib.ListN.{length, getD}
 use Rattle.cells.specs.Entry.{Entry}
@@ -78,19 +78,35 @@ Watch old (known (decided G laid all)) st l d = OtherPhase old (decided G laid a
 
 -- ---- a refused call
 
-refused-short : (c : Call) (w : World) → refusal c (w .plain) ≢ 0 → WorldSim w → shortSync c w ≡ false
-unfolding shortSync refusal
-refused-short (local c) w h m = refl
-refused-short (save Save.sync) w h m = go (ℕ-discrete (w .store .rec .mode) openMode)
+-- a sync that ran out of power itself is a sync on an open record
+pub record IsShort (c : Call) (w : World) : Type 0 where
+  pub is : c ≡ sync
+  pub mode : w .store .rec .mode ≡ openMode
+
+pub short-is : (c : Call) (w : World) → shortSync c w ≡ true → IsShort c w
+unfolding shortSync
+short-is (local c) w h = absurd (false≢true h)
+short-is (save Save.sync) w h = record { is = refl; mode = eqb-true _ _ (both (eqb (w .store .rec .mode) openMode) (eqb (dispatch sync (w .store) .answer) 4) h .0) }
+short-is (save Save.apply) w h = absurd (false≢true h)
+short-is (save Save.recover) w h = absurd (false≢true h)
+short-is (cut ms) w h = absurd (false≢true h)
+
+pub not-short : (c : Call) (w : World) → (c ≡ sync → w .store .rec .mode ≢ openMode) → shortSync c w ≡ false
+not-short c w n = go (shortSync c w) refl
   where
-    go : Dec (w .store .rec .mode ≡ openMode) → eqb (w .store .rec .mode) openMode && eqb (dispatch sync (w .store) .answer) 4 ≡ false
-    go (yes e) =
-        let d : w .plain .mode ≡ 1 = m .basics .mirrors .mode ∙ e in
-        absurd (h (rw (ne-eqb (w .plain .mode) 0 (λ z. omega arith), ne-eqb (w .plain .mode) 2 (λ z. omega arith))))
-    go (no e) = rw (ne-eqb _ _ e)
-refused-short (save Save.apply) w h m = refl
-refused-short (save Save.recover) w h m = refl
-refused-short (cut ms) w h m = refl
+    go : (t : Bool) → shortSync c w ≡ t → t ≡ false
+    go false p = refl
+    go true p = let s = short-is c w p in absurd (n (s .is) (s .mode))
+
+-- on an open record a sync is never refused
+pub open-serves : (w : World) → WorldSim w → w .store .rec .mode ≡ openMode → refusal sync (w .plain) ≡ 0
+unfolding refusal
+open-serves w m o =
+    let d : w .plain .mode ≡ 1 = m .basics .mirrors .mode ∙ o in
+    rw (ne-eqb (w .plain .mode) 0 (λ z. omega arith), ne-eqb (w .plain .mode) 2 (λ z. omega arith))
+
+refused-short : (c : Call) (w : World) → refusal c (w .plain) ≢ 0 → WorldSim w → shortSync c w ≡ false
+refused-short c w h m = not-short c w (λ e o. h (ap (λ (x : Call). refusal x (w .plain)) e ∙ open-serves w m o))
 
 refused-cut : (ms : List ℕ) (w : World) → refusal (cut ms) (w .plain) ≢ 0 → WorldSim w → acceptedCut (cut ms) w ≡ false
 unfolding acceptedCut
@@ -240,7 +256,7 @@ module _ (old : Disk) (w : World) (m : WorldSim w) (h : refusal sync (w .plain) 
   -- behind its own header m + 2 writes wait
   waits-two : headed w ≡ true → storeNext sync w .rec .waiting ≡ w .store .rec .grouped + 2
   waits-two e =
-      let k : w .plain .power ≡ innerTakes (w .plain .n) (length (w .plain .G)) + (length (w .plain .G) + 2) = borrow.Author.Tests.eqb-true _ _ (sym headed-is ∙ e) in
+      let k : w .plain .power ≡ innerTakes (w .plain .n) (length (w .plain .G)) + (length (w .plain .G) + 2) = eqb-true _ _ (sym headed-is ∙ e) in
       step sync w m .agrees .waiting ∙ ap (λ (x : Done). x .plain .waiting) short-plain
       ∙ PlainLaws.sync-waits-own (w .plain .n) (length (w .plain .G)) (w .plain .power) (omega arith)
       ∙ (let q : w .plain .power - innerTakes (w .plain .n) (length (w .plain .G)) ≡ length (w .plain .G) + 2 = omega arith in q)
@@ -261,7 +277,7 @@ module _ (old : Disk) (w : World) (m : WorldSim w) (h : refusal sync (w .plain) 
         whole = λ e ms l a.
             let q : length ms ≡ w .store .rec .grouped + 2 = l ∙ waits-two e in (
               ones-mark ms (w .store .rec .grouped + 1) (omega arith) a,
-              short-whole w m h o grouped-some answer-four (borrow.Author.Tests.eqb-true _ _ e) ms q a,
+              short-whole w m h o grouped-some answer-four (eqb-true _ _ e) ms q a,
             );
       })
 

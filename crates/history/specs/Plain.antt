@@ -196,13 +196,13 @@ plainSync d =
     (cutShort (ofSync (d .power)) (syncWaits (d .n) m (d .power)) d))
 
 -- "apply sets n = 0"
-abbrev pub emptied : Plain → Plain
-emptied d = withCount 0 (spent (applyTakes (d .n)) d)
+abbrev pub cleared : Plain → Plain
+cleared d = withCount 0 (spent (applyTakes (d .n)) d)
 
 unfoldable pub plainApply : Plain → Done
 plainApply d =
     cond (eqb (d .n) 0) (still d)
-    (cond (leb (applyTakes (d .n)) (d .power)) (done (applyTakes (d .n)) (emptied d))
+    (cond (leb (applyTakes (d .n)) (d .power)) (done (applyTakes (d .n)) (cleared d))
     (cutShort (ofApply (d .power)) (applyWaits (d .n) (d .power)) d))
 
 -- "A recover takes 2 orders if F is 1, else none; […] done, and so finished, it makes F 0 and the mode open"
