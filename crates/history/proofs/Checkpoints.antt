@@ -22,14 +22,15 @@ use Rattle.crash.proofs.CallCuts.{homes-cuts, still-cuts, header-cuts}
 use Rattle.crash.proofs.Cards.{WholeCard}
 use Rattle.crash.proofs.Leads.{Leads, homes-done, empty-card}
 use Rattle.crash.proofs.Logs.{data-below}
+use Rattle.crash.proofs.Batches.{Left}
+use Rattle.crash.proofs.CallCuts.{homes-cuts, still-cuts, header-cuts}
+use Rattle.crash.proofs.Cards.{WholeCard}
+use Rattle.crash.proofs.Leads.{Leads, homes-done, empty-card}
+use Rattle.crash.proofs.Logs.{data-below}
 use Rattle.store.specs.State.{State, cardIn}
 use Rattle.history.specs.Plain.{Plain, applyVerdict, applyWaits, headerKept}
 use Rattle.history.specs.Ledger.{Ledger, PlannedHeader, noted, applyHeader, resolved}
-use Rattle.history.proofs.Disks.{WholeCard, data-below}
-use Rattle.history.proofs.Batches.{Left}
 use Rattle.history.proofs.Plans.{Plan, planned, takes, settles, Fits, Throughout, for-one, length-settles}
-use Rattle.history.proofs.AfterCut.{Leads, homes-done, empty-card}
-use Rattle.history.proofs.CallCuts.{settled-laid, homes-cuts, still-cuts, header-cuts}
 use Rattle.history.proofs.Lists.{Data}
 use Rattle.history.proofs.Relation.{Basics, OpenSim, cutWritten}
 use Rattle.history.proofs.PlainLaws.{waits-homes, waits-flushed, waits-header, apply-before, apply-at, kept-mark}

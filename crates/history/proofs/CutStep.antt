@@ -14,6 +14,7 @@ use Rattle.card.specs.Disk.{Disk, overlay}
 use Rattle.card.specs.Card as Card
 use Rattle.card.specs.Card.{blockAt, kept, settle}
 use Rattle.card.proofs.Cuts.{cut-length}
+use Rattle.card.specs.Marks.{marksFit}
 use Rattle.crash.proofs.Cards.{ClosedCard}
 use Rattle.crash.proofs.Leads.{closed-leads, foundIn}
 use Rattle.store.specs.Request as Request

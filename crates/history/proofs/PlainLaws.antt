@@ -187,7 +187,7 @@ own-other n m = refl
 -- the header's mark
 pub kept-mark : (ms : List ℕ) (w k : ℕ) → w ≡ suc k → headerKept ms w ≡ keptAt ms k
 unfolding headerKept
-kept-mark ms w k h = ap (λ (i : ℕ). eqb (getD ms i 0) 1) (let e : w - 1 ≡ k = omega arith in e)
+kept-mark ms w k h = ap (λ (i : ℕ). keptAt ms i) (let e : w - 1 ≡ k = omega arith in e)
 
 -- ---- when a cut lays the group of a sync cut short
 
@@ -198,16 +198,16 @@ own-laid n m true false = refl
 own-laid n m false u = refl
 
 pub sync-laid : (n m k : ℕ) (F found : Bool) (ms : List ℕ)
-    → verdict (ofSync k) n m F (headerKept ms (syncWaits n m k)) found .laid ≡ eqb k (innerTakes n m + (m + 2)) && eqb (getD ms (m + 1) 0) 1 && found
+    → verdict (ofSync k) n m F (headerKept ms (syncWaits n m k)) found .laid ≡ eqb k (innerTakes n m + (m + 2)) && keptAt ms (m + 1) && found
 sync-laid n m k F found ms = go (ℕ-discrete k (innerTakes n m + (m + 2)))
   where
-    go : Dec (k ≡ innerTakes n m + (m + 2)) → verdict (ofSync k) n m F (headerKept ms (syncWaits n m k)) found .laid ≡ eqb k (innerTakes n m + (m + 2)) && eqb (getD ms (m + 1) 0) 1 && found
+    go : Dec (k ≡ innerTakes n m + (m + 2)) → verdict (ofSync k) n m F (headerKept ms (syncWaits n m k)) found .laid ≡ eqb k (innerTakes n m + (m + 2)) && keptAt ms (m + 1) && found
     go (yes e) =
         let w : syncWaits n m k ≡ suc (m + 1) = sync-waits-own n m k (omega arith) ∙ (omega arith) in
         ap (λ (v : Verdict). v .laid) (choose-sync-own k n m F (headerKept ms (syncWaits n m k)) found e)
         ∙ own-laid (countMet n m) m (headerKept ms (syncWaits n m k)) found
         ∙ ap (λ (t : Bool). t && found) (kept-mark ms (syncWaits n m k) (m + 1) w)
-        ∙ sym (ap (λ (t : Bool). t && eqb (getD ms (m + 1) 0) 1 && found) (eq-eqb k (innerTakes n m + (m + 2)) e))
+        ∙ sym (ap (λ (t : Bool). t && keptAt ms (m + 1) && found) (eq-eqb k (innerTakes n m + (m + 2)) e))
     go (no e) =
         sync-still k n m F (headerKept ms (syncWaits n m k)) found e
-        ∙ sym (ap (λ (t : Bool). t && eqb (getD ms (m + 1) 0) 1 && found) (ne-eqb k (innerTakes n m + (m + 2)) e))
+        ∙ sym (ap (λ (t : Bool). t && keptAt ms (m + 1) && found) (ne-eqb k (innerTakes n m + (m + 2)) e))

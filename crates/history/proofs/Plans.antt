@@ -9,7 +9,7 @@ use Rattle.cells.specs.Entry.{entryBytes, Entry}
 use Rattle.card.specs.Card.{Card, Order, write, flush, settle, run, places}
 use Rattle.card.proofs.All.{All, all-map, all-take}
 use Rattle.card.proofs.Runs.{Whole, NarrowAddress, run-nil, run-append, length-settle}
-use Rattle.history.proofs.Batches.{Left, Fit, batch, batch-short, batch-done, left-dead, left-then, left-power}
+use Rattle.crash.proofs.Batches.{Left, Fit, batch, batch-short, batch-done, left-dead, left-then, left-power}
 
 -- the writes of each batch
 abbrev pub Plan : Type 0

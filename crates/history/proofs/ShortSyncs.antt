@@ -273,7 +273,7 @@ module _ (old : Disk) (w : World) (m : WorldSim w) (h : refusal sync (w .plain) 
         group = Facts.plain-group (w .store) (w .ledger) (w .plain) b o;
         laid = λ ms u.
             PlainLaws.sync-laid (w .plain .n) (length (w .plain .G)) (w .plain .power) (w .plain .F) u ms
-            ∙ ap₂ (λ (t : Bool) (i : ℕ). t && eqb (getD ms (i + 1) 0) 1 && u) (sym headed-is) count;
+            ∙ ap₂ (λ (t : Bool) (i : ℕ). t && keptAt ms (i + 1) && u) (sym headed-is) count;
         whole = λ e ms l a.
             let q : length ms ≡ w .store .rec .grouped + 2 = l ∙ waits-two e in (
               ones-mark ms (w .store .rec .grouped + 1) (omega arith) a,

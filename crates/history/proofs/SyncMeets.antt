@@ -19,13 +19,14 @@ use Rattle.journal.specs.Orders.{syncOrders}
 use Rattle.journal.proofs.Logs.{sumOf-nil}
 use Rattle.journal.proofs.OrderLists.{appendWrites, append-writes, append-afresh}
 use Rattle.crash.proofs.Logs.{logD}
+use Rattle.crash.proofs.Cards.{WholeCard}
+use Rattle.crash.proofs.Logs.{logD}
 use Rattle.store.specs.State.{State, withLog}
 use Rattle.store.specs.Saves.{groupOf, applies, metByAppend}
 use Rattle.history.specs.Plain as Plain
 use Rattle.history.specs.Plain.{Plain, ofSync, syncTakes, syncWaits, applyWaits, applyVerdict, ownVerdict, verdict, headerKept, unchanged}
 use Rattle.history.specs.Ledger.{PlannedHeader, syncHeaders, noted, applyHeader, ownHeader, standing, inner}
 use Rattle.history.specs.History.{World}
-use Rattle.history.proofs.Disks.{logD, WholeCard}
 use Rattle.history.proofs.Plans.{Plan, planned, takes, settles, Fits, Throughout, planned-append, throughout-map}
 use Rattle.history.proofs.AppendEnds.{Appends}
 use Rattle.history.proofs.CauseLaws.{RecordFacts, record-facts}
