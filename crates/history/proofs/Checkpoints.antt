@@ -22,11 +22,6 @@ use Rattle.crash.proofs.CallCuts.{homes-cuts, still-cuts, header-cuts}
 use Rattle.crash.proofs.Cards.{WholeCard}
 use Rattle.crash.proofs.Leads.{Leads, homes-done, empty-card}
 use Rattle.crash.proofs.Logs.{data-below}
-use Rattle.crash.proofs.Batches.{Left}
-use Rattle.crash.proofs.CallCuts.{homes-cuts, still-cuts, header-cuts}
-use Rattle.crash.proofs.Cards.{WholeCard}
-use Rattle.crash.proofs.Leads.{Leads, homes-done, empty-card}
-use Rattle.crash.proofs.Logs.{data-below}
 use Rattle.store.specs.State.{State, cardIn}
 use Rattle.history.specs.Plain.{Plain, applyVerdict, applyWaits, headerKept}
 use Rattle.history.specs.Ledger.{Ledger, PlannedHeader, noted, applyHeader, resolved}

@@ -20,7 +20,6 @@ use Rattle.journal.proofs.Logs.{sumOf-nil}
 use Rattle.journal.proofs.OrderLists.{appendWrites, append-writes, append-afresh}
 use Rattle.crash.proofs.Logs.{logD}
 use Rattle.crash.proofs.Cards.{WholeCard}
-use Rattle.crash.proofs.Logs.{logD}
 use Rattle.store.specs.State.{State, withLog}
 use Rattle.store.specs.Saves.{groupOf, applies, metByAppend}
 use Rattle.history.specs.Plain as Plain
