@@ -16,7 +16,8 @@ use Rattle.card.proofs.All.{All, all-append, all-take}
 use Rattle.card.proofs.Runs.{Whole, NarrowAddress}
 use Rattle.card.proofs.Cuts.{kept-all}
 use Rattle.card.specs.Marks.{keptAt}
-use Rattle.journal.specs.Layout.{slots, firstData, headerAt, descriptorAt}
+use Rattle.journal.specs.Geometry.{Geometry}
+use Rattle.journal.specs.Layout.{firstData, headerAt, descriptorAt}
 use Rattle.journal.specs.Header.{encode, header}
 use Rattle.journal.specs.Log.{entries, sumOf, allData}
 use Rattle.journal.proofs.Headers.{length-encode}
@@ -32,91 +33,92 @@ use Rattle.history.specs.Plain.{ownVerdict}
 use Rattle.history.specs.Ledger.{sameLog}
 use Rattle.history.proofs.Plans.{Fits}
 
--- the writes of an append are addressed below N
-writes-low : (N : ℕ) (s : List ℕ) (n h : ℕ) (G : List Entry) → firstData < N → n + length G ≤ slots → All (λ e. e .address < N) (appendWrites N s n h G)
-writes-low N s n h G big room =
-    all-append (λ e. e .address < N) (slotBlocks n G) _ (slots-below N n G (omega arith)) (omega arith, (omega arith, tt))
+module _ (geo : Geometry) where
+  -- the writes of an append are addressed below N
+  writes-low : (N : ℕ) (s : List ℕ) (n h : ℕ) (G : List Entry) → firstData geo < N → n + length G ≤ geo .slots → All (λ e. e .address < N) (appendWrites geo N s n h G)
+  writes-low N s n h G big room =
+      all-append (λ e. e .address < N) (slotBlocks geo n G) _ (slots-below geo N n G (omega arith)) (omega arith, (omega arith, tt))
 
--- the group G is appended to n entries with the sum h on s; v is their list, S the disk
-pub record Appends (N : ℕ) (s : List ℕ) (n h : ℕ) (G v : List Entry) (S : Disk) : Type 0 where
-  pub big : firstData < N
-  pub small : N < 2 ^ 32
-  pub size : N ≡ blocksIn s
-  pub room : n + length G ≤ slots
-  pub sum : h ≡ sumOf start (logD (blockAt s) n)
-  pub card : WholeCard N (blockAt s) v S n
-  pub whole : All Whole G
-  pub low : All NarrowAddress G
-  pub all-data : allData N G ≡ true
+  -- the group G is appended to n entries with the sum h on s; v is their list, S the disk
+  pub record Appends (N : ℕ) (s : List ℕ) (n h : ℕ) (G v : List Entry) (S : Disk) : Type 0 where
+    pub big : firstData geo < N
+    pub small : N < 2 ^ 32
+    pub size : N ≡ blocksIn s
+    pub room : n + length G ≤ geo .slots
+    pub sum : h ≡ sumOf start (logD geo (blockAt s) n)
+    pub card : WholeCard geo N (blockAt s) v S n
+    pub whole : All Whole G
+    pub low : All NarrowAddress G
+    pub all-data : allData geo N G ≡ true
 
-module _ {N : ℕ} {s : List ℕ} {n h : ℕ} {G v : List Entry} {S : Disk} (x : Appends N s n h G v S) where
-  abbrev W : List Entry
-  W = appendWrites N s n h G
+  module _ {N : ℕ} {s : List ℕ} {n h : ℕ} {G v : List Entry} {S : Disk} (x : Appends N s n h G v S) where
+    abbrev W : List Entry
+    W = appendWrites geo N s n h G
 
-  pub wide : 4 * n ≤ length (blockAt s descriptorAt)
-  wide = rw (length-blockAt s descriptorAt (omega (arith, x .big, x .size))) (omega (arith, x .room))
+    pub wide : 4 * n ≤ length (blockAt s descriptorAt)
+    wide = rw (length-blockAt s descriptorAt (omega (arith, x .big, x .size))) (omega (arith, x .room))
 
-  pub writes-whole : All Whole W
-  writes-whole = all-append Whole (slotBlocks n G) _ (slots-whole n G (x .whole)) (length-describe _ n G wide (omega (arith, x .room)), (length-encode (header N n h (n + length G) (sumOf h G)), tt))
+    pub writes-whole : All Whole W
+    writes-whole = all-append Whole (slotBlocks geo n G) _ (slots-whole geo n G (x .whole)) (length-describe _ n G wide (omega (arith, x .room)), (length-encode (header N n h (n + length G) (sumOf h G)), tt))
 
-  pub writes-fit : Fits N W
-  writes-fit = record {
-    few = let e : length W ≡ length G + 2 = length-append-writes N s n h G in omega (arith, x .room);
-    whole = writes-whole;
-    low = writes-low N s n h G (x .big) (x .room);
-  }
+    pub writes-fit : Fits geo N W
+    writes-fit = record {
+      few = let e : length W ≡ length G + 2 = length-append-writes geo N s n h G in omega (arith, x .room);
+      whole = writes-whole;
+      low = writes-low N s n h G (x .big) (x .room);
+    }
 
-  -- ---- cut short after j of its orders
+    -- ---- cut short after j of its orders
 
-  pub short-before : (c r : Card) (j : ℕ) → Left c r s (take j W) 0 → j ≤ length G + 1 → (ms : List ℕ) → Leads N (cut ms r .settled) v S n false
-  short-before c r j f l ms = append-cuts N s n h G v S (x .big) (x .small) (x .size) (x .room) (x .sum) (x .card) writes-whole (x .all-data) c r j f ms l
+    pub short-before : (c r : Card) (j : ℕ) → Left c r s (take j W) 0 → j ≤ length G + 1 → (ms : List ℕ) → Leads geo N (cut ms r .settled) v S n false
+    short-before c r j f l ms = append-cuts geo N s n h G v S (x .big) (x .small) (x .size) (x .room) (x .sum) (x .card) writes-whole (x .all-data) c r j f ms l
 
-  pub short-top : (c r : Card) (j : ℕ) → Left c r s (take j W) 0 → j ≡ length G + 2 → (ms : List ℕ) → length ms ≡ length G + 2
-      → (t u : Bool) → keptAt ms (length G + 1) ≡ t → sameLog (foundIn (cut ms r .settled)) (cond t (logD (blockAt s) n ++ G) v) ≡ u
-      → Leads N (cut ms r .settled) (cond t (logD (blockAt s) n ++ G) v) (cond (ownVerdict n (length G) t u .laid) (overlay G S) S) (ownVerdict n (length G) t u .n) (ownVerdict n (length G) t u .F)
-  short-top c r j f e ms l = append-cuts-top N s n h G v S (x .big) (x .small) (x .size) (x .room) (x .sum) (x .card) writes-whole (x .all-data) c r j f ms e (length-append-writes N s n h G) l
+    pub short-top : (c r : Card) (j : ℕ) → Left c r s (take j W) 0 → j ≡ length G + 2 → (ms : List ℕ) → length ms ≡ length G + 2
+        → (t u : Bool) → keptAt ms (length G + 1) ≡ t → sameLog (foundIn geo (cut ms r .settled)) (cond t (logD geo (blockAt s) n ++ G) v) ≡ u
+        → Leads geo N (cut ms r .settled) (cond t (logD geo (blockAt s) n ++ G) v) (cond (ownVerdict n (length G) t u .laid) (overlay G S) S) (ownVerdict n (length G) t u .n) (ownVerdict n (length G) t u .F)
+    short-top c r j f e ms l = append-cuts-top N s n h G v S (x .big) (x .small) (x .size) (x .room) (x .sum) (x .card) writes-whole (x .all-data) c r j f ms e (length-append-writes geo N s n h G) l
 
-  -- with every write kept the log found is the log written
-  pub whole-found : (c r : Card) (j : ℕ) → Left c r s (take j W) 0 → j ≡ length G + 2 → (ms : List ℕ) → length ms ≡ length G + 2 → All (λ k. k ≡ 1) ms
-      → sameLog (foundIn (cut ms r .settled)) (logD (blockAt s) n ++ G) ≡ true
-  whole-found c r j f e ms l ones =
-      append-whole N s n h G v S (x .big) (x .small) (x .size) (x .room) (x .sum) (x .card) (cut ms r .settled) (x .low)
-      (λ a q.
-      let z : length W ≡ length G + 2 = length-append-writes N s n h G in
-      cut-laid c r s (take j W) 0 ms a f (omega (arith, x .size)) (all-take Whole j W writes-whole)
-      ∙ ap (λ (y : List Entry). overlay (kept ms y) (blockAt s) a) (take-all j W (omega arith))
-      ∙ ap (λ (y : List Entry). overlay y (blockAt s) a) (kept-all ms W (omega arith) ones))
+    -- with every write kept the log found is the log written
+    pub whole-found : (c r : Card) (j : ℕ) → Left c r s (take j W) 0 → j ≡ length G + 2 → (ms : List ℕ) → length ms ≡ length G + 2 → All (λ k. k ≡ 1) ms
+        → sameLog (foundIn geo (cut ms r .settled)) (logD geo (blockAt s) n ++ G) ≡ true
+    whole-found c r j f e ms l ones =
+        append-whole geo N s n h G v S (x .big) (x .small) (x .size) (x .room) (x .sum) (x .card) (cut ms r .settled) (x .low)
+        (λ a q.
+        let z : length W ≡ length G + 2 = length-append-writes geo N s n h G in
+        cut-laid c r s (take j W) 0 ms a f (omega (arith, x .size)) (all-take Whole j W writes-whole)
+        ∙ ap (λ (y : List Entry). overlay (kept ms y) (blockAt s) a) (take-all j W (omega arith))
+        ∙ ap (λ (y : List Entry). overlay y (blockAt s) a) (kept-all ms W (omega arith) ones))
 
-  -- ---- done
+    -- ---- done
 
-  pub done-card : WholeCard N (blockAt (settle W s)) (logD (blockAt s) n ++ G) (overlay G S) (n + length G)
-  done-card =
-      append-all N s n h G v S (x .big) (x .small) (x .size) (x .room) (x .sum) (x .card) (settle W s) (x .low) (x .all-data)
-      (λ a l. settled-laid W s (settle W s) a refl (omega (arith, x .size)) writes-whole)
+    pub done-card : WholeCard geo N (blockAt (settle W s)) (logD geo (blockAt s) n ++ G) (overlay G S) (n + length G)
+    done-card =
+        append-all geo N s n h G v S (x .big) (x .small) (x .size) (x .room) (x .sum) (x .card) (settle W s) (x .low) (x .all-data)
+        (λ a l. settled-laid W s (settle W s) a refl (omega (arith, x .size)) writes-whole)
 
-  pub done-sum : sumOf h G ≡ sumOf start (logD (blockAt (settle W s)) (n + length G))
-  done-sum = ap (λ (k : ℕ). sumOf k G) (x .sum) ∙ sym (sumOf-append start (logD (blockAt s) n) G) ∙ ap (sumOf start) (done-card .same)
+    pub done-sum : sumOf h G ≡ sumOf start (logD geo (blockAt (settle W s)) (n + length G))
+    done-sum = ap (λ (k : ℕ). sumOf k G) (x .sum) ∙ sym (sumOf-append start (logD geo (blockAt s) n) G) ∙ ap (sumOf start) (done-card .same)
 
-  -- block 0 then
-  done-head : blockAt (settle W s) headerAt ≡ encode (header N n h (n + length G) (sumOf h G))
-  done-head =
-      let laid : (a : ℕ) → a < N → blockAt (settle W s) a ≡ overlay W (blockAt s) a = λ a l. settled-laid W s (settle W s) a refl (omega (arith, x .size)) writes-whole in
-      append-head N (blockAt s) (blockAt (settle W s)) v S n h G (x .card)
-      (on-card N s n h G v S (x .big) (x .small) (x .size) (x .room) (x .sum) (x .card) (settle W s) W laid (all-appended N s n h G (x .room) wide (x .sum)))
-      .block
+    -- block 0 then
+    done-head : blockAt (settle W s) headerAt ≡ encode (header N n h (n + length G) (sumOf h G))
+    done-head =
+        let laid : (a : ℕ) → a < N → blockAt (settle W s) a ≡ overlay W (blockAt s) a = λ a l. settled-laid W s (settle W s) a refl (omega (arith, x .size)) writes-whole in
+        append-head geo N (blockAt s) (blockAt (settle W s)) v S n h G (x .card)
+        (on-card geo N s n h G v S (x .big) (x .small) (x .size) (x .room) (x .sum) (x .card) (settle W s) W laid (all-appended N s n h G (x .room) wide (x .sum)))
+        .block
 
-  size-log : length (logD (blockAt s) n) ≡ n
-  size-log = length-upTo (slotE (blockAt s)) n
+    size-log : length (logD geo (blockAt s) n) ≡ n
+    size-log = length-upTo (slotE geo (blockAt s)) n
 
-  size-list : length (logD (blockAt s) n ++ G) ≡ n + length G
-  size-list = length-append (logD (blockAt s) n) G ∙ ap (λ (k : ℕ). k + length G) size-log
+    size-list : length (logD geo (blockAt s) n ++ G) ≡ n + length G
+    size-list = length-append (logD geo (blockAt s) n) G ∙ ap (λ (k : ℕ). k + length G) size-log
 
-  -- by the list L before it: p and n are the lengths, the sums those of L and of L and G
-  pub done-logged : (L : List Entry) → L ≡ logD (blockAt s) n
-      → (blockAt (settle W s) headerAt ≡ encode (header N (length L) (sumOf start L) (length (L ++ G)) (sumOf start (L ++ G)))) × (entries (settle W s) (length (L ++ G)) ≡ L ++ G)
-  done-logged L e =
-      rw e (
-        done-head
-            ∙ (λ i. encode (header N (sym size-log i) (x .sum i) (sym size-list i) ((ap (λ (k : ℕ). sumOf k G) (x .sum) ∙ sym (sumOf-append start (logD (blockAt s) n) G)) i))),
-        ap (entries (settle W s)) size-list ∙ entries-disk (settle W s) (n + length G) ∙ sym (done-card .same),
-      )
+    -- by the list L before it: p and n are the lengths, the sums those of L and of L and G
+    pub done-logged : (L : List Entry) → L ≡ logD geo (blockAt s) n
+        → (blockAt (settle W s) headerAt ≡ encode (header N (length L) (sumOf start L) (length (L ++ G)) (sumOf start (L ++ G)))) × (entries geo (settle W s) (length (L ++ G)) ≡ L ++ G)
+    done-logged L e =
+        rw e (
+          done-head
+              ∙ (λ i. encode (header N (sym size-log i) (x .sum i) (sym size-list i) ((ap (λ (k : ℕ). sumOf k G) (x .sum) ∙ sym (sumOf-append start (logD geo (blockAt s) n) G)) i))),
+          ap (entries geo (settle W s)) size-list ∙ entries-disk geo (settle W s) (n + length G) ∙ sym (done-card .same),
+        )

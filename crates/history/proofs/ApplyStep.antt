@@ -13,6 +13,7 @@ use Rattle.cells.specs.Entry.{Entry}
 use Rattle.fnv.specs.Fnv.{start}
 use Rattle.card.specs.Disk.{Disk}
 use Rattle.card.specs.Card.{Order}
+use Rattle.journal.specs.Geometry.{Geometry}
 use Rattle.journal.proofs.Logs.{sumOf-nil}
 use Rattle.store.specs.Request as Request
 use Rattle.store.specs.State.{State, Outcome, withLog}
@@ -35,109 +36,111 @@ use Rattle.history.proofs.OpenFacts.{none-waits}
 use Rattle.history.proofs.Worlds.{settledLedger, plainNow, openWorld, Opened, opened-sim, open-step}
 use Rattle.history.proofs.Checkpoints.{checkpoint, checkpoint-orders, checkpoint-takes, checkpoint-fits, CheckpointCuts, checkpoint-cuts, emptied-card}
 
--- a call that changes nothing
-pub nothing-step : (c : Call) (w : World) → WorldSim w → dispatch c (w .store) ≡ record { answer = 0; orders = 0; state = w .store }
-    → plainStep c (foundWritten c w) (w .plain) ≡ record { answer = 0; orders = 0; plain = w .plain } → ledgerNext c w ≡ w .ledger → ((a : ℕ) → c ≡ get a → ⊥) → StepOK c w
-nothing-step c w m D P E g =
-    sim-step c w
-    (record {
-      answer = ap (λ (o : Outcome). o .answer) D ∙ sym (ap (λ (o : Done). o .answer) P);
-      orders = ap (λ (o : Outcome). o .orders) D ∙ sym (ap (λ (o : Done). o .orders) P);
-      block = λ a e z. absurd (g a e);
-      sim = sim-at (ap (λ (o : Outcome). o .state) D) E (ap (λ (o : Done). o .plain) P) m;
-    })
+module _ (geo : Geometry) where
+  -- a call that changes nothing
+  pub nothing-step : (c : Call) (w : World) → WorldSim geo w → dispatch geo c (w .store) ≡ record { answer = 0; orders = 0; state = w .store }
+      → plainStep geo c (foundWritten geo c w) (w .plain) ≡ record { answer = 0; orders = 0; plain = w .plain } → ledgerNext geo c w ≡ w .ledger → ((a : ℕ) → c ≡ get a → ⊥) → StepOK geo c w
+  nothing-step c w m D P E g =
+      sim-step geo c w
+      (record {
+        answer = ap (λ (o : Outcome). o .answer) D ∙ sym (ap (λ (o : Done). o .answer) P);
+        orders = ap (λ (o : Outcome). o .orders) D ∙ sym (ap (λ (o : Done). o .orders) P);
+        block = λ a e z. absurd (g a e);
+        sim = sim-at geo (ap (λ (o : Outcome). o .state) D) E (ap (λ (o : Done). o .plain) P) m;
+      })
 
 apply-no-get : (a : ℕ) → apply ≡ get a → ⊥
 apply-no-get a e = let z : _≡_ {A = ℕ} 0 1 = cc in omega arith
 
-module _ (st : State) (v : List Entry) (S : Disk) (x : Bool) (f : Opened st v S) where
-  abbrev w : World
-  w = openWorld st v S x
+module _ (geo : Geometry) where
+  module _ (st : State) (v : List Entry) (S : Disk) (x : Bool) (f : Opened geo st v S) where
+    abbrev w : World
+    w = openWorld geo st v S x
 
-  abbrev b : Basics st (plainNow st S)
-  b = f .basics
+    abbrev b : Basics geo st (plainNow geo st S)
+    b = f .basics
 
-  abbrev o : OpenSim st (settledLedger v) (plainNow st S)
-  o = f .sim
+    abbrev o : OpenSim geo st (settledLedger v) (plainNow geo st S)
+    o = f .sim
 
-  rc : RecordFacts st
-  rc = record-facts st (b .counts)
+    rc : RecordFacts geo st
+    rc = record-facts geo st (b .counts)
 
-  served : refusal apply (plainNow st S) ≡ 0
-  unfolding refusal
-  served = refl
+    served : refusal geo apply (plainNow geo st S) ≡ 0
+    unfolding refusal
+    served = refl
 
-  accepted : cause Request.apply st ≡ 0
-  accepted = same-cause st (settledLedger v) (plainNow st S) (opened-sim f) apply ∙ served
+    accepted : cause geo Request.apply st ≡ 0
+    accepted = same-cause geo st (settledLedger v) (plainNow geo st S) (opened-sim geo f) apply ∙ served
 
-  plain : plainStep apply (foundWritten apply w) (plainNow st S) ≡ plainApply (plainNow st S)
-  plain = plain-served apply (foundWritten apply w) (plainNow st S) served
+    plain : plainStep geo apply (foundWritten geo apply w) (plainNow geo st S) ≡ plainApply (plainNow geo st S)
+    plain = plain-served geo apply (foundWritten geo apply w) (plainNow geo st S) served
 
-  -- n = 0
-  none-logged : st .rec .logged ≡ 0 → StepOK apply w
-  unfolding entered applyCall
-  none-logged z =
-      let D : applyCall st ≡ record { answer = 0; orders = 0; state = st } = rw (eq-eqb _ 0 accepted, eq-eqb _ 0 z) in
-      nothing-step apply w (opened-sim f) D (plain ∙ apply-nothing (plainNow st S) z)
-      (ap (λ (y : Outcome). noted (applyHeaders st) (y .orders) (settledLedger v)) D ∙ noted-none (applyHeaders st) (settledLedger v)) apply-no-get
+    -- n = 0
+    none-logged : st .rec .logged ≡ 0 → StepOK geo apply w
+    unfolding entered applyCall
+    none-logged z =
+        let D : applyCall geo st ≡ record { answer = 0; orders = 0; state = st } = rw (eq-eqb _ 0 accepted, eq-eqb _ 0 z) in
+        nothing-step geo apply w (opened-sim geo f) D (plain ∙ apply-nothing (plainNow geo st S) z)
+        (ap (λ (y : Outcome). noted (applyHeaders st) (y .orders) (settledLedger v)) D ∙ noted-none (applyHeaders st) (settledLedger v)) apply-no-get
 
-  -- its checkpoint
-  module _ (z : st .rec .logged ≢ 0) where
-    abbrev plan : Plan
-    plan = checkpoint st (settledLedger v) (plainNow st S) b o
+    -- its checkpoint
+    module _ (z : st .rec .logged ≢ 0) where
+      abbrev plan : Plan
+      plan = checkpoint geo st (settledLedger v) (plainNow geo st S) b o
 
-    count : takes plan ≡ st .rec .logged + 3
-    count = checkpoint-takes st (settledLedger v) (plainNow st S) b o
+      count : takes plan ≡ st .rec .logged + 3
+      count = checkpoint-takes geo st (settledLedger v) (plainNow geo st S) b o
 
-    call : applyCall st ≡ carried (planned plan) (withLog 0 start (st .rec)) (st .rec) st
-    unfolding applyCall
-    call = rw (eq-eqb _ 0 accepted, ne-eqb _ 0 z) (ap (λ (os : List Order). carried os (withLog 0 start (st .rec)) (st .rec) st) (checkpoint-orders st (settledLedger v) (plainNow st S) b o))
+      call : applyCall geo st ≡ carried (planned plan) (withLog 0 start (st .rec)) (st .rec) st
+      unfolding applyCall
+      call = rw (eq-eqb _ 0 accepted, ne-eqb _ 0 z) (ap (λ (os : List Order). carried os (withLog 0 start (st .rec)) (st .rec) st) (checkpoint-orders geo st (settledLedger v) (plainNow geo st S) b o))
 
-    cuts : Throughout (CutsAt w (applyHeader st ∷ []) ofApply (applyWaits (st .rec .logged))) plan (st .settled) 0
-    cuts =
-        throughout-map (CheckpointCuts st (settledLedger v) (plainNow st S) b o []) (CutsAt w (applyHeader st ∷ []) ofApply (applyWaits (st .rec .logged))) plan (st .settled) 0
-        (λ s q k h y. record {
-          waiting = y .waiting;
-          leads = λ r l ms e. leads-still _ _ _ (choose-apply k (st .rec .logged) (length (groupOf st)) false (headerKept ms (applyWaits (st .rec .logged) k)) _) (apply-laid k _ _ _) (y .leads r l ms e);
-        })
-        (checkpoint-cuts st (settledLedger v) (plainNow st S) b o [])
+      cuts : Throughout (CutsAt geo w (applyHeader st ∷ []) ofApply (applyWaits (st .rec .logged))) plan (st .settled) 0
+      cuts =
+          throughout-map (CheckpointCuts geo st (settledLedger v) (plainNow geo st S) b o []) (CutsAt geo w (applyHeader st ∷ []) ofApply (applyWaits (st .rec .logged))) plan (st .settled) 0
+          (λ s q k h y. record {
+            waiting = y .waiting;
+            leads = λ r l ms e. leads-still geo _ _ _ (choose-apply geo k (st .rec .logged) (length (groupOf geo st)) false (headerKept ms (applyWaits (st .rec .logged) k)) _) (apply-laid k _ _ _) (y .leads r l ms e);
+          })
+          (checkpoint-cuts geo st (settledLedger v) (plainNow geo st S) b o [])
 
-    gives : Gives apply w plan
-    unfolding entered applyHeaders
-    gives = record {
-      done = withLog 0 start (st .rec);
-      gone = st .rec;
-      call = call;
-      none-waits = none-waits st (settledLedger v) (plainNow st S) b o;
-      fits = checkpoint-fits st (settledLedger v) (plainNow st S) b o;
-      counts = countable st rc (st .rec .logged) (st .rec .sum) (rc .log-count);
-      headers = applyHeader st ∷ [];
-      notes = refl;
-      short = ofApply;
-      waits = applyWaits (st .rec .logged);
-      S = S;
-      plain-done = λ p.
-          plain ∙ apply-finished (plainNow st S) z (omega (arith, count))
-          ∙ ap (λ (k : ℕ). record { answer = 0; orders = k; plain = openPlain st (withLog 0 start (st .rec)) S (st .rec .power - k) }) (sym count);
-      plain-short = λ p. plain ∙ apply-short (plainNow st S) z (omega (arith, count));
-      cuts = cuts;
-      list = [];
-      noted-all = note-past (applyHeader st) [] (takes plan) (settledLedger v) (omega (arith, count)) ∙ noted-end (takes plan) _;
-      mode = o .mode;
-      blocks = refl;
-      opened = open-listed st rc (o .mode);
-      grouped = group-listed st rc (o .mode);
-      sum = sym (sumOf-nil start);
-      card = emptied-card st (settledLedger v) (plainNow st S) b o;
-      no-get = apply-no-get;
-    }
+      gives : Gives geo apply w plan
+      unfolding entered applyHeaders
+      gives = record {
+        done = withLog 0 start (st .rec);
+        gone = st .rec;
+        call = call;
+        none-waits = none-waits geo st (settledLedger v) (plainNow geo st S) b o;
+        fits = checkpoint-fits geo st (settledLedger v) (plainNow geo st S) b o;
+        counts = countable geo st rc (st .rec .logged) (st .rec .sum) (rc .log-count);
+        headers = applyHeader st ∷ [];
+        notes = refl;
+        short = ofApply;
+        waits = applyWaits (st .rec .logged);
+        S = S;
+        plain-done = λ p.
+            plain ∙ apply-finished (plainNow geo st S) z (omega (arith, count))
+            ∙ ap (λ (k : ℕ). record { answer = 0; orders = k; plain = openPlain geo st (withLog 0 start (st .rec)) S (st .rec .power - k) }) (sym count);
+        plain-short = λ p. plain ∙ apply-short (plainNow geo st S) z (omega (arith, count));
+        cuts = cuts;
+        list = [];
+        noted-all = note-past (applyHeader st) [] (takes plan) (settledLedger v) (omega (arith, count)) ∙ noted-end (takes plan) _;
+        mode = o .mode;
+        blocks = refl;
+        opened = open-listed geo st rc (o .mode);
+        grouped = group-listed geo st rc (o .mode);
+        sum = sym (sumOf-nil start);
+        card = emptied-card geo st (settledLedger v) (plainNow geo st S) b o;
+        no-get = apply-no-get;
+      }
 
-  apply-open : StepOK apply w
-  apply-open = go (ℕ-discrete (st .rec .logged) 0)
-    where
-      go : Dec (st .rec .logged ≡ 0) → StepOK apply w
-      go (yes z) = none-logged z
-      go (no z) = gives-step apply w (plan z) b (gives z)
+    apply-open : StepOK geo apply w
+    apply-open = go (ℕ-discrete (st .rec .logged) 0)
+      where
+        go : Dec (st .rec .logged ≡ 0) → StepOK geo apply w
+        go (yes z) = none-logged z
+        go (no z) = gives-step geo apply w (plan z) b (gives z)
 
-pub apply-step : (w : World) → WorldSim w → StepOK apply w
-apply-step = open-step apply refl apply-open
+  pub apply-step : (w : World) → WorldSim geo w → StepOK geo apply w
+  apply-step = open-step geo apply refl apply-open

@@ -10,10 +10,11 @@ use lib.Dec.{eqb, ltb}
 use lib.ListN.{length}
 use Rattle.cells.specs.Upto.Laws.{length-upTo}
 use Rattle.cells.specs.Entry.{blockBytes, entryAt}
-use Rattle.card.specs.Card.{places, blocksIn}
+use Rattle.card.specs.Card.{blocksIn}
 use Rattle.card.specs.CodeQueue.{Below}
 use Rattle.card.proofs.All.{All, all-map}
-use Rattle.journal.specs.Layout.{slots, wrongSize}
+use Rattle.journal.specs.Geometry.{Geometry}
+use Rattle.journal.specs.Layout.{wrongSize}
 use Rattle.journal.specs.Log.{entries}
 use Rattle.journal.specs.Choice.{choose, choiceNumber}
 use Rattle.journal.proofs.Logs.{neither, allData-all, all-allData}
@@ -33,123 +34,124 @@ use Rattle.history.proofs.WorkLists.{newcomers-merge}
 
 -- ---- 1: the sizes
 
-pub facts-sizes : (st : State) → SizeFacts st → wrongSizes st ≡ false
-unfolding wrongSizes wrongSize
-facts-sizes st f =
-    let whole : length (st .settled) % blockBytes ≡ 0 = omega arith in
-    rw (eq-eqb _ _ whole, le-ltb _ _ (f .least), le-ltb _ _ (f .most), eq-eqb _ _ (f .waiting), eq-eqb _ _ (f .work))
+module _ (geo : Geometry) where
+  pub facts-sizes : (st : State) → SizeFacts geo st → wrongSizes geo st ≡ false
+  unfolding wrongSizes wrongSize
+  facts-sizes st f =
+      let whole : length (st .settled) % blockBytes ≡ 0 = omega arith in
+      rw (eq-eqb _ _ whole, le-ltb _ _ (f .least), le-ltb _ _ (f .most), eq-eqb _ _ (f .waiting), eq-eqb _ _ (f .work))
 
--- ---- 2: the record
+  -- ---- 2: the record
 
--- "read when open"
-pub record ListFacts (st : State) : Type 0 where
-  pub open-data : All (Data (st .rec .blocks)) (listOf (st .work) openFrom (st .rec .opened))
-  pub group-data : All (Data (st .rec .blocks)) (listOf (st .work) groupFrom (st .rec .grouped))
-  pub log-data : All (Data (st .rec .blocks)) (entries (st .settled) (st .rec .logged))
-  pub open-distinct : Distinct (listOf (st .work) openFrom (st .rec .opened))
-  pub group-distinct : Distinct (listOf (st .work) groupFrom (st .rec .grouped))
+  -- "read when open"
+  pub record ListFacts (st : State) : Type 0 where
+    pub open-data : All (Data geo (st .rec .blocks)) (listOf (st .work) openFrom (st .rec .opened))
+    pub group-data : All (Data geo (st .rec .blocks)) (listOf (st .work) (groupFrom geo) (st .rec .grouped))
+    pub log-data : All (Data geo (st .rec .blocks)) (entries geo (st .settled) (st .rec .logged))
+    pub open-distinct : Distinct (listOf (st .work) openFrom (st .rec .opened))
+    pub group-distinct : Distinct (listOf (st .work) (groupFrom geo) (st .rec .grouped))
 
-pub record RecordFacts (st : State) : Type 0 where
-  pub mode : st .rec .mode ≤ down
-  pub open-count : st .rec .opened ≤ slots
-  pub group-count : st .rec .grouped ≤ slots
-  pub log-count : st .rec .logged ≤ slots
-  pub waiting-count : st .rec .waiting ≤ places
-  pub waiting-down : st .rec .waiting ≢ 0 → st .rec .mode ≡ down
-  pub blocks : st .rec .blocks ≡ blocksIn (st .settled)
-  pub waiting-below : Below (st .rec .blocks) (st .waiting) (st .rec .waiting)
-  pub lists : st .rec .mode ≡ openMode → ListFacts st
+  pub record RecordFacts (st : State) : Type 0 where
+    pub mode : st .rec .mode ≤ down
+    pub open-count : st .rec .opened ≤ geo .slots
+    pub group-count : st .rec .grouped ≤ geo .slots
+    pub log-count : st .rec .logged ≤ geo .slots
+    pub waiting-count : st .rec .waiting ≤ geo .places
+    pub waiting-down : st .rec .waiting ≢ 0 → st .rec .mode ≡ down
+    pub blocks : st .rec .blocks ≡ blocksIn (st .settled)
+    pub waiting-below : Below (st .rec .blocks) (st .waiting) (st .rec .waiting)
+    pub lists : st .rec .mode ≡ openMode → ListFacts st
 
-pub lists-facts : (st : State) → wrongLists st ≡ false → ListFacts st
-unfolding wrongLists
-lists-facts st e =
-    let a = neither _ _ e in
-    let b = neither _ _ (a .0) in
-    let c = neither _ _ (b .0) in
-    let d = neither _ _ (c .0) in
-    record {
-      open-data = strays-all (st .work) (st .rec .blocks) openFrom (st .rec .opened) (d .0);
-      group-data = strays-all (st .work) (st .rec .blocks) groupFrom (st .rec .grouped) (d .1);
-      log-data = allData-all (st .rec .blocks) (entries (st .settled) (st .rec .logged)) (not-false _ (c .1));
-      open-distinct = twice-distinct (st .work) openFrom (st .rec .opened) (b .1);
-      group-distinct = twice-distinct (st .work) groupFrom (st .rec .grouped) (a .1);
-    }
+  pub lists-facts : (st : State) → wrongLists geo st ≡ false → ListFacts st
+  unfolding wrongLists
+  lists-facts st e =
+      let a = neither _ _ e in
+      let b = neither _ _ (a .0) in
+      let c = neither _ _ (b .0) in
+      let d = neither _ _ (c .0) in
+      record {
+        open-data = strays-all geo (st .work) (st .rec .blocks) openFrom (st .rec .opened) (d .0);
+        group-data = strays-all geo (st .work) (st .rec .blocks) (groupFrom geo) (st .rec .grouped) (d .1);
+        log-data = allData-all geo (st .rec .blocks) (entries geo (st .settled) (st .rec .logged)) (not-false _ (c .1));
+        open-distinct = twice-distinct (st .work) openFrom (st .rec .opened) (b .1);
+        group-distinct = twice-distinct (st .work) (groupFrom geo) (st .rec .grouped) (a .1);
+      }
 
-pub facts-lists : (st : State) → ListFacts st → wrongLists st ≡ false
-unfolding wrongLists
-facts-lists st f =
-    rw (
-      all-strays (st .work) (st .rec .blocks) openFrom (st .rec .opened) (f .open-data),
-      all-strays (st .work) (st .rec .blocks) groupFrom (st .rec .grouped) (f .group-data),
-      all-allData (st .rec .blocks) (entries (st .settled) (st .rec .logged)) (f .log-data),
-      distinct-twice (st .work) openFrom (st .rec .opened) (f .open-distinct),
-      distinct-twice (st .work) groupFrom (st .rec .grouped) (f .group-distinct),
-    )
+  pub facts-lists : (st : State) → ListFacts st → wrongLists geo st ≡ false
+  unfolding wrongLists
+  facts-lists st f =
+      rw (
+        all-strays geo (st .work) (st .rec .blocks) openFrom (st .rec .opened) (f .open-data),
+        all-strays geo (st .work) (st .rec .blocks) (groupFrom geo) (st .rec .grouped) (f .group-data),
+        all-allData geo (st .rec .blocks) (entries geo (st .settled) (st .rec .logged)) (f .log-data),
+        distinct-twice (st .work) openFrom (st .rec .opened) (f .open-distinct),
+        distinct-twice (st .work) (groupFrom geo) (st .rec .grouped) (f .group-distinct),
+      )
 
-pub record-facts : (st : State) → wrongRecord st ≡ false → RecordFacts st
-record-facts st e =
-    let r = neither _ _ e in
-    let q = neither _ _ (r .0) in
-    let c = counts-facts st (q .0) in
-    record {
-      mode = c .mode;
-      open-count = c .open-count;
-      group-count = c .group-count;
-      log-count = c .log-count;
-      waiting-count = c .waiting-count;
-      waiting-down = c .waiting-down;
-      blocks = c .blocks;
-      waiting-below = waiting-facts st (q .1);
-      lists = λ p. lists-facts st (other _ _ (r .1) (eq-eqb _ _ p));
-    }
+  pub record-facts : (st : State) → wrongRecord geo st ≡ false → RecordFacts st
+  record-facts st e =
+      let r = neither _ _ e in
+      let q = neither _ _ (r .0) in
+      let c = counts-facts geo st (q .0) in
+      record {
+        mode = c .mode;
+        open-count = c .open-count;
+        group-count = c .group-count;
+        log-count = c .log-count;
+        waiting-count = c .waiting-count;
+        waiting-down = c .waiting-down;
+        blocks = c .blocks;
+        waiting-below = waiting-facts st (q .1);
+        lists = λ p. lists-facts st (other _ _ (r .1) (eq-eqb _ _ p));
+      }
 
-pub facts-record : (st : State) → RecordFacts st → wrongRecord st ≡ false
-unfolding wrongCounts wrongWaiting
-facts-record st f =
-    rw (le-ltb _ _ (f .mode), le-ltb _ _ (f .open-count), le-ltb _ _ (f .group-count), le-ltb _ _ (f .log-count), le-ltb _ _ (f .waiting-count), waits, eq-eqb _ _ (f .blocks), addresses)
-    (go (eqb (st .rec .mode) openMode) refl)
-  where
-    waits : not (eqb (st .rec .waiting) 0) && not (eqb (st .rec .mode) down) ≡ false
-    waits = at (eqb (st .rec .waiting) 0) refl
-      where
-        at : (t : Bool) → eqb (st .rec .waiting) 0 ≡ t → not t && not (eqb (st .rec .mode) down) ≡ false
-        at true p = refl
-        at false p = ap not (eq-eqb _ _ (f .waiting-down (eqb-false _ _ p)))
+  pub facts-record : (st : State) → RecordFacts st → wrongRecord geo st ≡ false
+  unfolding wrongCounts wrongWaiting
+  facts-record st f =
+      rw (le-ltb _ _ (f .mode), le-ltb _ _ (f .open-count), le-ltb _ _ (f .group-count), le-ltb _ _ (f .log-count), le-ltb _ _ (f .waiting-count), waits, eq-eqb _ _ (f .blocks), addresses)
+      (go (eqb (st .rec .mode) openMode) refl)
+    where
+      waits : not (eqb (st .rec .waiting) 0) && not (eqb (st .rec .mode) down) ≡ false
+      waits = at (eqb (st .rec .waiting) 0) refl
+        where
+          at : (t : Bool) → eqb (st .rec .waiting) 0 ≡ t → not t && not (eqb (st .rec .mode) down) ≡ false
+          at true p = refl
+          at false p = ap not (eq-eqb _ _ (f .waiting-down (eqb-false _ _ p)))
 
-    addresses : some (λ i. not (ltb (entryAt (st .waiting) i .address) (st .rec .blocks))) (st .rec .waiting) ≡ false
-    addresses =
-        none-some (λ i. not (ltb (entryAt (st .waiting) i .address) (st .rec .blocks))) (st .rec .waiting) (λ i p. ap not (lt-ltb _ _ (f .waiting-below i p)))
+      addresses : some (λ i. not (ltb (entryAt (st .waiting) i .address) (st .rec .blocks))) (st .rec .waiting) ≡ false
+      addresses =
+          none-some (λ i. not (ltb (entryAt (st .waiting) i .address) (st .rec .blocks))) (st .rec .waiting) (λ i p. ap not (lt-ltb _ _ (f .waiting-below i p)))
 
-    go : (t : Bool) → eqb (st .rec .mode) openMode ≡ t → t && wrongLists st ≡ false
-    go true p = facts-lists st (f .lists (eqb-true _ _ p))
-    go false p = refl
+      go : (t : Bool) → eqb (st .rec .mode) openMode ≡ t → t && wrongLists geo st ≡ false
+      go true p = facts-lists st (f .lists (eqb-true _ _ p))
+      go false p = refl
 
--- ---- both
+  -- ---- both
 
-pub record SoundFacts (st : State) : Type 0 where
-  pub sizes : SizeFacts st
-  pub counts : RecordFacts st
+  pub record SoundFacts (st : State) : Type 0 where
+    pub sizes : SizeFacts geo st
+    pub counts : RecordFacts st
 
-pub sound-facts : (st : State) → wrongSizes st ≡ false → wrongRecord st ≡ false → SoundFacts st
-sound-facts st s r = record { sizes = sizes-facts st s; counts = record-facts st r }
+  pub sound-facts : (st : State) → wrongSizes geo st ≡ false → wrongRecord geo st ≡ false → SoundFacts st
+  sound-facts st s r = record { sizes = sizes-facts geo st s; counts = record-facts st r }
 
--- only a record that is down waits
-pub idle : (st : State) → RecordFacts st → st .rec .mode ≢ down → st .rec .waiting ≡ 0
-idle st f h = go (eqb (st .rec .waiting) 0) refl
-  where
-    go : (t : Bool) → eqb (st .rec .waiting) 0 ≡ t → st .rec .waiting ≡ 0
-    go true p = eqb-true _ _ p
-    go false p = absurd (h (f .waiting-down (eqb-false _ _ p)))
+  -- only a record that is down waits
+  pub idle : (st : State) → RecordFacts st → st .rec .mode ≢ down → st .rec .waiting ≡ 0
+  idle st f h = go (eqb (st .rec .waiting) 0) refl
+    where
+      go : (t : Bool) → eqb (st .rec .waiting) 0 ≡ t → st .rec .waiting ≡ 0
+      go true p = eqb-true _ _ p
+      go false p = absurd (h (f .waiting-down (eqb-false _ _ p)))
 
--- ---- the plain disk's refusal
+  -- ---- the plain disk's refusal
 
--- the plain disk has what a refusal reads
-pub record Mirrors (st : State) (d : Plain) : Type 0 where
-  pub mode : d .mode ≡ st .rec .mode
-  pub N : d .N ≡ st .rec .blocks
-  pub waiting : d .waiting ≡ st .rec .waiting
-  pub T : st .rec .mode ≡ openMode → d .T ≡ listOf (st .work) openFrom (st .rec .opened)
-  pub G : st .rec .mode ≡ openMode → d .G ≡ listOf (st .work) groupFrom (st .rec .grouped)
+  -- the plain disk has what a refusal reads
+  pub record Mirrors (st : State) (d : Plain) : Type 0 where
+    pub mode : d .mode ≡ st .rec .mode
+    pub N : d .N ≡ st .rec .blocks
+    pub waiting : d .waiting ≡ st .rec .waiting
+    pub T : st .rec .mode ≡ openMode → d .T ≡ listOf (st .work) openFrom (st .rec .opened)
+    pub G : st .rec .mode ≡ openMode → d .G ≡ listOf (st .work) (groupFrom geo) (st .rec .grouped)
 
 -- tests behind the modes count when open
 when-open : (m x y : ℕ) → m ≤ down → (m ≡ openMode → x ≡ y) → cond (eqb m closed) 3 (cond (eqb m down) 4 x) ≡ cond (eqb m closed) 3 (cond (eqb m down) 4 y)
@@ -163,39 +165,40 @@ when-open m x y h e = go (eqb m closed) (eqb m down) refl refl
         let b : m ≢ down = eqb-false _ _ q in
         e (omega arith)
 
-module _ (st : State) (d : Plain) (sizes : wrongSizes st ≡ false) (counts : wrongRecord st ≡ false) (m : Mirrors st d) where
-  pub cause-refusal : (c : Call) → (c ≡ recover → st .rec .mode ≡ closed → choiceNumber (choose (st .rec .blocks) (st .settled)) ≡ 0)
-      → cause (requestOf c) st ≡ refusal c d
-  unfolding refusal
-  cause-refusal (local (Local.power k)) h = rw (sizes, counts)
-  cause-refusal (local (Local.put a b)) h =
-      rw (sizes, counts, m .mode, m .N)
-      (ap (λ (k : ℕ). cond (not (eqb (length b) blockBytes)) 1 k)
-      (when-open (st .rec .mode) _ _ (record-facts st counts .mode)
-      (λ o. rw (find-has (st .work) openFrom (st .rec .opened) a, m .T o, length-upTo (listed (st .work) openFrom) (st .rec .opened)))))
-  cause-refusal (local (Local.get a)) h = rw (sizes, counts, m .mode, m .N)
-  cause-refusal (local Local.commit) h =
-      rw (sizes, counts, m .mode)
-      (when-open (st .rec .mode) _ _ (record-facts st counts .mode)
-      (λ o. rw (newcomers-merge (st .work) (st .rec .grouped) (st .rec .opened) (record-facts st counts .lists o .open-distinct), m .T o, m .G o)))
-  cause-refusal (local Local.abandon) h = rw (sizes, counts, m .mode)
-  cause-refusal (save Save.sync) h = rw (sizes, counts, m .mode)
-  cause-refusal (save Save.apply) h = rw (sizes, counts, m .mode)
-  cause-refusal (save Save.recover) h = rw (sizes, counts, m .mode) (go (eqb (st .rec .mode) down) (eqb (st .rec .mode) openMode) refl refl)
-    where
-      choice : ℕ
-      choice = choiceNumber (choose (st .rec .blocks) (st .settled))
+module _ (geo : Geometry) where
+  module _ (st : State) (d : Plain) (sizes : wrongSizes geo st ≡ false) (counts : wrongRecord geo st ≡ false) (m : Mirrors geo st d) where
+    pub cause-refusal : (c : Call) → (c ≡ recover → st .rec .mode ≡ closed → choiceNumber (choose geo (st .rec .blocks) (st .settled)) ≡ 0)
+        → cause geo (requestOf c) st ≡ refusal geo c d
+    unfolding refusal
+    cause-refusal (local (Local.power k)) h = rw (sizes, counts)
+    cause-refusal (local (Local.put a b)) h =
+        rw (sizes, counts, m .mode, m .N)
+        (ap (λ (k : ℕ). cond (not (eqb (length b) blockBytes)) 1 k)
+        (when-open (st .rec .mode) _ _ (record-facts geo st counts .mode)
+        (λ o. rw (find-has (st .work) openFrom (st .rec .opened) a, m .T o, length-upTo (listed (st .work) openFrom) (st .rec .opened)))))
+    cause-refusal (local (Local.get a)) h = rw (sizes, counts, m .mode, m .N)
+    cause-refusal (local Local.commit) h =
+        rw (sizes, counts, m .mode)
+        (when-open (st .rec .mode) _ _ (record-facts geo st counts .mode)
+        (λ o. rw (newcomers-merge geo (st .work) (st .rec .grouped) (st .rec .opened) (record-facts geo st counts .lists o .open-distinct), m .T o, m .G o)))
+    cause-refusal (local Local.abandon) h = rw (sizes, counts, m .mode)
+    cause-refusal (save Save.sync) h = rw (sizes, counts, m .mode)
+    cause-refusal (save Save.apply) h = rw (sizes, counts, m .mode)
+    cause-refusal (save Save.recover) h = rw (sizes, counts, m .mode) (go (eqb (st .rec .mode) down) (eqb (st .rec .mode) openMode) refl refl)
+      where
+        choice : ℕ
+        choice = choiceNumber (choose geo (st .rec .blocks) (st .settled))
 
-      go : (s t : Bool) → eqb (st .rec .mode) down ≡ s → eqb (st .rec .mode) openMode ≡ t
-          → _≡_ {A = ℕ} (cond s 4 (cond t 5 (cond (eqb choice 8) 8 (cond (eqb choice 9) 9 0)))) (cond s 4 (cond t 5 0))
-      go true t p q = refl
-      go false true p q = refl
-      go false false p q =
-          let a : st .rec .mode ≢ down = eqb-false _ _ p in
-          let b : st .rec .mode ≢ openMode = eqb-false _ _ q in
-          let k : st .rec .mode ≤ down = record-facts st counts .mode in
-          rw (h refl (omega arith))
-  cause-refusal (cut ms) h = rw (sizes, counts, m .waiting)
+        go : (s t : Bool) → eqb (st .rec .mode) down ≡ s → eqb (st .rec .mode) openMode ≡ t
+            → _≡_ {A = ℕ} (cond s 4 (cond t 5 (cond (eqb choice 8) 8 (cond (eqb choice 9) 9 0)))) (cond s 4 (cond t 5 0))
+        go true t p q = refl
+        go false true p q = refl
+        go false false p q =
+            let a : st .rec .mode ≢ down = eqb-false _ _ p in
+            let b : st .rec .mode ≢ openMode = eqb-false _ _ q in
+            let k : st .rec .mode ≤ down = record-facts geo st counts .mode in
+            rw (h refl (omega arith))
+    cause-refusal (cut ms) h = rw (sizes, counts, m .waiting)
 
 -- ---- numbers that are not given
 
@@ -211,56 +214,57 @@ first-not : (rs : List Row) (k : ℕ) (st : State) → k ≢ 0 → All (λ r. r 
 first-not [] k st z a e = z (sym e)
 first-not (r ∷ rs) k st z a e = first-else r rs k st (a .0) (first-not rs k st z (a .1)) e
 
-own-not : (q : Request) (k : ℕ) (st : State) → k ≤ 2 → k ≢ 0 → first (ownRows q) st ≢ k
-own-not q k st small z = first-not (ownRows q) k st z (all-map (λ r. 2 < r .number) (λ r. r .number ≢ k) (λ r h e. omega arith) (ownRows q) (own-over q))
+module _ (geo : Geometry) where
+  own-not : (q : Request) (k : ℕ) (st : State) → k ≤ 2 → k ≢ 0 → first (ownRows geo q) st ≢ k
+  own-not q k st small z = first-not (ownRows geo q) k st z (all-map (λ r. 2 < r .number) (λ r. r .number ≢ k) (λ r h e. omega arith) (ownRows geo q) (own-over geo q))
 
--- 1 is for the call's own block
-pub cause-one : (q : Request) (st : State) → wrongSizes st ≡ false → cause q st ≡ 1 → wrongBlock q ≡ true
-cause-one q st sizes = go (rules q) (own-not q 1 st (omega arith) (omega arith))
-  where
-    own-one : (t own : Bool) (rest : ℕ) → t ≡ false → cond (t || own) 1 rest ≡ 1 → rest ≢ 1 → own ≡ true
-    own-one true own rest z e h = absurd (false≢true (sym z))
-    own-one false true rest z e h = refl
-    own-one false false rest z e h = absurd (h e)
+  -- 1 is for the call's own block
+  pub cause-one : (q : Request) (st : State) → wrongSizes geo st ≡ false → cause geo q st ≡ 1 → wrongBlock geo q ≡ true
+  cause-one q st sizes = go (rules geo q) (own-not q 1 st (omega arith) (omega arith))
+    where
+      own-one : (t own : Bool) (rest : ℕ) → t ≡ false → cond (t || own) 1 rest ≡ 1 → rest ≢ 1 → own ≡ true
+      own-one true own rest z e h = absurd (false≢true (sym z))
+      own-one false true rest z e h = refl
+      own-one false false rest z e h = absurd (h e)
 
-    go : (r : Rules) → first (restOf r) st ≢ 1 → first (rows r) st ≡ 1 → ownSize r ≡ true
-    go (ofBytes own rest) h e = own-one (wrongSizes st) own (first rest st) sizes e h
-    go (ofRecord own rest) h e = own-one (wrongSizes st) own (first (recordRow ∷ rest) st) sizes e (first-else recordRow rest 1 st (omega arith) h)
-    go (ofOpen own rest) h e =
-        own-one (wrongSizes st) own (first (recordRow ∷ closedRow ∷ downRow ∷ rest) st) sizes e
-        (first-else recordRow (closedRow ∷ downRow ∷ rest) 1 st (omega arith)
-        (first-else closedRow (downRow ∷ rest) 1 st (omega arith)
-        (first-else downRow rest 1 st (omega arith) h)))
+      go : (r : Rules) → first (restOf r) st ≢ 1 → first (rows geo r) st ≡ 1 → ownSize r ≡ true
+      go (ofBytes own rest) h e = own-one (wrongSizes geo st) own (first rest st) sizes e h
+      go (ofRecord own rest) h e = own-one (wrongSizes geo st) own (first (recordRow geo ∷ rest) st) sizes e (first-else (recordRow geo) rest 1 st (omega arith) h)
+      go (ofOpen own rest) h e =
+          own-one (wrongSizes geo st) own (first (recordRow geo ∷ closedRow ∷ downRow ∷ rest) st) sizes e
+          (first-else (recordRow geo) (closedRow ∷ downRow ∷ rest) 1 st (omega arith)
+          (first-else closedRow (downRow ∷ rest) 1 st (omega arith)
+          (first-else downRow rest 1 st (omega arith) h)))
 
-pub cause-two : (q : Request) (st : State) → wrongRecord st ≡ false → cause q st ≢ 2
-cause-two q st counts = go (rules q) (own-not q 2 st (omega arith) (omega arith))
-  where
-    go : (r : Rules) → first (restOf r) st ≢ 2 → first (rows r) st ≢ 2
-    go (ofBytes own rest) h = first-else (sizeRow own) rest 2 st (omega arith) h
-    go (ofRecord own rest) h = first-else (sizeRow own) (recordRow ∷ rest) 2 st (omega arith) (rw counts h)
-    go (ofOpen own rest) h =
-        first-else (sizeRow own) (recordRow ∷ closedRow ∷ downRow ∷ rest) 2 st (omega arith)
-        (rw counts
-        (first-else closedRow (downRow ∷ rest) 2 st (omega arith)
-        (first-else downRow rest 2 st (omega arith) h)))
+  pub cause-two : (q : Request) (st : State) → wrongRecord geo st ≡ false → cause geo q st ≢ 2
+  cause-two q st counts = go (rules geo q) (own-not q 2 st (omega arith) (omega arith))
+    where
+      go : (r : Rules) → first (restOf r) st ≢ 2 → first (rows geo r) st ≢ 2
+      go (ofBytes own rest) h = first-else (sizeRow geo own) rest 2 st (omega arith) h
+      go (ofRecord own rest) h = first-else (sizeRow geo own) (recordRow geo ∷ rest) 2 st (omega arith) (rw counts h)
+      go (ofOpen own rest) h =
+          first-else (sizeRow geo own) (recordRow geo ∷ closedRow ∷ downRow ∷ rest) 2 st (omega arith)
+          (rw counts
+          (first-else closedRow (downRow ∷ rest) 2 st (omega arith)
+          (first-else downRow rest 2 st (omega arith) h)))
 
--- ---- a call that no row of the table refuses
+  -- ---- a call that no row of the table refuses
 
-pub cause-passes : (q : Request) (st : State) → cause q st ≡ 0 → Passes q st
-cause-passes q st e = Causes·cause-passes q st 0 (sym e) refl
+  pub cause-passes : (q : Request) (st : State) → cause geo q st ≡ 0 → Passes geo q st
+  cause-passes q st e = Causes·cause-passes geo q st 0 (sym e) refl
 
--- a call that needs an open store
-pub record IsOpen (st : State) : Type 0 where
-  pub facts : SoundFacts st
-  pub mode : st .rec .mode ≡ openMode
-  pub lists : ListFacts st
+  -- a call that needs an open store
+  pub record IsOpen (st : State) : Type 0 where
+    pub facts : SoundFacts geo st
+    pub mode : st .rec .mode ≡ openMode
+    pub lists : ListFacts geo st
 
-pub cause-opened : (q : Request) (st : State) → readsRecord q ≡ true → needsOpen q ≡ true → cause q st ≡ 0 → IsOpen st
-cause-opened q st reads needs e =
-    let p = cause-passes q st e in
-    let f = sound-facts st (p .sizes) (other _ _ (p .counts) reads) in
-    let a : st .rec .mode ≢ closed = eqb-false _ _ (other _ _ (p .not-closed) needs) in
-    let b : st .rec .mode ≢ down = eqb-false _ _ (other _ _ (p .not-down) needs) in
-    let few : st .rec .mode ≤ down = f .counts .mode in
-    let mode : st .rec .mode ≡ openMode = omega arith in
-    record { facts = f; mode = mode; lists = f .counts .lists mode }
+  pub cause-opened : (q : Request) (st : State) → readsRecord geo q ≡ true → needsOpen geo q ≡ true → cause geo q st ≡ 0 → IsOpen st
+  cause-opened q st reads needs e =
+      let p = cause-passes q st e in
+      let f = sound-facts geo st (p .sizes) (other _ _ (p .counts) reads) in
+      let a : st .rec .mode ≢ closed = eqb-false _ _ (other _ _ (p .not-closed) needs) in
+      let b : st .rec .mode ≢ down = eqb-false _ _ (other _ _ (p .not-down) needs) in
+      let few : st .rec .mode ≤ down = f .counts .mode in
+      let mode : st .rec .mode ≡ openMode = omega arith in
+      record { facts = f; mode = mode; lists = f .counts .lists mode }

@@ -11,6 +11,7 @@ use Rattle.card.specs.Card.{Card, cut, settle, blockAt, blocksIn}
 use Rattle.card.proofs.All.{All, all-map}
 use Rattle.card.proofs.Runs.{Whole, length-settle}
 use Rattle.card.specs.Marks.{keptAt}
+use Rattle.journal.specs.Geometry.{Geometry}
 use Rattle.journal.specs.Layout.{isData}
 use Rattle.journal.specs.Header.{emptyHeader}
 use Rattle.journal.specs.Log.{entries}
@@ -32,111 +33,112 @@ use Rattle.history.proofs.PlainLaws.{waits-homes, waits-flushed, waits-
 use Rattle.history.proofs.Notes.{note-before, note-at}
 use Rattle.history.proofs.OpenFacts as Facts
 
-module _ (st : State) (l : Ledger) (d : Plain) (b : Basics st d) (o : OpenSim st l d) where
-  abbrev N : ℕ
-  N = st .rec .blocks
+module _ (geo : Geometry) where
+  module _ (st : State) (l : Ledger) (d : Plain) (b : Basics geo st d) (o : OpenSim geo st l d) where
+    abbrev N : ℕ
+    N = st .rec .blocks
 
-  abbrev n : ℕ
-  n = st .rec .logged
+    abbrev n : ℕ
+    n = st .rec .logged
 
-  abbrev log : List Entry
-  log = Facts.log st l d b o
+    abbrev log : List Entry
+    log = Facts.log geo st l d b o
 
-  length-log : length log ≡ n
-  length-log = Facts.length-log st l d b o
+    length-log : length log ≡ n
+    length-log = Facts.length-log geo st l d b o
 
-  abbrev top : Entry
-  top = headerEntry (emptyHeader (st .rec .blocks))
+    abbrev top : Entry
+    top = headerEntry (emptyHeader (st .rec .blocks))
 
-  top-whole : Whole top
-  top-whole = length-encode (emptyHeader (st .rec .blocks))
+    top-whole : Whole top
+    top-whole = length-encode (emptyHeader (st .rec .blocks))
 
-  -- the home blocks; an empty log's header
-  abbrev pub checkpoint : Plan
-  checkpoint = log ∷ (top ∷ []) ∷ []
+    -- the home blocks; an empty log's header
+    abbrev pub checkpoint : Plan
+    checkpoint = log ∷ (top ∷ []) ∷ []
 
-  pub checkpoint-orders : checkpointOrders N (entries (st .settled) n) ≡ planned checkpoint
-  checkpoint-orders = ap (checkpointOrders N) (Facts.entries-log st l d b o) ∙ checkpoint-writes N log
+    pub checkpoint-orders : checkpointOrders N (entries geo (st .settled) n) ≡ planned checkpoint
+    checkpoint-orders = ap (checkpointOrders N) (Facts.entries-log geo st l d b o) ∙ checkpoint-writes N log
 
-  pub checkpoint-takes : takes checkpoint ≡ n + 3
-  checkpoint-takes = omega (arith, length-log)
+    pub checkpoint-takes : takes checkpoint ≡ n + 3
+    checkpoint-takes = omega (arith, length-log)
 
-  log-low : All (λ e. e .address < N) log
-  log-low = all-map (Data N) (λ e. e .address < N) (λ e q. data-below N (e .address) q) log (Facts.log-data st l d b o)
+    log-low : All (λ e. e .address < N) log
+    log-low = all-map (Data geo N) (λ e. e .address < N) (λ e q. data-below geo N (e .address) q) log (Facts.log-data geo st l d b o)
 
-  pub checkpoint-fits : All (Fits N) checkpoint
-  checkpoint-fits = (
-    record { few = omega (arith, length-log, Facts.n-most st l d b o); whole = Facts.log-whole st l d b o; low = log-low },
-    (record { few = omega arith; whole = (top-whole, tt); low = (omega (arith, Facts.big st l d b o), tt) }, tt),
-  )
+    pub checkpoint-fits : All (Fits geo N) checkpoint
+    checkpoint-fits = (
+      record { few = omega (arith, length-log, Facts.n-most geo st l d b o); whole = Facts.log-whole geo st l d b o; low = log-low },
+      (record { few = omega arith; whole = (top-whole, tt); low = (omega (arith, Facts.big geo st l d b o), tt) }, tt),
+    )
 
-  -- ---- what it leaves
+    -- ---- what it leaves
 
-  abbrev homed : List ℕ
-  homed = settle log (st .settled)
+    abbrev homed : List ℕ
+    homed = settle log (st .settled)
 
-  abbrev pub emptied : List ℕ
-  emptied = settles checkpoint (st .settled)
+    abbrev pub emptied : List ℕ
+    emptied = settles checkpoint (st .settled)
 
-  size-homed : N ≡ blocksIn homed
-  size-homed = Facts.size st l d b o ∙ ap (λ (k : ℕ). k / blockBytes) (sym (length-settle log (st .settled)))
+    size-homed : N ≡ blocksIn homed
+    size-homed = Facts.size st l d b o ∙ ap (λ (k : ℕ). k / blockBytes) (sym (length-settle log (st .settled)))
 
-  pub size-emptied : N ≡ blocksIn emptied
-  size-emptied = Facts.size st l d b o ∙ ap (λ (k : ℕ). k / blockBytes) (sym (length-settles checkpoint (st .settled)))
+    pub size-emptied : N ≡ blocksIn emptied
+    size-emptied = Facts.size st l d b o ∙ ap (λ (k : ℕ). k / blockBytes) (sym (length-settles checkpoint (st .settled)))
 
-  homes : WholeCard N (blockAt homed) (l .written) (d .S) n × ((a : ℕ) → isData N a ≡ true → d .S a ≡ blockAt homed a)
-  homes =
-      let q : N ≡ blocksIn (st .settled) = Facts.size st l d b o in
-      homes-done N (st .settled) n (l .written) (d .S) homed (Facts.big st l d b o) (o .card)
-      (λ a h. settled-laid log (st .settled) homed a refl (omega arith) (Facts.log-whole st l d b o))
+    homes : WholeCard geo N (blockAt homed) (l .written) (d .S) n × ((a : ℕ) → isData geo N a ≡ true → d .S a ≡ blockAt homed a)
+    homes =
+        let q : N ≡ blocksIn (st .settled) = Facts.size st l d b o in
+        homes-done geo N (st .settled) n (l .written) (d .S) homed (Facts.big geo st l d b o) (o .card)
+        (λ a h. settled-laid log (st .settled) homed a refl (omega arith) (Facts.log-whole geo st l d b o))
 
-  pub emptied-card : WholeCard N (blockAt emptied) [] (d .S) 0
-  emptied-card =
-      let q : N ≡ blocksIn homed = size-homed in
-      empty-card N homed (d .S) emptied (Facts.big st l d b o) (homes .1) (λ a h. settled-laid (top ∷ []) homed emptied a refl (omega arith) (top-whole, tt))
+    pub emptied-card : WholeCard geo N (blockAt emptied) [] (d .S) 0
+    emptied-card =
+        let q : N ≡ blocksIn homed = size-homed in
+        empty-card geo N homed (d .S) emptied (Facts.big geo st l d b o) (homes .1) (λ a h. settled-laid (top ∷ []) homed emptied a refl (omega arith) (top-whole, tt))
 
-  -- ---- cut short, whatever headers follow
+    -- ---- cut short, whatever headers follow
 
-  pub record CheckpointCuts (hs : List PlannedHeader) (s : List ℕ) (q : List Entry) (k : ℕ) : Type 0 where
-    pub waiting : applyWaits n k ≡ length q
-    pub leads : (r : Card) → Left (cardIn st) r s q 0 → (ms : List ℕ) → length ms ≡ length q
-        → Leads N (cut ms r .settled) (cutWritten ms (noted (applyHeader st ∷ hs) k l)) (d .S)
-        (applyVerdict k n false (headerKept ms (applyWaits n k)) .n) (applyVerdict k n false (headerKept ms (applyWaits n k)) .F)
+    pub record CheckpointCuts (hs : List PlannedHeader) (s : List ℕ) (q : List Entry) (k : ℕ) : Type 0 where
+      pub waiting : applyWaits n k ≡ length q
+      pub leads : (r : Card) → Left (cardIn st) r s q 0 → (ms : List ℕ) → length ms ≡ length q
+          → Leads geo N (cut ms r .settled) (cutWritten ms (noted (applyHeader st ∷ hs) k l)) (d .S)
+          (applyVerdict k n false (headerKept ms (applyWaits n k)) .n) (applyVerdict k n false (headerKept ms (applyWaits n k)) .F)
 
-  nothing-waits : (ms : List ℕ) → cutWritten ms l ≡ l .written
-  unfolding resolved
-  nothing-waits ms = rw (o .pending)
-
-  module _ (hs : List PlannedHeader) where
-    -- among the home blocks
-    at-home : (j k : ℕ) → j ≤ length log → k ≡ 0 + j → CheckpointCuts hs (st .settled) (take j log) k
-    at-home j k h e = record {
-      waiting = waits-homes n k (omega (arith, length-log)) ∙ sym (length-take j log ∙ (omega arith));
-      leads = λ r f ms m.
-          rw (note-before (applyHeader st) hs k l (omega (arith, length-log)), nothing-waits ms, apply-before k n false (headerKept ms (applyWaits n k)) (omega (arith, length-log)))
-          (homes-cuts N (st .settled) n (l .written) (d .S) (cardIn st) r j ms (Facts.big st l d b o) (Facts.size st l d b o) (o .card) (Facts.log-whole st l d b o) f);
-    }
-
-    -- behind their flush
-    flushed : (k : ℕ) → k ≡ n + 1 → CheckpointCuts hs homed [] k
-    flushed k e = record {
-      waiting = waits-flushed n k e;
-      leads = λ r f ms m.
-          rw (note-before (applyHeader st) hs k l (omega arith), nothing-waits ms, apply-before k n false (headerKept ms (applyWaits n k)) (omega arith))
-          (still-cuts N homed n (l .written) (d .S) (cardIn st) r 0 ms (Facts.big st l d b o) size-homed (homes .0) f m);
-    }
-
-    -- behind the header
-    headed : (k : ℕ) → k ≡ n + 2 → CheckpointCuts hs homed (top ∷ []) k
+    nothing-waits : (ms : List ℕ) → cutWritten ms l ≡ l .written
     unfolding resolved
-    headed k e =
-        let one : applyWaits n k ≡ 1 = waits-header n k e in
-        record {
-          waiting = one;
-          leads = λ r f ms m.
-              rw (note-at (applyHeader st) hs k l (omega arith), apply-at k n false (headerKept ms (applyWaits n k)) e, kept-mark ms (applyWaits n k) 0 one)
-              (header-cuts N homed n (l .written) (d .S) (cardIn st) r ms (Facts.big st l d b o) size-homed (homes .0) (homes .1) top-whole f m (keptAt ms 0) refl);
-        }
+    nothing-waits ms = rw (o .pending)
 
-    pub checkpoint-cuts : Throughout (CheckpointCuts hs) checkpoint (st .settled) 0
-    checkpoint-cuts = (at-home, for-one (CheckpointCuts hs) top homed (0 + (length log + 1)) (λ k e. flushed k (omega (arith, length-log))) (λ k e. headed k (omega (arith, length-log))))
+    module _ (hs : List PlannedHeader) where
+      -- among the home blocks
+      at-home : (j k : ℕ) → j ≤ length log → k ≡ 0 + j → CheckpointCuts hs (st .settled) (take j log) k
+      at-home j k h e = record {
+        waiting = waits-homes n k (omega (arith, length-log)) ∙ sym (length-take j log ∙ (omega arith));
+        leads = λ r f ms m.
+            rw (note-before (applyHeader st) hs k l (omega (arith, length-log)), nothing-waits ms, apply-before k n false (headerKept ms (applyWaits n k)) (omega (arith, length-log)))
+            (homes-cuts geo N (st .settled) n (l .written) (d .S) (cardIn st) r j ms (Facts.big geo st l d b o) (Facts.size st l d b o) (o .card) (Facts.log-whole geo st l d b o) f);
+      }
+
+      -- behind their flush
+      flushed : (k : ℕ) → k ≡ n + 1 → CheckpointCuts hs homed [] k
+      flushed k e = record {
+        waiting = waits-flushed n k e;
+        leads = λ r f ms m.
+            rw (note-before (applyHeader st) hs k l (omega arith), nothing-waits ms, apply-before k n false (headerKept ms (applyWaits n k)) (omega arith))
+            (still-cuts geo N homed n (l .written) (d .S) (cardIn st) r 0 ms (Facts.big geo st l d b o) size-homed (homes .0) f m);
+      }
+
+      -- behind the header
+      headed : (k : ℕ) → k ≡ n + 2 → CheckpointCuts hs homed (top ∷ []) k
+      unfolding resolved
+      headed k e =
+          let one : applyWaits n k ≡ 1 = waits-header n k e in
+          record {
+            waiting = one;
+            leads = λ r f ms m.
+                rw (note-at (applyHeader st) hs k l (omega arith), apply-at k n false (headerKept ms (applyWaits n k)) e, kept-mark ms (applyWaits n k) 0 one)
+                (header-cuts geo N homed n (l .written) (d .S) (cardIn st) r ms (Facts.big geo st l d b o) size-homed (homes .0) (homes .1) top-whole f m (keptAt ms 0) refl);
+          }
+
+      pub checkpoint-cuts : Throughout (CheckpointCuts hs) checkpoint (st .settled) 0
+      checkpoint-cuts = (at-home, for-one (CheckpointCuts hs) top homed (0 + (length log + 1)) (λ k e. flushed k (omega (arith, length-log))) (λ k e. headed k (omega (arith, length-log))))

@@ -23,6 +23,7 @@ use Rattle.store.specs.Causes.{cause}
 use Rattle.store.specs.Outcomes.{completed}
 use Rattle.store.specs.Cut.{shut, cutCall}
 use Rattle.store.proofs.Causes.{sizes-facts}
+use Rattle.journal.specs.Geometry.{Geometry}
 use Rattle.history.specs.Call.{get, cut}
 use Rattle.history.specs.Plain.{Plain, Done, plainStep, none, still, closedWith, Verdict, refusal, plainCut, headerKept}
 use Rattle.history.specs.Dispatch.{dispatch}
@@ -41,158 +42,163 @@ unfolding Card.cut kept settle
 cut-nothing [] st h = refl
 cut-nothing (m ∷ ms) st h = absurd (omega arith)
 
--- the card stands as it is, no header waits, no call was cut short
-still-leads : (ms : List ℕ) (st : State) (l : Ledger) (d : Plain) → length ms ≡ 0 → d .short ≡ none → l .pending ≡ nothing
-    → ClosedCard (st .rec .blocks) (blockAt (st .settled)) (l .written) (d .S) (d .n) (d .F) → CutLeads ms st l d
-unfolding resolved
-still-leads ms st l d h s p r =
-    rw (s, p, choose-none (d .n) (length (d .G)) (d .F) (headerKept ms (d .waiting)) (sameLog (foundIn (cutSettled ms st)) (l .written)), cut-nothing ms st h)
-    (closed-leads (st .rec .blocks) (st .settled) (l .written) (d .S) (d .n) (d .F) r)
+module _ (geo : Geometry) where
+  -- the card stands as it is, no header waits, no call was cut short
+  still-leads : (ms : List ℕ) (st : State) (l : Ledger) (d : Plain) → length ms ≡ 0 → d .short ≡ none → l .pending ≡ nothing
+      → ClosedCard geo (st .rec .blocks) (blockAt (st .settled)) (l .written) (d .S) (d .n) (d .F) → CutLeads geo ms st l d
+  unfolding resolved
+  still-leads ms st l d h s p r =
+      rw (s, p, choose-none geo (d .n) (length (d .G)) (d .F) (headerKept ms (d .waiting)) (sameLog (foundIn geo (cutSettled ms st)) (l .written)), cut-nothing ms st h)
+      (closed-leads geo (st .rec .blocks) (st .settled) (l .written) (d .S) (d .n) (d .F) r)
 
-pub all-cuts : (ms : List ℕ) (st : State) (l : Ledger) (d : Plain) → Sim st l d → length ms ≡ st .rec .waiting → CutLeads ms st l d
-all-cuts ms st l d m h = go (m .phase)
-  where
-    quiet : st .rec .mode ≢ down → length ms ≡ 0
-    quiet z = h ∙ idle st (record-facts st (m .basics .counts)) z
+  pub all-cuts : (ms : List ℕ) (st : State) (l : Ledger) (d : Plain) → Sim geo st l d → length ms ≡ st .rec .waiting → CutLeads geo ms st l d
+  all-cuts ms st l d m h = go (m .phase)
+    where
+      quiet : st .rec .mode ≢ down → length ms ≡ 0
+      quiet z = h ∙ idle geo st (record-facts geo st (m .basics .counts)) z
 
-    go : OpenSim st l d ⊎ (ClosedSim st l d ⊎ DownSim st l d) → CutLeads ms st l d
-    go (_⊎_.inl o) =
-        still-leads ms st l d (quiet (λ z. omega (arith, o .mode))) (o .short) (o .pending)
-        (rw (o .n, o .F) (o .card))
-    go (_⊎_.inr (_⊎_.inl o)) = still-leads ms st l d (quiet (λ z. omega (arith, o .mode))) (o .short) (o .pending) (o .card)
-    go (_⊎_.inr (_⊎_.inr o)) = o .cuts ms h
+      go : OpenSim geo st l d ⊎ (ClosedSim geo st l d ⊎ DownSim geo st l d) → CutLeads geo ms st l d
+      go (_⊎_.inl o) =
+          still-leads ms st l d (quiet (λ z. omega (arith, o .mode))) (o .short) (o .pending)
+          (rw (o .n, o .F) (o .card))
+      go (_⊎_.inr (_⊎_.inl o)) = still-leads ms st l d (quiet (λ z. omega (arith, o .mode))) (o .short) (o .pending) (o .card)
+      go (_⊎_.inr (_⊎_.inr o)) = o .cuts ms h
 
 -- ---- the state after an accepted cut
 
 abbrev pub afterCut : List ℕ → State → State
 afterCut ms st = withCard (Card.cut ms (cardIn st)) (withRecord (shut (st .rec)) st)
 
-pub cut-served : (ms : List ℕ) (st : State) → cause (Request.cut ms) st ≡ 0 → cutCall ms st ≡ completed (afterCut ms st)
-unfolding cutCall
-cut-served ms st h = rw (eq-eqb _ 0 h)
+module _ (geo : Geometry) where
+  pub cut-served : (ms : List ℕ) (st : State) → cause geo (Request.cut ms) st ≡ 0 → cutCall geo ms st ≡ completed (afterCut ms st)
+  unfolding cutCall
+  cut-served ms st h = rw (eq-eqb _ 0 h)
 
 abbrev pub writtenAt : List ℕ → Ledger → Ledger
 writtenAt ms l = settledBy (cutWritten ms l)
 
-pub cut-entered : (ms : List ℕ) (st : State) (l : Ledger) → cause (Request.cut ms) st ≡ 0 → entered (cut ms) st l ≡ writtenAt ms l
-unfolding entered
-cut-entered ms st l h = rw (cut-served ms st h)
+module _ (geo : Geometry) where
+  pub cut-entered : (ms : List ℕ) (st : State) (l : Ledger) → cause geo (Request.cut ms) st ≡ 0 → entered geo (cut ms) st l ≡ writtenAt ms l
+  unfolding entered
+  cut-entered ms st l h = rw (cut-served geo ms st h)
 
 -- the plain disk after it
 abbrev pub plainAt : State → Plain → Disk → ℕ → Bool → Plain
 plainAt st d S n F = closedWith S n F d
 
-pub cut-basics : (ms : List ℕ) (st : State) (d : Plain) (S : Disk) (n : ℕ) (F : Bool) → Basics st d → Basics (afterCut ms st) (plainAt st d S n F)
-unfolding Card.cut
-cut-basics ms st d S n F b =
-    let s = sizes-facts st (b .sizes) in
-    let r = record-facts st (b .counts) in
-    let e : length (Card.cut ms (cardIn st) .settled) ≡ length (st .settled) = cut-length ms (cardIn st) in
-    record {
-      sizes = facts-sizes (afterCut ms st) (record { settled = rw e (s .settled); least = rw e (s .least); most = rw e (s .most); waiting = s .waiting; work = s .work });
-      counts = facts-record (afterCut ms st)
-          (record {
-            mode = omega arith;
-            open-count = omega arith;
-            group-count = omega arith;
-            log-count = omega arith;
-            waiting-count = omega arith;
-            waiting-down = λ z. absurd (z refl);
-            blocks = rw e (r .blocks);
-            waiting-below = λ i z. absurd (omega arith);
-            lists = λ z. absurd (omega arith);
-          });
-      mirrors = record { mode = refl; N = b .mirrors .N; waiting = refl; T = λ z. absurd (omega arith); G = λ z. absurd (omega arith) };
-      power = b .power;
-    }
+module _ (geo : Geometry) where
+  pub cut-basics : (ms : List ℕ) (st : State) (d : Plain) (S : Disk) (n : ℕ) (F : Bool) → Basics geo st d → Basics geo (afterCut ms st) (plainAt st d S n F)
+  unfolding Card.cut
+  cut-basics ms st d S n F b =
+      let s = sizes-facts geo st (b .sizes) in
+      let r = record-facts geo st (b .counts) in
+      let e : length (Card.cut ms (cardIn st) .settled) ≡ length (st .settled) = cut-length ms (cardIn st) in
+      record {
+        sizes = facts-sizes geo (afterCut ms st) (record { settled = rw e (s .settled); least = rw e (s .least); most = rw e (s .most); waiting = s .waiting; work = s .work });
+        counts = facts-record geo (afterCut ms st)
+            (record {
+              mode = omega arith;
+              open-count = omega arith;
+              group-count = omega arith;
+              log-count = omega arith;
+              waiting-count = omega arith;
+              waiting-down = λ z. absurd (z refl);
+              blocks = rw e (r .blocks);
+              waiting-below = λ i z. absurd (omega arith);
+              lists = λ z. absurd (omega arith);
+            });
+        mirrors = record { mode = refl; N = b .mirrors .N; waiting = refl; T = λ z. absurd (omega arith); G = λ z. absurd (omega arith) };
+        power = b .power;
+      }
 
-pub cut-sim : (ms : List ℕ) (st : State) (d : Plain) (w : List Entry) (S : Disk) (n : ℕ) (F : Bool) → Basics st d
-    → ClosedCard (st .rec .blocks) (blockAt (cutSettled ms st)) w S n F
-    → Sim (afterCut ms st) (settledBy w) (plainAt st d S n F)
-cut-sim ms st d w S n F b r = record {
-  basics = cut-basics ms st d S n F b;
-  phase = _⊎_.inr (_⊎_.inl (record { mode = refl; T = refl; G = refl; short = refl; pending = refl; card = r }));
-}
+  pub cut-sim : (ms : List ℕ) (st : State) (d : Plain) (w : List Entry) (S : Disk) (n : ℕ) (F : Bool) → Basics geo st d
+      → ClosedCard geo (st .rec .blocks) (blockAt (cutSettled ms st)) w S n F
+      → Sim geo (afterCut ms st) (settledBy w) (plainAt st d S n F)
+  cut-sim ms st d w S n F b r = record {
+    basics = cut-basics ms st d S n F b;
+    phase = _⊎_.inr (_⊎_.inl (record { mode = refl; T = refl; G = refl; short = refl; pending = refl; card = r }));
+  }
 
--- ---- the step
+  -- ---- the step
 
--- a cut that is not refused has marks that fit
-pub marks-fit : (ms : List ℕ) (d : Plain) → refusal (cut ms) d ≡ 0 → marksFit ms (d .waiting) ≡ true
-unfolding refusal
-marks-fit ms d h = go (marksFit ms (d .waiting)) h
-  where
-    go : (t : Bool) → _≡_ {A = ℕ} (cond (not t) 10 0) 0 → t ≡ true
-    go true q = refl
-    go false q = absurd (omega arith)
+  -- a cut that is not refused has marks that fit
+  pub marks-fit : (ms : List ℕ) (d : Plain) → refusal geo (cut ms) d ≡ 0 → marksFit ms (d .waiting) ≡ true
+  unfolding refusal
+  marks-fit ms d h = go (marksFit ms (d .waiting)) h
+    where
+      go : (t : Bool) → _≡_ {A = ℕ} (cond (not t) 10 0) 0 → t ≡ true
+      go true q = refl
+      go false q = absurd (omega arith)
 
 cut-no-get : (ms : List ℕ) (a : ℕ) → cut ms ≡ get a → ⊥
 cut-no-get ms a e = let z : _≡_ {A = ℕ} 0 1 = cc in omega arith
 
-module _ (ms : List ℕ) (w : World) (m : WorldSim w) (h : refusal (cut ms) (w .plain) ≡ 0) where
-  accepted : cause (Request.cut ms) (w .store) ≡ 0
-  accepted = same-cause (w .store) (w .ledger) (w .plain) m (cut ms) ∙ h
+module _ (geo : Geometry) where
+  module _ (ms : List ℕ) (w : World) (m : WorldSim geo w) (h : refusal geo (cut ms) (w .plain) ≡ 0) where
+    accepted : cause geo (Request.cut ms) (w .store) ≡ 0
+    accepted = same-cause geo (w .store) (w .ledger) (w .plain) m (cut ms) ∙ h
 
-  pub served-cut : dispatch (cut ms) (w .store) ≡ completed (afterCut ms (w .store))
-  served-cut = cut-served ms (w .store) accepted
+    pub served-cut : dispatch geo (cut ms) (w .store) ≡ completed (afterCut ms (w .store))
+    served-cut = cut-served geo ms (w .store) accepted
 
-  pub store-cut : storeNext (cut ms) w ≡ afterCut ms (w .store)
-  store-cut = ap (λ (o : Outcome). o .state) served-cut
+    pub store-cut : storeNext geo (cut ms) w ≡ afterCut ms (w .store)
+    store-cut = ap (λ (o : Outcome). o .state) served-cut
 
-  pub ledger-cut : ledgerNext (cut ms) w ≡ writtenAt ms (w .ledger)
-  ledger-cut = cut-entered ms (w .store) (w .ledger) accepted
+    pub ledger-cut : ledgerNext geo (cut ms) w ≡ writtenAt ms (w .ledger)
+    ledger-cut = cut-entered geo ms (w .store) (w .ledger) accepted
 
-  -- what is found is what the relation speaks of
-  pub found-cut : foundWritten (cut ms) w ≡ sameLog (foundIn (cutSettled ms (w .store))) (cutWritten ms (w .ledger))
-  unfolding foundWritten logFound
-  found-cut = rw (store-cut, ledger-cut)
+    -- what is found is what the relation speaks of
+    pub found-cut : foundWritten geo (cut ms) w ≡ sameLog (foundIn geo (cutSettled ms (w .store))) (cutWritten ms (w .ledger))
+    unfolding foundWritten logFound
+    found-cut = rw (store-cut, ledger-cut)
 
-  pub exception-cut : exception (cut ms) w ≡ collides (foundIn (cutSettled ms (w .store))) (cutWritten ms (w .ledger))
-  unfolding exception acceptedCut logFound
-  exception-cut =
-      ap (λ (o : Outcome). eqb (o .answer) 0 && collides (logFound (storeNext (cut ms) w)) (ledgerNext (cut ms) w .written)) served-cut
-      ∙ ap (λ (s : State). collides (logFound s) (ledgerNext (cut ms) w .written)) store-cut
-      ∙ ap (λ (l : Ledger). collides (foundIn (cutSettled ms (w .store))) (l .written)) ledger-cut
+    pub exception-cut : exception geo (cut ms) w ≡ collides (foundIn geo (cutSettled ms (w .store))) (cutWritten ms (w .ledger))
+    unfolding exception acceptedCut logFound
+    exception-cut =
+        ap (λ (o : Outcome). eqb (o .answer) 0 && collides (logFound geo (storeNext geo (cut ms) w)) (ledgerNext geo (cut ms) w .written)) served-cut
+        ∙ ap (λ (s : State). collides (logFound geo s) (ledgerNext geo (cut ms) w .written)) store-cut
+        ∙ ap (λ (l : Ledger). collides (foundIn geo (cutSettled ms (w .store))) (l .written)) ledger-cut
 
-  abbrev pub verdict-cut : Verdict
-  verdict-cut = cutVerdict ms (w .store) (w .ledger) (w .plain)
+    abbrev pub verdict-cut : Verdict
+    verdict-cut = cutVerdict geo ms (w .store) (w .ledger) (w .plain)
 
-  pub plain-cut : plainStep (cut ms) (foundWritten (cut ms) w) (w .plain)
-      ≡ still (plainAt (w .store) (w .plain) (cond (verdict-cut .laid) (overlay (w .plain .G) (w .plain .S)) (w .plain .S)) (verdict-cut .n) (verdict-cut .F))
-  unfolding plainCut
-  plain-cut = plain-served (cut ms) (foundWritten (cut ms) w) (w .plain) h ∙ ap (λ (t : Bool). plainCut ms t (w .plain)) found-cut
+    pub plain-cut : plainStep geo (cut ms) (foundWritten geo (cut ms) w) (w .plain)
+        ≡ still (plainAt (w .store) (w .plain) (cond (verdict-cut .laid) (overlay (w .plain .G) (w .plain .S)) (w .plain .S)) (verdict-cut .n) (verdict-cut .F))
+    unfolding plainCut
+    plain-cut = plain-served geo (cut ms) (foundWritten geo (cut ms) w) (w .plain) h ∙ ap (λ (t : Bool). plainCut geo ms t (w .plain)) found-cut
 
-  leads-cut : CutLeads ms (w .store) (w .ledger) (w .plain)
-  leads-cut = all-cuts ms (w .store) (w .ledger) (w .plain) m (marks-fit ms (w .plain) h ∙ m .basics .mirrors .waiting)
+    leads-cut : CutLeads geo ms (w .store) (w .ledger) (w .plain)
+    leads-cut = all-cuts geo ms (w .store) (w .ledger) (w .plain) m (marks-fit geo ms (w .plain) h ∙ m .basics .mirrors .waiting)
 
-  pub accepted-step : StepOK (cut ms) w
-  unfolding Card.cut
-  accepted-step =
-      let b = m .basics in
-      record {
-        agrees = record {
-          answer = ap (λ (o : Outcome). o .answer) served-cut ∙ sym (ap (λ (o : Done). o .answer) plain-cut);
-          orders = ap (λ (o : Outcome). o .orders) served-cut ∙ sym (ap (λ (o : Done). o .orders) plain-cut);
-          block = λ a e z. absurd (cut-no-get ms a e);
-          mode = ap (λ (s : State). s .rec .mode) store-cut ∙ sym (ap (λ (o : Done). o .plain .mode) plain-cut);
-          power = ap (λ (s : State). s .rec .power) store-cut ∙ sym (b .power) ∙ sym (ap (λ (o : Done). o .plain .power) plain-cut);
-          waiting = ap (λ (s : State). s .rec .waiting) store-cut ∙ sym (ap (λ (o : Done). o .plain .waiting) plain-cut);
-          n = λ z. absurd (omega (arith, sym (ap (λ (s : State). s .rec .mode) store-cut) ∙ z));
-        };
-        sim = λ e. sim-at store-cut ledger-cut (ap (λ (o : Done). o .plain) plain-cut) (cut-sim ms (w .store) (w .plain) _ _ _ _ b (leads-cut .clean (sym exception-cut ∙ e)));
-        safe =
-            let c = leads-cut .safe in
-            rw (store-cut, ledger-cut)
-            (record {
-              ledger = settledBy (c .w);
-              plain = plainAt (w .store) (w .plain) (c .S) (c .n) (c .F);
-              sim = cut-sim ms (w .store) (w .plain) (c .w) (c .S) (c .n) (c .F) b (c .card);
-              even = record { written = (sym (c .size), sym (c .total)); pending = tt };
-            });
-      }
+    pub accepted-step : StepOK geo (cut ms) w
+    unfolding Card.cut
+    accepted-step =
+        let b = m .basics in
+        record {
+          agrees = record {
+            answer = ap (λ (o : Outcome). o .answer) served-cut ∙ sym (ap (λ (o : Done). o .answer) plain-cut);
+            orders = ap (λ (o : Outcome). o .orders) served-cut ∙ sym (ap (λ (o : Done). o .orders) plain-cut);
+            block = λ a e z. absurd (cut-no-get ms a e);
+            mode = ap (λ (s : State). s .rec .mode) store-cut ∙ sym (ap (λ (o : Done). o .plain .mode) plain-cut);
+            power = ap (λ (s : State). s .rec .power) store-cut ∙ sym (b .power) ∙ sym (ap (λ (o : Done). o .plain .power) plain-cut);
+            waiting = ap (λ (s : State). s .rec .waiting) store-cut ∙ sym (ap (λ (o : Done). o .plain .waiting) plain-cut);
+            n = λ z. absurd (omega (arith, sym (ap (λ (s : State). s .rec .mode) store-cut) ∙ z));
+          };
+          sim = λ e. sim-at geo store-cut ledger-cut (ap (λ (o : Done). o .plain) plain-cut) (cut-sim geo ms (w .store) (w .plain) _ _ _ _ b (leads-cut .clean (sym exception-cut ∙ e)));
+          safe =
+              let c = leads-cut .safe in
+              rw (store-cut, ledger-cut)
+              (record {
+                ledger = settledBy (c .w);
+                plain = plainAt (w .store) (w .plain) (c .S) (c .n) (c .F);
+                sim = cut-sim geo ms (w .store) (w .plain) (c .w) (c .S) (c .n) (c .F) b (c .card);
+                even = record { written = (sym (c .size), sym (c .total)); pending = tt };
+              });
+        }
 
-pub cut-step : (ms : List ℕ) (w : World) → WorldSim w → StepOK (cut ms) w
-cut-step ms w m = go (ℕ-discrete (refusal (cut ms) (w .plain)) 0)
-  where
-    go : Dec (refusal (cut ms) (w .plain) ≡ 0) → StepOK (cut ms) w
-    go (no h) = refused-step (cut ms) w m h
-    go (yes h) = accepted-step ms w m h
+  pub cut-step : (ms : List ℕ) (w : World) → WorldSim geo w → StepOK geo (cut ms) w
+  cut-step ms w m = go (ℕ-discrete (refusal geo (cut ms) (w .plain)) 0)
+    where
+      go : Dec (refusal geo (cut ms) (w .plain) ≡ 0) → StepOK geo (cut ms) w
+      go (no h) = refused-step geo (cut ms) w m h
+      go (yes h) = accepted-step ms w m h

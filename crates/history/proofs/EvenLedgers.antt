@@ -8,6 +8,7 @@ use lib.ListN.{length, getD}
 use Rattle.cells.specs.Entry.{Entry}
 use Rattle.fnv.specs.Fnv.{start}
 use Rattle.card.specs.Marks.{keptAt}
+use Rattle.journal.specs.Geometry.{Geometry}
 use Rattle.journal.specs.Log.{sumOf}
 use Rattle.store.specs.State.{State}
 use Rattle.history.specs.Call.{Call, local, save, cut}
@@ -72,12 +73,13 @@ resolved-even ms (waits p x) (waits q y) a b e f = rw (e .0) (go (keptAt ms q))
     go true = e .1
     go false = f
 
-pub entered-even : (c : Call) (st : State) (l m : Ledger) → Even l m → Even (entered c st l) (entered c st m)
-unfolding entered
-entered-even (local c) st l m e = e
-entered-even (save c) st l m e = noted-even (headersOf c st) (dispatch (save c) st .orders) l m e
-entered-even (cut ms) st l m e = go (eqb (dispatch (cut ms) st .answer) 0)
-  where
-    go : (t : Bool) → Even (cond t (settledBy (resolved ms (l .pending) (l .written))) l) (cond t (settledBy (resolved ms (m .pending) (m .written))) m)
-    go true = record { written = resolved-even ms (l .pending) (m .pending) (l .written) (m .written) (e .pending) (e .written); pending = tt }
-    go false = e
+module _ (geo : Geometry) where
+  pub entered-even : (c : Call) (st : State) (l m : Ledger) → Even l m → Even (entered geo c st l) (entered geo c st m)
+  unfolding entered
+  entered-even (local c) st l m e = e
+  entered-even (save c) st l m e = noted-even (headersOf geo c st) (dispatch geo (save c) st .orders) l m e
+  entered-even (cut ms) st l m e = go (eqb (dispatch geo (cut ms) st .answer) 0)
+    where
+      go : (t : Bool) → Even (cond t (settledBy (resolved ms (l .pending) (l .written))) l) (cond t (settledBy (resolved ms (m .pending) (m .written))) m)
+      go true = record { written = resolved-even ms (l .pending) (m .pending) (l .written) (m .written) (e .pending) (e .written); pending = tt }
+      go false = e

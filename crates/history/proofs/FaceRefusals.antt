@@ -5,6 +5,7 @@ use mathlib.Core.Logic.{_≢_, _⊎_}
 use mathlib.Core.Bool.{true, false, cond}
 use mathlib.Core.List.{List}
 use borrow.Author.Tests.{eq-eqb, ne-eqb}
+use Rattle.journal.specs.Geometry.{Geometry}
 use Rattle.journal.specs.declared.choice.Choice.{Choice}
 use Rattle.journal.specs.declared.choice.Choice.the-variants.{Whole, Fallback, Foreign, Neither}
 use Rattle.journal.specs.Layout.{wrongSize}
@@ -31,57 +32,58 @@ chosen-known (Fallback n sum) h = absurd (h refl)
 chosen-known Foreign h = _⊎_.inl refl
 chosen-known Neither h = _⊎_.inr refl
 
-inspects : (s : List ℕ) → Inspects s
-unfolding inspection
-inspects s = record { size = λ e. rw e; unsound = λ e. rw e; known = known (wrongSize s) }
-  where
-    known : (t : mathlib.Core.Bool.Bool) → cond t 1 (choiceNumber (chosen s)) ≢ 0
-        → (cond t 1 (choiceNumber (chosen s)) ≡ 1) ⊎ ((cond t 1 (choiceNumber (chosen s)) ≡ 8) ⊎ (cond t 1 (choiceNumber (chosen s)) ≡ 9))
-    known true h = _⊎_.inl refl
-    known false h = _⊎_.inr (chosen-known (chosen s) h)
+module _ (geo : Geometry) where
+  inspects : (s : List ℕ) → Inspects geo s
+  unfolding inspection
+  inspects s = record { size = λ e. rw e; unsound = λ e. rw e; known = known (wrongSize geo s) }
+    where
+      known : (t : mathlib.Core.Bool.Bool) → cond t 1 (choiceNumber (chosen geo s)) ≢ 0
+          → (cond t 1 (choiceNumber (chosen geo s)) ≡ 1) ⊎ ((cond t 1 (choiceNumber (chosen geo s)) ≡ 8) ⊎ (cond t 1 (choiceNumber (chosen geo s)) ≡ 9))
+      known true h = _⊎_.inl refl
+      known false h = _⊎_.inr (chosen-known (chosen geo s) h)
 
-pub reads : (a b : List ℕ) → Reads a b
-unfolding tallyOf alikeOf compared
-reads a b = record {
-  inspects = inspects a;
-  tally-refuses = λ h. rw (ne-eqb (inspection a) 0 h);
-  tally-serves = λ e. e;
-  alike-first = λ h. rw (ne-eqb (inspection a) 0 h, ne-eqb (inspection a) 0 h);
-  alike-second = λ e h. rw (eq-eqb (inspection a) 0 e, ne-eqb (inspection b) 0 h);
-  alike-serves = λ e f. rw (eq-eqb (inspection a) 0 e) f;
-}
+  pub reads : (a b : List ℕ) → Reads geo a b
+  unfolding tallyOf alikeOf compared
+  reads a b = record {
+    inspects = inspects a;
+    tally-refuses = λ h. rw (ne-eqb (inspection geo a) 0 h);
+    tally-serves = λ e. e;
+    alike-first = λ h. rw (ne-eqb (inspection geo a) 0 h, ne-eqb (inspection geo a) 0 h);
+    alike-second = λ e h. rw (eq-eqb (inspection geo a) 0 e, ne-eqb (inspection geo b) 0 h);
+    alike-serves = λ e f. rw (eq-eqb (inspection geo a) 0 e) f;
+  }
 
--- ---- get
+  -- ---- get
 
-pub parts : (a : ℕ) (st : State) → NoPart a st
-unfolding getPlace
-parts a st = record {
-  block = λ h. rw (ne-eqb (cause (Request.get a) st) 0 h);
-  part = λ h settled work. rw (ne-eqb (cause (Request.get a) st) 0 h);
-}
+  pub parts : (a : ℕ) (st : State) → NoPart geo a st
+  unfolding getPlace
+  parts a st = record {
+    block = λ h. rw (ne-eqb (cause geo (Request.get a) st) 0 h);
+    part = λ h settled work. rw (ne-eqb (cause geo (Request.get a) st) 0 h);
+  }
 
--- ---- what C sees
+  -- ---- what C sees
 
-pub faces : (answers : (q : Request.Request) (st : State) → Answers q st) (q : Request.Request) (r s w k : List ℕ) → Faces q r s w k
-faces answers q r s w k = record {
-  size = λ h. sym (faced-length (called q) r s w k h);
-  answers = λ l. ap (λ f. f .number) (sym (faced-outcome (called q) r s w k l));
-  refuses = λ l b h.
-      sym (faced-outcome (called q) r s w k l)
-      ∙ ap handed (answers q (stateOf (decodeRecord r) s w k) .refuses h)
-      ∙ ap (λ (x : List ℕ). faceOf (cause q (stateOf (decodeRecord r) s w k)) 0 x s w k) (encode-decode r l b);
-}
+  pub faces : (answers : (q : Request.Request) (st : State) → Answers geo q st) (q : Request.Request) (r s w k : List ℕ) → Faces geo q r s w k
+  faces answers q r s w k = record {
+    size = λ h. sym (faced-length (called geo q) r s w k h);
+    answers = λ l. ap (λ f. f .number) (sym (faced-outcome (called geo q) r s w k l));
+    refuses = λ l b h.
+        sym (faced-outcome (called geo q) r s w k l)
+        ∙ ap handed (answers q (stateOf (decodeRecord r) s w k) .refuses h)
+        ∙ ap (λ (x : List ℕ). faceOf (cause geo q (stateOf (decodeRecord r) s w k)) 0 x s w k) (encode-decode r l b);
+  }
 
-pub gets : (a : ℕ) (r s w k : List ℕ) → Gets a r s w k
-unfolding getPlace
-gets a r s w k = record {
-  size = λ h. sym (got-length a r s w k h);
-  refuses = λ l h. sym (got-place a r s w k l) ∙ nowhere h;
-  serves = λ l e. ap (λ g. g .number) (sym (got-place a r s w k l)) ∙ e;
-}
-  where
-    st : State
-    st = stateOf (decodeRecord r) s w k
+  pub gets : (a : ℕ) (r s w k : List ℕ) → Gets geo a r s w k
+  unfolding getPlace
+  gets a r s w k = record {
+    size = λ h. sym (got-length geo a r s w k h);
+    refuses = λ l h. sym (got-place geo a r s w k l) ∙ nowhere h;
+    serves = λ l e. ap (λ g. g .number) (sym (got-place geo a r s w k l)) ∙ e;
+  }
+    where
+      st : State
+      st = stateOf (decodeRecord r) s w k
 
-    nowhere : cause (Request.get a) st ≢ 0 → gotIn a st ≡ gotOf (cause (Request.get a) st) 0 0
-    nowhere h = rw (ne-eqb (cause (Request.get a) st) 0 h)
+      nowhere : cause geo (Request.get a) st ≢ 0 → gotIn geo a st ≡ gotOf (cause geo (Request.get a) st) 0 0
+      nowhere h = rw (ne-eqb (cause geo (Request.get a) st) 0 h)

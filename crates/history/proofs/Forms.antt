@@ -17,6 +17,7 @@ use Rattle.fnv.specs.Fnv.{start}
 use Rattle.card.specs.Card as Card
 use Rattle.card.specs.Card.{Order}
 use Rattle.card.proofs.Runs.{run-lengths, length-settle}
+use Rattle.journal.specs.Geometry.{Geometry}
 use Rattle.journal.specs.declared.lookup.Found.{Found}
 use Rattle.journal.specs.declared.lookup.Found.the-variants.{At, Absent}
 use Rattle.journal.specs.Log.{entries, sumOf, slotEntry}
@@ -44,18 +45,19 @@ use Rattle.history.specs.Refusals.{ordersOf, innerDone}
 
 -- ---- a refused call leaves everything
 
-pub called-refused : (q : Request) (st : State) → cause q st ≢ 0 → called q st ≡ refused (cause q st) st
-unfolding formatCall powerCall putCall commitCall abandonCall syncCall applyCall recoverCall cutCall
-called-refused format st h = rw (ne-eqb _ 0 h)
-called-refused (local (Local.power k)) st h = sym (call-refused _ _ st _ refl h)
-called-refused (local (Local.put a b)) st h = rw (ne-eqb _ 0 h)
-called-refused (local (Local.get a)) st h = refl
-called-refused (local Local.commit) st h = rw (ne-eqb _ 0 h)
-called-refused (local Local.abandon) st h = rw (ne-eqb _ 0 h)
-called-refused (save Save.sync) st h = rw (ne-eqb _ 0 h)
-called-refused (save Save.apply) st h = rw (ne-eqb _ 0 h)
-called-refused (save Save.recover) st h = rw (ne-eqb _ 0 h)
-called-refused (cut ms) st h = rw (ne-eqb _ 0 h)
+module _ (geo : Geometry) where
+  pub called-refused : (q : Request) (st : State) → cause geo q st ≢ 0 → called geo q st ≡ refused (cause geo q st) st
+  unfolding formatCall powerCall putCall commitCall abandonCall syncCall applyCall recoverCall cutCall
+  called-refused format st h = rw (ne-eqb _ 0 h)
+  called-refused (local (Local.power k)) st h = sym (call-refused _ _ st _ refl h)
+  called-refused (local (Local.put a b)) st h = rw (ne-eqb _ 0 h)
+  called-refused (local (Local.get a)) st h = refl
+  called-refused (local Local.commit) st h = rw (ne-eqb _ 0 h)
+  called-refused (local Local.abandon) st h = rw (ne-eqb _ 0 h)
+  called-refused (save Save.sync) st h = rw (ne-eqb _ 0 h)
+  called-refused (save Save.apply) st h = rw (ne-eqb _ 0 h)
+  called-refused (save Save.recover) st h = rw (ne-eqb _ 0 h)
+  called-refused (cut ms) st h = rw (ne-eqb _ 0 h)
 
 -- ---- no call changes a buffer's length
 
@@ -82,18 +84,19 @@ put-sized : (f : Found) (e : Entry) (st : State) → SameSizes st (putAt f e st)
 put-sized (At i) e st = record { settled = refl; waiting = refl; work = length-setEntry (st .work) i e }
 put-sized Absent e st = record { settled = refl; waiting = refl; work = length-setEntry (st .work) (st .rec .opened) e }
 
-join-sized : (f : Found) (e : Entry) (g : Group) → length (joinAt f e g .work) ≡ length (g .work)
-join-sized (At i) e g = length-setEntry (g .work) _ e
-join-sized Absent e g = length-setEntry (g .work) _ e
+module _ (geo : Geometry) where
+  join-sized : (f : Found) (e : Entry) (g : Group) → length (joinAt geo f e g .work) ≡ length (g .work)
+  join-sized (At i) e g = length-setEntry (g .work) _ e
+  join-sized Absent e g = length-setEntry (g .work) _ e
 
-one-sized : (e : Entry) (g : Group) → length (join e g .work) ≡ length (g .work)
-unfolding join
-one-sized e g = join-sized (find (g .work) groupFrom (g .count) (e .address)) e g
+  one-sized : (e : Entry) (g : Group) → length (join geo e g .work) ≡ length (g .work)
+  unfolding join
+  one-sized e g = join-sized (find (g .work) (groupFrom geo) (g .count) (e .address)) e g
 
-joined-sized : (n : ℕ) (g : Group) → length (joined n g .work) ≡ length (g .work)
-unfolding joined
-joined-sized zero g = refl
-joined-sized (suc n) g = one-sized (listed (g .work) openFrom n) (joined n g) ∙ joined-sized n g
+  joined-sized : (n : ℕ) (g : Group) → length (joined geo n g .work) ≡ length (g .work)
+  unfolding joined
+  joined-sized zero g = refl
+  joined-sized (suc n) g = one-sized (listed (g .work) openFrom n) (joined geo n g) ∙ joined-sized n g
 
 format-sized : (st : State) → SameSizes st (formatted st)
 unfolding formatted
@@ -117,15 +120,16 @@ cut-queue ms st = refl
 abbrev pub left : Bool → State → Record
 left t st = cond t (withLog 0 start (st .rec)) (st .rec)
 
--- t: the call is a sync whose apply was done
-pub record AppliedFirst (q : Request) (st : State) (t : Bool) : Type 0 where
-  pub is : q ≡ sync → innerDone st ≡ t
-  pub not : (q ≡ sync → innerDone st ≡ false) → t ≡ false
+module _ (geo : Geometry) where
+  -- t: the call is a sync whose apply was done
+  pub record AppliedFirst (q : Request) (st : State) (t : Bool) : Type 0 where
+    pub is : q ≡ sync → innerDone geo st ≡ t
+    pub not : (q ≡ sync → innerDone geo st ≡ false) → t ≡ false
 
--- where nothing refuses: no orders, and done; or orders
-pub data Form (q : Request) (st : State) : Type 0 where
-  quiet : (now : State) → called q st ≡ unless (cause q st) st (completed now) → ordersOf q st ≡ [] → SameSizes st now → Form q st
-  gives : (t : Bool) (done : Record) → called q st ≡ unless (cause q st) st (carried (ordersOf q st) done (left t st) st) → AppliedFirst q st t → Form q st
+  -- where nothing refuses: no orders, and done; or orders
+  pub data Form (q : Request) (st : State) : Type 0 where
+    quiet : (now : State) → called geo q st ≡ unless (cause geo q st) st (completed now) → ordersOf geo q st ≡ [] → SameSizes st now → Form q st
+    gives : (t : Bool) (done : Record) → called geo q st ≡ unless (cause geo q st) st (carried (ordersOf geo q st) done (left t st) st) → AppliedFirst q st t → Form q st
 
 -- what holds of the refusal, and of the outcome where nothing refuses
 pub unless-either : (P : Outcome → Type 0) (k : ℕ) (st : State) (o : Outcome) → (k ≡ 0 → P o) → P (refused k st) → P (unless k st o)
@@ -139,25 +143,26 @@ unless-either P k st o done turned = go (eqb k 0) refl
 form-get : (k : ℕ) (st : State) → refused k st ≡ unless k st (completed st)
 form-get k st = unless-either (λ o. refused k st ≡ o) k st (completed st) (λ e. ap (λ (n : ℕ). refused n st) e) refl
 
--- the record that a sync leaves when cut short: that before the call, or the same with an empty log
-sync-left : (st : State) → cond (leb (length (innerOrders st)) (st .rec .power)) (metByAppend st) (st .rec) ≡ left (innerDone st) st
-sync-left st = go (applies st)
-  where
-    N : ℕ
-    N = st .rec .blocks
+module _ (geo : Geometry) where
+  -- the record that a sync leaves when cut short: that before the call, or the same with an empty log
+  sync-left : (st : State) → cond (leb (length (innerOrders geo st)) (st .rec .power)) (metByAppend geo st) (st .rec) ≡ left (innerDone geo st) st
+  sync-left st = go (applies geo st)
+    where
+      N : ℕ
+      N = st .rec .blocks
 
-    log : List Entry
-    log = entries (st .settled) (st .rec .logged)
+      log : List Entry
+      log = entries geo (st .settled) (st .rec .logged)
 
-    either : (t : Bool) → cond t (st .rec) (st .rec) ≡ st .rec
-    either true = refl
-    either false = refl
+      either : (t : Bool) → cond t (st .rec) (st .rec) ≡ st .rec
+      either true = refl
+      either false = refl
 
-    go : (t : Bool)
-        → cond (leb (length (cond t (checkpointOrders N log) [])) (st .rec .power)) (cond t (withLog 0 start (st .rec)) (st .rec)) (st .rec)
-        ≡ cond (t && leb (st .rec .logged + 3) (st .rec .power)) (withLog 0 start (st .rec)) (st .rec)
-    go true = ap (λ (k : ℕ). cond (leb k (st .rec .power)) (withLog 0 start (st .rec)) (st .rec)) (length-checkpoint N log ∙ ap (λ (k : ℕ). k + 3) (length-upTo (slotEntry (st .settled)) (st .rec .logged)))
-    go false = either (leb 0 (st .rec .power))
+      go : (t : Bool)
+          → cond (leb (length (cond t (checkpointOrders N log) [])) (st .rec .power)) (cond t (withLog 0 start (st .rec)) (st .rec)) (st .rec)
+          ≡ cond (t && leb (st .rec .logged + 3) (st .rec .power)) (withLog 0 start (st .rec)) (st .rec)
+      go true = ap (λ (k : ℕ). cond (leb k (st .rec .power)) (withLog 0 start (st .rec)) (st .rec)) (length-checkpoint N log ∙ ap (λ (k : ℕ). k + 3) (length-upTo (slotEntry geo (st .settled)) (st .rec .logged)))
+      go false = either (leb 0 (st .rec .power))
 
 apply-other : apply ≡ sync → ⊥
 apply-other e = let z : _≡_ {A = ℕ} 0 1 = cc in omega arith
@@ -165,27 +170,28 @@ apply-other e = let z : _≡_ {A = ℕ} 0 1 = cc in omega arith
 recover-other : Rattle.store.specs.Request.recover ≡ sync → ⊥
 recover-other e = let z : _≡_ {A = ℕ} 0 1 = cc in omega arith
 
-pub form : (q : Request) (st : State) → Form q st
-unfolding formatCall powerCall putCall commitCall abandonCall syncCall applyCall recoverCall cutCall
-form format st = quiet _ refl refl (format-sized st)
-form (local (Local.power k)) st = quiet _ refl refl (record { settled = refl; waiting = refl; work = refl })
-form (local (Local.put a b)) st = quiet _ refl refl (put-sized (find (st .work) openFrom (st .rec .opened) a) (record { address = a; block = b }) st)
-form (local (Local.get a)) st = quiet st (form-get (cause (get a) st) st) refl (same-size st)
-form (local Local.commit) st =
-    quiet _ refl refl (record { settled = refl; waiting = refl; work = joined-sized (st .rec .opened) (record { work = st .work; count = st .rec .grouped }) })
-form (local Local.abandon) st = quiet _ refl refl (record { settled = refl; waiting = refl; work = refl })
-form (save Save.sync) st =
-    let done = withGrouped 0 (withLog (metByAppend st .logged + st .rec .grouped) (sumOf (metByAppend st .sum) (groupOf st)) (metByAppend st)) in
-    gives (innerDone st) done (ap (λ (r : Record). unless (cause sync st) st (carried (ordersOf sync st) done r st)) (sync-left st)) (record { is = λ e. refl; not = λ h. h refl })
-form (save Save.apply) st =
-    gives false _ (ap (λ (o : Outcome). unless (cause apply st) st o) (apply-carried st)) (record { is = λ e. absurd (apply-other e); not = λ h. refl })
-form (save Save.recover) st = gives false _ refl (record { is = λ e. absurd (recover-other e); not = λ h. refl })
-form (cut ms) st = quiet _ refl refl (record { settled = cut-sized ms st; waiting = ap length (cut-queue ms st); work = refl })
+module _ (geo : Geometry) where
+  pub form : (q : Request) (st : State) → Form geo q st
+  unfolding formatCall powerCall putCall commitCall abandonCall syncCall applyCall recoverCall cutCall
+  form format st = quiet _ refl refl (format-sized st)
+  form (local (Local.power k)) st = quiet _ refl refl (record { settled = refl; waiting = refl; work = refl })
+  form (local (Local.put a b)) st = quiet _ refl refl (put-sized (find (st .work) openFrom (st .rec .opened) a) (record { address = a; block = b }) st)
+  form (local (Local.get a)) st = quiet st (form-get (cause geo (get a) st) st) refl (same-size st)
+  form (local Local.commit) st =
+      quiet _ refl refl (record { settled = refl; waiting = refl; work = joined-sized geo (st .rec .opened) (record { work = st .work; count = st .rec .grouped }) })
+  form (local Local.abandon) st = quiet _ refl refl (record { settled = refl; waiting = refl; work = refl })
+  form (save Save.sync) st =
+      let done = withGrouped 0 (withLog (metByAppend geo st .logged + st .rec .grouped) (sumOf (metByAppend geo st .sum) (groupOf geo st)) (metByAppend geo st)) in
+      gives (innerDone geo st) done (ap (λ (r : Record). unless (cause geo sync st) st (carried (ordersOf geo sync st) done r st)) (sync-left geo st)) (record { is = λ e. refl; not = λ h. h refl })
+  form (save Save.apply) st =
+      gives false _ (ap (λ (o : Outcome). unless (cause geo apply st) st o) (apply-carried geo st)) (record { is = λ e. absurd (apply-other e); not = λ h. refl })
+  form (save Save.recover) st = gives false _ refl (record { is = λ e. absurd (recover-other e); not = λ h. refl })
+  form (cut ms) st = quiet _ refl refl (record { settled = cut-sized ms st; waiting = ap length (cut-queue ms st); work = refl })
 
--- no call changes a buffer's length
-pub called-sized : (q : Request) (st : State) → SameSizes st (called q st .state)
-called-sized q st = go (form q st)
-  where
-    go : Form q st → SameSizes st (called q st .state)
-    go (quiet now call none sized) = rw call (unless-sized (cause q st) st (completed now) sized)
-    go (gives t done call first) = rw call (unless-sized (cause q st) st (carried (ordersOf q st) done (left t st) st) (carried-sized (ordersOf q st) done (left t st) st))
+  -- no call changes a buffer's length
+  pub called-sized : (q : Request) (st : State) → SameSizes st (called geo q st .state)
+  called-sized q st = go (form q st)
+    where
+      go : Form geo q st → SameSizes st (called geo q st .state)
+      go (quiet now call none sized) = rw call (unless-sized (cause geo q st) st (completed now) sized)
+      go (gives t done call first) = rw call (unless-sized (cause geo q st) st (carried (ordersOf geo q st) done (left t st) st) (carried-sized (ordersOf geo q st) done (left t st) st))

@@ -11,6 +11,7 @@ use lib.Dec.{eqb, leb, lit<}
 use lib.ListN.{length}
 use Rattle.fnv.specs.Fnv.{start}
 use Rattle.card.specs.Card.{Order}
+use Rattle.journal.specs.Geometry.{Geometry}
 use Rattle.journal.specs.Log.{entries}
 use Rattle.journal.proofs.Logs.{sumOf-lt}
 use Rattle.store.specs.declared.record.Record.{Record}
@@ -47,22 +48,23 @@ use Rattle.history.proofs.PlainAnswers.{save-end, save-power, LocalKind
 
 -- ---- the power only sinks, or is set
 
-local-power : (c : Local) (d : Plain) → LocalKind c → Passable (local c) → d .power < 2 ^ 32 → locally c d .power < 2 ^ 32
-local-power c d (powers k) p h = p k refl
-local-power c d (opens _ n s) p h = rw (s d .power) h
+module _ (geo : Geometry) where
+  local-power : (c : Local) (d : Plain) → LocalKind geo c → Passable (local c) → d .power < 2 ^ 32 → locally c d .power < 2 ^ 32
+  local-power c d (powers k) p h = p k refl
+  local-power c d (opens _ n s) p h = rw (s d .power) h
 
-served-power : (c : Call) (t : Bool) (d : Plain) → Passable c → d .power < 2 ^ 32 → served c t d .plain .power < 2 ^ 32
-unfolding plainCut
-served-power (local c) t d p h = local-power c d (local-kind c) p h
-served-power (save c) t d p h = omega (arith, save-power c d (save-end c d))
-served-power (cut ms) t d p h = h
+  served-power : (c : Call) (t : Bool) (d : Plain) → Passable c → d .power < 2 ^ 32 → served geo c t d .plain .power < 2 ^ 32
+  unfolding plainCut
+  served-power (local c) t d p h = local-power c d (local-kind geo c) p h
+  served-power (save c) t d p h = omega (arith, save-power geo c d (save-end geo c d))
+  served-power (cut ms) t d p h = h
 
-plain-power : (c : Call) (t : Bool) (d : Plain) → Passable c → d .power < 2 ^ 32 → plainStep c t d .plain .power < 2 ^ 32
-plain-power c t d p h = go (ℕ-discrete (refusal c d) 0)
-  where
-    go : Dec (refusal c d ≡ 0) → plainStep c t d .plain .power < 2 ^ 32
-    go (yes e) = rw (plain-served c t d e) (served-power c t d p h)
-    go (no e) = rw (plain-refused c t d e) h
+  plain-power : (c : Call) (t : Bool) (d : Plain) → Passable c → d .power < 2 ^ 32 → plainStep geo c t d .plain .power < 2 ^ 32
+  plain-power c t d p h = go (ℕ-discrete (refusal geo c d) 0)
+    where
+      go : Dec (refusal geo c d ≡ 0) → plainStep geo c t d .plain .power < 2 ^ 32
+      go (yes e) = rw (plain-served geo c t d e) (served-power c t d p h)
+      go (no e) = rw (plain-refused geo c t d e) h
 
 -- ---- the sum is one of a list, or as it was
 
@@ -82,21 +84,22 @@ carried-sums os done gone st a b = go (leb (length os) (st .rec .power))
     go true = a
     go false = _⊎_.inr b
 
-met-mode : (st : State) → metByAppend st .mode ≡ st .rec .mode
-met-mode st = go (applies st)
-  where
-    go : (t : Bool) → cond t (withLog 0 start (st .rec)) (st .rec) .mode ≡ st .rec .mode
-    go true = refl
-    go false = refl
+module _ (geo : Geometry) where
+  met-mode : (st : State) → metByAppend geo st .mode ≡ st .rec .mode
+  met-mode st = go (applies geo st)
+    where
+      go : (t : Bool) → cond t (withLog 0 start (st .rec)) (st .rec) .mode ≡ st .rec .mode
+      go true = refl
+      go false = refl
 
-sync-sums : (st : State) → st .rec .mode ≡ openMode → Sums st (syncing st)
-sync-sums st o =
-    carried-sums _ _ _ st (_⊎_.inl (met-mode st ∙ o)) (go (leb (length (innerOrders st)) (st .rec .power)) (applies st))
-  where
-    go : (b t : Bool) → (cond b (cond t (withLog 0 start (st .rec)) (st .rec)) (st .rec) .sum ≡ st .rec .sum) ⊎ (cond b (cond t (withLog 0 start (st .rec)) (st .rec)) (st .rec) .sum ≡ start)
-    go true true = _⊎_.inr refl
-    go true false = _⊎_.inl refl
-    go false t = _⊎_.inl refl
+  sync-sums : (st : State) → st .rec .mode ≡ openMode → Sums st (syncing geo st)
+  sync-sums st o =
+      carried-sums _ _ _ st (_⊎_.inl (met-mode st ∙ o)) (go (leb (length (innerOrders geo st)) (st .rec .power)) (applies geo st))
+    where
+      go : (b t : Bool) → (cond b (cond t (withLog 0 start (st .rec)) (st .rec)) (st .rec) .sum ≡ st .rec .sum) ⊎ (cond b (cond t (withLog 0 start (st .rec)) (st .rec)) (st .rec) .sum ≡ start)
+      go true true = _⊎_.inr refl
+      go true false = _⊎_.inl refl
+      go false t = _⊎_.inl refl
 
 apply-sums : (st : State) (os : List Order) → Sums st (carried os (cond (eqb (st .rec .logged) 0) (st .rec) (withLog 0 start (st .rec))) (st .rec) st)
 apply-sums st os = carried-sums os _ _ st (_⊎_.inr (go (eqb (st .rec .logged) 0))) (_⊎_.inl refl)
@@ -105,40 +108,41 @@ apply-sums st os = carried-sums os _ _ st (_⊎_.inr (go (eqb (st .rec .logged) 
     go true = _⊎_.inl refl
     go false = _⊎_.inr refl
 
-module _ (st : State) (l : Ledger) (s : Safe st l) where
-  world : World
-  world = record { store = st; ledger = s .ledger; plain = s .plain; excepted = false }
+module _ (geo : Geometry) where
+  module _ (st : State) (l : Ledger) (s : Safe geo st l) where
+    world : World
+    world = record { store = st; ledger = s .ledger; plain = s .plain; excepted = false }
 
-  -- a call on an open record that leaves the plain disk's mode leaves it open
-  still-open : (c : Call) (q : Request.Request) → requestOf c ≡ q → needsOpen q ≡ true → cause q st ≡ 0
-      → served c (foundWritten c world) (s .plain) .plain .mode ≡ s .plain .mode → dispatch c st .state .rec .mode ≡ openMode
-  unfolding world
-  still-open c q e n h k =
-      let z : cause (requestOf c) st ≡ 0 = ap (λ (x : Request.Request). cause x st) e ∙ h in
-      let r : refusal c (s .plain) ≡ 0 = sym (same-cause st (s .ledger) (s .plain) (s .sim) c) ∙ z in
-      let o = is-open st (s .ledger) (s .plain) (s .sim) q n (cause-passes q st h) in
-      step c world (s .sim) .agrees .mode ∙ ap (λ (x : Done). x .plain .mode) (plain-served c (foundWritten c world) (s .plain) r) ∙ k ∙ s .sim .basics .mirrors .mode ∙ o .mode
+    -- a call on an open record that leaves the plain disk's mode leaves it open
+    still-open : (c : Call) (q : Request.Request) → requestOf c ≡ q → needsOpen geo q ≡ true → cause geo q st ≡ 0
+        → served geo c (foundWritten geo c world) (s .plain) .plain .mode ≡ s .plain .mode → dispatch geo c st .state .rec .mode ≡ openMode
+    unfolding world
+    still-open c q e n h k =
+        let z : cause geo (requestOf c) st ≡ 0 = ap (λ (x : Request.Request). cause geo x st) e ∙ h in
+        let r : refusal geo c (s .plain) ≡ 0 = sym (same-cause geo st (s .ledger) (s .plain) (s .sim) c) ∙ z in
+        let o = is-open geo st (s .ledger) (s .plain) (s .sim) q n (cause-passes geo q st h) in
+        step geo c world (s .sim) .agrees .mode ∙ ap (λ (x : Done). x .plain .mode) (plain-served geo c (foundWritten geo c world) (s .plain) r) ∙ k ∙ s .sim .basics .mirrors .mode ∙ o .mode
 
-  local-sums : (c : Local) → LocalKind c → cause (Request.local c) st ≡ 0 → Sums st (dispatch (local c) st)
-  unfolding powerCall
-  local-sums c (powers k) h = rw (eq-eqb _ 0 h) (_⊎_.inr (_⊎_.inl refl))
-  local-sums c (opens _ n u) h = _⊎_.inl (still-open (local c) (Request.local c) refl n h (u (s .plain) .mode))
+    local-sums : (c : Local) → LocalKind geo c → cause geo (Request.local c) st ≡ 0 → Sums st (dispatch geo (local c) st)
+    unfolding powerCall
+    local-sums c (powers k) h = rw (eq-eqb _ 0 h) (_⊎_.inr (_⊎_.inl refl))
+    local-sums c (opens _ n u) h = _⊎_.inl (still-open (local c) (Request.local c) refl n h (u (s .plain) .mode))
 
-  served-sums : (c : Call) → cause (requestOf c) st ≡ 0 → Sums st (dispatch c st)
-  unfolding powerCall syncCall applyCall recoverCall cutCall
-  served-sums (local c) h = local-sums c (local-kind c) h
-  served-sums (save Save.sync) h =
-      rw (eq-eqb _ 0 h) (sync-sums st (is-open st (s .ledger) (s .plain) (s .sim) Request.sync refl (cause-passes Request.sync st h) .mode))
-  served-sums (save Save.apply) h = rw (eq-eqb _ 0 h, apply-carried st) (apply-sums st _)
-  served-sums (save Save.recover) h = rw (eq-eqb _ 0 h) (carried-sums _ _ _ st (_⊎_.inl refl) (_⊎_.inl refl))
-  served-sums (cut ms) h = rw (eq-eqb _ 0 h) (_⊎_.inr (_⊎_.inr refl))
+    served-sums : (c : Call) → cause geo (requestOf c) st ≡ 0 → Sums st (dispatch geo c st)
+    unfolding powerCall syncCall applyCall recoverCall cutCall
+    served-sums (local c) h = local-sums c (local-kind geo c) h
+    served-sums (save Save.sync) h =
+        rw (eq-eqb _ 0 h) (sync-sums geo st (is-open geo st (s .ledger) (s .plain) (s .sim) Request.sync refl (cause-passes geo Request.sync st h) .mode))
+    served-sums (save Save.apply) h = rw (eq-eqb _ 0 h, apply-carried geo st) (apply-sums st _)
+    served-sums (save Save.recover) h = rw (eq-eqb _ 0 h) (carried-sums _ _ _ st (_⊎_.inl refl) (_⊎_.inl refl))
+    served-sums (cut ms) h = rw (eq-eqb _ 0 h) (_⊎_.inr (_⊎_.inr refl))
 
-  sums : (c : Call) → Sums st (dispatch c st)
-  sums c = go (ℕ-discrete (cause (requestOf c) st) 0)
-    where
-      go : Dec (cause (requestOf c) st ≡ 0) → Sums st (dispatch c st)
-      go (yes h) = served-sums c h
-      go (no h) = rw (dispatch-refused c st h) (_⊎_.inr (_⊎_.inl refl))
+    sums : (c : Call) → Sums st (dispatch geo c st)
+    sums c = go (ℕ-discrete (cause geo (requestOf c) st) 0)
+      where
+        go : Dec (cause geo (requestOf c) st ≡ 0) → Sums st (dispatch geo c st)
+        go (yes h) = served-sums c h
+        go (no h) = rw (dispatch-refused geo c st h) (_⊎_.inr (_⊎_.inl refl))
 
 -- ---- every record fits
 
@@ -147,31 +151,32 @@ record Bounded (st : State) : Type 0 where
   power : st .rec .power < 2 ^ 32
   sum : st .rec .sum < 2 ^ 64
 
-next-bounded : (c : Call) (st : State) (l : Ledger) → Safe st l → Passable c → Bounded st → Bounded (dispatch c st .state)
-unfolding world
-next-bounded c st l s p b = record { power = rw (agrees .power) (plain-power c (foundWritten c (world st l s)) (s .plain) p (rw (s .sim .basics .power) (b .power))); sum = by-sum (sums st l s c) }
-  where
-    agrees : Rattle.history.specs.Statements.Agrees c (world st l s)
-    agrees = step c (world st l s) (s .sim) .agrees
+module _ (geo : Geometry) where
+  next-bounded : (c : Call) (st : State) (l : Ledger) → Safe geo st l → Passable c → Bounded st → Bounded (dispatch geo c st .state)
+  unfolding world
+  next-bounded c st l s p b = record { power = rw (agrees .power) (plain-power geo c (foundWritten geo c (world geo st l s)) (s .plain) p (rw (s .sim .basics .power) (b .power))); sum = by-sum (sums geo st l s c) }
+    where
+      agrees : Rattle.history.specs.Statements.Agrees geo c (world geo st l s)
+      agrees = step geo c (world geo st l s) (s .sim) .agrees
 
-    of-list : (t : Safe (dispatch c st .state) (entered c st l)) → dispatch c st .state .rec .mode ≡ openMode → dispatch c st .state .rec .sum < 2 ^ 64
-    of-list t z = go (t .sim .phase)
-      where
-        go : OpenSim (dispatch c st .state) (t .ledger) (t .plain) ⊎ (ClosedSim (dispatch c st .state) (t .ledger) (t .plain) ⊎ DownSim (dispatch c st .state) (t .ledger) (t .plain)) → dispatch c st .state .rec .sum < 2 ^ 64
-        go (_⊎_.inl o) = rw (o .sum) (sumOf-lt start (entries (dispatch c st .state .settled) (dispatch c st .state .rec .logged)) (lit< tt))
-        go (_⊎_.inr (_⊎_.inl o)) = absurd (omega (arith, o .mode))
-        go (_⊎_.inr (_⊎_.inr o)) = absurd (omega (arith, o .mode))
+      of-list : (t : Safe geo (dispatch geo c st .state) (entered geo c st l)) → dispatch geo c st .state .rec .mode ≡ openMode → dispatch geo c st .state .rec .sum < 2 ^ 64
+      of-list t z = go (t .sim .phase)
+        where
+          go : OpenSim geo (dispatch geo c st .state) (t .ledger) (t .plain) ⊎ (ClosedSim geo (dispatch geo c st .state) (t .ledger) (t .plain) ⊎ DownSim geo (dispatch geo c st .state) (t .ledger) (t .plain)) → dispatch geo c st .state .rec .sum < 2 ^ 64
+          go (_⊎_.inl o) = rw (o .sum) (sumOf-lt start (entries geo (dispatch geo c st .state .settled) (dispatch geo c st .state .rec .logged)) (lit< tt))
+          go (_⊎_.inr (_⊎_.inl o)) = absurd (omega (arith, o .mode))
+          go (_⊎_.inr (_⊎_.inr o)) = absurd (omega (arith, o .mode))
 
-    by-sum : Sums st (dispatch c st) → dispatch c st .state .rec .sum < 2 ^ 64
-    by-sum (_⊎_.inl z) = of-list (next-safe c st l s) z
-    by-sum (_⊎_.inr (_⊎_.inl z)) = rw z (b .sum)
-    by-sum (_⊎_.inr (_⊎_.inr z)) = rw z (lit< tt)
+      by-sum : Sums st (dispatch geo c st) → dispatch geo c st .state .rec .sum < 2 ^ 64
+      by-sum (_⊎_.inl z) = of-list (next-safe geo c st l s) z
+      by-sum (_⊎_.inr (_⊎_.inl z)) = rw z (b .sum)
+      by-sum (_⊎_.inr (_⊎_.inr z)) = rw z (lit< tt)
 
-fits : (st : State) (l : Ledger) → Safe st l → Bounded st → Fitting (st .rec)
-fits st l s b =
-    let r = record-facts st (s .sim .basics .counts) in
-    let z = sizes-facts st (s .sim .basics .sizes) in
-    omega (arith, r .mode, r .blocks, z .most, r .open-count, r .group-count, r .log-count, r .waiting-count, b .power, b .sum)
+  fits : (st : State) (l : Ledger) → Safe geo st l → Bounded st → Fitting (st .rec)
+  fits st l s b =
+      let r = record-facts geo st (s .sim .basics .counts) in
+      let z = sizes-facts geo st (s .sim .basics .sizes) in
+      omega (arith, r .mode, r .blocks, z .most, r .open-count, r .group-count, r .log-count, r .waiting-count, b .power, b .sum)
 
 -- ---- C passes on the state
 
@@ -190,84 +195,86 @@ faced-next : (call : State → Outcome) (f : Face) (st : State) → BytesOf f st
 faced-next call f st h t =
     sym (faced-outcome call (f .rec) (f .settled) (f .waiting) (f .work) (sized f st h)) ∙ ap (λ (x : State). handed (call x)) (held f st h t)
 
-got-next : (f : Face) (st : State) → BytesOf f st → Fitting (st .rec) → (a : ℕ) → got a (f .rec) (f .settled) (f .waiting) (f .work) ≡ gotIn a st
-got-next f st h t a = sym (got-place a (f .rec) (f .settled) (f .waiting) (f .work) (sized f st h)) ∙ ap (gotIn a) (held f st h t)
+module _ (geo : Geometry) where
+  got-next : (f : Face) (st : State) → BytesOf f st → Fitting (st .rec) → (a : ℕ) → got geo a (f .rec) (f .settled) (f .waiting) (f .work) ≡ gotIn geo a st
+  got-next f st h t a = sym (got-place geo a (f .rec) (f .settled) (f .waiting) (f .work) (sized f st h)) ∙ ap (gotIn geo a) (held f st h t)
 
 -- what was handed out holds what was left
 handed-holds : (o : Outcome) (f : Face) → f ≡ handed o → BytesOf f (o .state)
 handed-holds o f e = record { rec = ap (λ (x : Face). x .rec) e; settled = ap (λ (x : Face). x .settled) e; waiting = ap (λ (x : Face). x .waiting) e; work = ap (λ (x : Face). x .work) e }
 
-linked-call : (c : Call) (f : Face) (st : State) → faceNext c f ≡ handed (dispatch c st) → ((a : ℕ) → got a (f .rec) (f .settled) (f .waiting) (f .work) ≡ gotIn a st) → Links c f st
-linked-call c f st e g = record {
-  number = ap (λ (x : Face). x .number) e;
-  orders = ap (λ (x : Face). x .orders) e;
-  place = g;
-  left = handed-holds (dispatch c st) (faceNext c f) e;
-}
+module _ (geo : Geometry) where
+  linked-call : (c : Call) (f : Face) (st : State) → faceNext geo c f ≡ handed (dispatch geo c st) → ((a : ℕ) → got geo a (f .rec) (f .settled) (f .waiting) (f .work) ≡ gotIn geo a st) → Links geo c f st
+  linked-call c f st e g = record {
+    number = ap (λ (x : Face). x .number) e;
+    orders = ap (λ (x : Face). x .orders) e;
+    place = g;
+    left = handed-holds (dispatch geo c st) (faceNext geo c f) e;
+  }
 
-local-links : (c : Local) (f : Face) (st : State) → BytesOf f st → Fitting (st .rec) → Links (local c) f st
-local-links (Local.power k) f st h t = linked-call (power k) f st (faced-next (dispatch (power k)) f st h t) (got-next f st h t)
-local-links (Local.put a b) f st h t = linked-call (put a b) f st (faced-next (dispatch (put a b)) f st h t) (got-next f st h t)
-local-links (Local.get a) f st h t = record {
-  number = ap (λ (x : Got). x .number) (got-next f st h t a);
-  orders = refl;
-  place = got-next f st h t;
-  left = record { rec = h .rec; settled = h .settled; waiting = h .waiting; work = h .work };
-}
-local-links Local.commit f st h t = linked-call commit f st (faced-next (dispatch commit) f st h t) (got-next f st h t)
-local-links Local.abandon f st h t = linked-call abandon f st (faced-next (dispatch abandon) f st h t) (got-next f st h t)
+  local-links : (c : Local) (f : Face) (st : State) → BytesOf f st → Fitting (st .rec) → Links geo (local c) f st
+  local-links (Local.power k) f st h t = linked-call (power k) f st (faced-next (dispatch geo (power k)) f st h t) (got-next geo f st h t)
+  local-links (Local.put a b) f st h t = linked-call (put a b) f st (faced-next (dispatch geo (put a b)) f st h t) (got-next geo f st h t)
+  local-links (Local.get a) f st h t = record {
+    number = ap (λ (x : Got). x .number) (got-next geo f st h t a);
+    orders = refl;
+    place = got-next geo f st h t;
+    left = record { rec = h .rec; settled = h .settled; waiting = h .waiting; work = h .work };
+  }
+  local-links Local.commit f st h t = linked-call commit f st (faced-next (dispatch geo commit) f st h t) (got-next geo f st h t)
+  local-links Local.abandon f st h t = linked-call abandon f st (faced-next (dispatch geo abandon) f st h t) (got-next geo f st h t)
 
-links : (c : Call) (f : Face) (st : State) → BytesOf f st → Fitting (st .rec) → Links c f st
-links (local c) f st h t = local-links c f st h t
-links (save c) f st h t = linked-call (save c) f st (faced-next (dispatch (save c)) f st h t) (got-next f st h t)
-links (cut ms) f st h t = linked-call (cut ms) f st (faced-next (dispatch (cut ms)) f st h t) (got-next f st h t)
+  links : (c : Call) (f : Face) (st : State) → BytesOf f st → Fitting (st .rec) → Links geo c f st
+  links (local c) f st h t = local-links c f st h t
+  links (save c) f st h t = linked-call (save c) f st (faced-next (dispatch geo (save c)) f st h t) (got-next geo f st h t)
+  links (cut ms) f st h t = linked-call (cut ms) f st (faced-next (dispatch geo (cut ms)) f st h t) (got-next geo f st h t)
 
--- ---- a list of calls
+  -- ---- a list of calls
 
--- C's bytes and the store, and what both need to go on
-record Linking (f : Face) (w : World) : Type 0 where
-  holds : BytesOf f (w .store)
-  safe : Safe (w .store) (w .ledger)
-  bounded : Bounded (w .store)
+  -- C's bytes and the store, and what both need to go on
+  record Linking (f : Face) (w : World) : Type 0 where
+    holds : BytesOf f (w .store)
+    safe : Safe geo (w .store) (w .ledger)
+    bounded : Bounded (w .store)
 
-linking-next : (c : Call) (f : Face) (w : World) → Passable c → Linking f w → Linking (faceNext c f) (next c w)
-unfolding next
-linking-next c f w p m = record {
-  holds = links c f (w .store) (m .holds) (fits (w .store) (w .ledger) (m .safe) (m .bounded)) .left;
-  safe = next-safe c (w .store) (w .ledger) (m .safe);
-  bounded = next-bounded c (w .store) (w .ledger) (m .safe) p (m .bounded);
-}
+  linking-next : (c : Call) (f : Face) (w : World) → Passable c → Linking f w → Linking (faceNext geo c f) (next geo c w)
+  unfolding next
+  linking-next c f w p m = record {
+    holds = links c f (w .store) (m .holds) (fits geo (w .store) (w .ledger) (m .safe) (m .bounded)) .left;
+    safe = next-safe geo c (w .store) (w .ledger) (m .safe);
+    bounded = next-bounded geo c (w .store) (w .ledger) (m .safe) p (m .bounded);
+  }
 
-linking-after : (cs : List Call) (f : Face) (w : World) → AllPassable cs → Linking f w → Linking (faceAfter cs f) (after cs w)
-unfolding faceAfter after
-linking-after [] f w p m = m
-linking-after (c ∷ cs) f w p m = linking-after cs (faceNext c f) (next c w) (p .1) (linking-next c f w (p .0) m)
+  linking-after : (cs : List Call) (f : Face) (w : World) → AllPassable cs → Linking f w → Linking (faceAfter geo cs f) (after geo cs w)
+  unfolding faceAfter after
+  linking-after [] f w p m = m
+  linking-after (c ∷ cs) f w p m = linking-after cs (faceNext geo c f) (next geo c w) (p .1) (linking-next c f w (p .0) m)
 
--- a format through C answers 0 only for a record of the right length, and where the store does
-module _ (r s w k : List ℕ) (z : faced formatCall r s w k .number ≡ 0) where
-  right-length : length r ≡ recordBytes
-  right-length = go (ℕ-discrete (length r) recordBytes)
+  -- a format through C answers 0 only for a record of the right length, and where the store does
+  module _ (r s w k : List ℕ) (z : faced (formatCall geo) r s w k .number ≡ 0) where
+    right-length : length r ≡ recordBytes
+    right-length = go (ℕ-discrete (length r) recordBytes)
+      where
+        go : Dec (length r ≡ recordBytes) → length r ≡ recordBytes
+        go (yes e) = e
+        go (no h) = let one : _≡_ {A = ℕ} 1 0 = ap (λ (f : Face). f .number) (faced-length (formatCall geo) r s w k h) ∙ z in absurd (omega arith)
+
+    formats : formatCall geo (stateOf (decodeRecord r) s w k) .answer ≡ 0
+    formats = ap (λ (f : Face). f .number) (faced-outcome (formatCall geo) r s w k right-length) ∙ z
+
+  pub linked : Linked geo
+  unfolding begun formatted
+  linked r s w k z cs c ps =
+      let m = linking-after cs (faced (formatCall geo) r s w k) (begun geo (stateOf (decodeRecord r) s w k)) ps start-linking in
+      links c (faceAfter geo cs (faced (formatCall geo) r s w k)) (after geo cs (begun geo (stateOf (decodeRecord r) s w k)) .store) (m .holds)
+      (fits geo (after geo cs (begun geo (stateOf (decodeRecord r) s w k)) .store) (after geo cs (begun geo (stateOf (decodeRecord r) s w k)) .ledger) (m .safe) (m .bounded))
     where
-      go : Dec (length r ≡ recordBytes) → length r ≡ recordBytes
-      go (yes e) = e
-      go (no h) = let one : _≡_ {A = ℕ} 1 0 = ap (λ (f : Face). f .number) (faced-length formatCall r s w k h) ∙ z in absurd (omega arith)
+      fresh-bounded : Bounded (formatCall geo (stateOf (decodeRecord r) s w k) .state)
+      fresh-bounded = rw (formatted-now geo (stateOf (decodeRecord r) s w k) (formats r s w k z)) (record { power = lit< tt; sum = lit< tt })
 
-  formats : formatCall (stateOf (decodeRecord r) s w k) .answer ≡ 0
-  formats = ap (λ (f : Face). f .number) (faced-outcome formatCall r s w k right-length) ∙ z
-
-pub linked : Linked
-unfolding begun formatted
-linked r s w k z cs c ps =
-    let m = linking-after cs (faced formatCall r s w k) (begun (stateOf (decodeRecord r) s w k)) ps start-linking in
-    links c (faceAfter cs (faced formatCall r s w k)) (after cs (begun (stateOf (decodeRecord r) s w k)) .store) (m .holds)
-    (fits (after cs (begun (stateOf (decodeRecord r) s w k)) .store) (after cs (begun (stateOf (decodeRecord r) s w k)) .ledger) (m .safe) (m .bounded))
-  where
-    fresh-bounded : Bounded (formatCall (stateOf (decodeRecord r) s w k) .state)
-    fresh-bounded = rw (formatted-now (stateOf (decodeRecord r) s w k) (formats r s w k z)) (record { power = lit< tt; sum = lit< tt })
-
-    start-linking : Linking (faced formatCall r s w k) (begun (stateOf (decodeRecord r) s w k))
-    start-linking = record {
-      holds = handed-holds (formatCall (stateOf (decodeRecord r) s w k)) (faced formatCall r s w k) (sym (faced-outcome formatCall r s w k (right-length r s w k z)));
-      safe = begun-safe (stateOf (decodeRecord r) s w k) (formats r s w k z);
-      bounded = fresh-bounded;
-    }
+      start-linking : Linking (faced (formatCall geo) r s w k) (begun geo (stateOf (decodeRecord r) s w k))
+      start-linking = record {
+        holds = handed-holds (formatCall geo (stateOf (decodeRecord r) s w k)) (faced (formatCall geo) r s w k) (sym (faced-outcome (formatCall geo) r s w k (right-length r s w k z)));
+        safe = begun-safe geo (stateOf (decodeRecord r) s w k) (formats r s w k z);
+        bounded = fresh-bounded;
+      }

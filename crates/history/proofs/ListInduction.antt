@@ -13,6 +13,7 @@ use Rattle.cells.specs.Cell.Laws.{length-setCell, cell-same, cell-other, cell-z
 use Rattle.cells.specs.Entry.{blockBytes}
 use Rattle.fnv.specs.Fnv.{start}
 use Rattle.card.specs.Card.{blockAt, blocksIn}
+use Rattle.journal.specs.Geometry.{Geometry}
 use Rattle.journal.specs.Layout.{headerAt, isData}
 use Rattle.journal.specs.Header.{encode, emptyHeader}
 use Rattle.journal.proofs.Headers.{length-encode}
@@ -44,139 +45,140 @@ use Rattle.history.proofs.SyncStep.{sync-step}
 
 -- ---- one call
 
-pub step : (c : Call) (w : World) → WorldSim w → StepOK c w
-step (local (Local.power k)) w m = power-step k w m
-step (local (Local.put a b)) w m = put-step a b w m
-step (local (Local.get a)) w m = get-step a w m
-step (local Local.commit) w m = commit-step w m
-step (local Local.abandon) w m = abandon-step w m
-step (save Save.sync) w m = sync-step w m
-step (save Save.apply) w m = apply-step w m
-step (save Save.recover) w m = recover-step w m
-step (cut ms) w m = cut-step ms w m
+module _ (geo : Geometry) where
+  pub step : (c : Call) (w : World) → WorldSim geo w → StepOK geo c w
+  step (local (Local.power k)) w m = power-step geo k w m
+  step (local (Local.put a b)) w m = put-step geo a b w m
+  step (local (Local.get a)) w m = get-step geo a w m
+  step (local Local.commit) w m = commit-step geo w m
+  step (local Local.abandon) w m = abandon-step geo w m
+  step (save Save.sync) w m = sync-step geo w m
+  step (save Save.apply) w m = apply-step geo w m
+  step (save Save.recover) w m = recover-step geo w m
+  step (cut ms) w m = cut-step geo ms w m
 
-pub next-sim : (c : Call) (w : World) → WorldSim w → exception c w ≡ false → WorldSim (next c w)
-unfolding next
-next-sim c w m h = step c w m .sim h
+  pub next-sim : (c : Call) (w : World) → WorldSim geo w → exception geo c w ≡ false → WorldSim geo (next geo c w)
+  unfolding next
+  next-sim c w m h = step c w m .sim h
 
--- what no collision breaks
-pub next-safe : (c : Call) (st : State) (l : Ledger) → Safe st l → Safe (dispatch c st .state) (entered c st l)
-next-safe c st l s =
-    let r = step c (record { store = st; ledger = s .ledger; plain = s .plain; excepted = false }) (s .sim) .safe in
-    record {
-      ledger = r .ledger;
-      plain = r .plain;
-      sim = r .sim;
-      even = even-trans (entered c st l) (entered c st (s .ledger)) (r .ledger) (entered-even c st l (s .ledger) (s .even)) (r .even);
-    }
+  -- what no collision breaks
+  pub next-safe : (c : Call) (st : State) (l : Ledger) → Safe geo st l → Safe geo (dispatch geo c st .state) (entered geo c st l)
+  next-safe c st l s =
+      let r = step c (record { store = st; ledger = s .ledger; plain = s .plain; excepted = false }) (s .sim) .safe in
+      record {
+        ledger = r .ledger;
+        plain = r .plain;
+        sim = r .sim;
+        even = even-trans (entered geo c st l) (entered geo c st (s .ledger)) (r .ledger) (entered-even geo c st l (s .ledger) (s .even)) (r .even);
+      }
 
--- ---- a list of them
+  -- ---- a list of them
 
-pub after-append : (a b : List Call) (w : World) → after (a ++ b) w ≡ after b (after a w)
-unfolding after
-after-append [] b w = refl
-after-append (c ∷ a) b w = after-append a b (next c w)
+  pub after-append : (a b : List Call) (w : World) → after geo (a ++ b) w ≡ after geo b (after geo a w)
+  unfolding after
+  after-append [] b w = refl
+  after-append (c ∷ a) b w = after-append a b (next geo c w)
 
--- an exception is never forgotten
-pub clean-before : (cs : List Call) (w : World) → after cs w .excepted ≡ false → w .excepted ≡ false
-unfolding after next
-clean-before [] w h = h
-clean-before (c ∷ cs) w h = neither (w .excepted) (exception c w) (clean-before cs (next c w) h) .0
+  -- an exception is never forgotten
+  pub clean-before : (cs : List Call) (w : World) → after geo cs w .excepted ≡ false → w .excepted ≡ false
+  unfolding after next
+  clean-before [] w h = h
+  clean-before (c ∷ cs) w h = neither (w .excepted) (exception geo c w) (clean-before cs (next geo c w) h) .0
 
-pub clean-first : (c : Call) (cs : List Call) (w : World) → after cs (next c w) .excepted ≡ false → exception c w ≡ false
-unfolding next
-clean-first c cs w h = neither (w .excepted) (exception c w) (clean-before cs (next c w) h) .1
+  pub clean-first : (c : Call) (cs : List Call) (w : World) → after geo cs (next geo c w) .excepted ≡ false → exception geo c w ≡ false
+  unfolding next
+  clean-first c cs w h = neither (w .excepted) (exception geo c w) (clean-before cs (next geo c w) h) .1
 
-pub after-sim : (cs : List Call) (w : World) → WorldSim w → after cs w .excepted ≡ false → WorldSim (after cs w)
-unfolding after
-after-sim [] w m h = m
-after-sim (c ∷ cs) w m h = after-sim cs (next c w) (next-sim c w m (clean-first c cs w h)) h
+  pub after-sim : (cs : List Call) (w : World) → WorldSim geo w → after geo cs w .excepted ≡ false → WorldSim geo (after geo cs w)
+  unfolding after
+  after-sim [] w m h = m
+  after-sim (c ∷ cs) w m h = after-sim cs (next geo c w) (next-sim c w m (clean-first c cs w h)) h
 
-pub after-safe : (cs : List Call) (w : World) → Safe (w .store) (w .ledger) → Safe (after cs w .store) (after cs w .ledger)
-unfolding after next
-after-safe [] w s = s
-after-safe (c ∷ cs) w s = after-safe cs (next c w) (next-safe c (w .store) (w .ledger) s)
+  pub after-safe : (cs : List Call) (w : World) → Safe geo (w .store) (w .ledger) → Safe geo (after geo cs w .store) (after geo cs w .ledger)
+  unfolding after next
+  after-safe [] w s = s
+  after-safe (c ∷ cs) w s = after-safe cs (next geo c w) (next-safe c (w .store) (w .ledger) s)
 
--- ---- a fresh card
+  -- ---- a fresh card
 
-module _ (st : State) (h : formatCall st .answer ≡ 0) where
-  pub passes : cause Request.format st ≡ 0
-  unfolding formatCall
-  passes = go (ℕ-discrete (cause Request.format st) 0)
-    where
-      go : Dec (cause Request.format st ≡ 0) → cause Request.format st ≡ 0
-      go (yes e) = e
-      go (no e) =
-          let r : formatCall st ≡ refused (cause Request.format st) st = rw (ne-eqb _ 0 e) in
-          absurd (e (sym (ap (λ (o : Outcome). o .answer) r) ∙ h))
+  module _ (st : State) (h : formatCall geo st .answer ≡ 0) where
+    pub passes : cause geo Request.format st ≡ 0
+    unfolding formatCall
+    passes = go (ℕ-discrete (cause geo Request.format st) 0)
+      where
+        go : Dec (cause geo Request.format st ≡ 0) → cause geo Request.format st ≡ 0
+        go (yes e) = e
+        go (no e) =
+            let r : formatCall geo st ≡ refused (cause geo Request.format st) st = rw (ne-eqb _ 0 e) in
+            absurd (e (sym (ap (λ (o : Outcome). o .answer) r) ∙ h))
 
-  pub formatted-now : formatCall st .state ≡ formatted st
-  unfolding formatCall
-  formatted-now =
-      let r : formatCall st ≡ completed (formatted st) = rw (eq-eqb _ 0 passes) in
-      ap (λ (o : Outcome). o .state) r
+    pub formatted-now : formatCall geo st .state ≡ formatted st
+    unfolding formatCall
+    formatted-now =
+        let r : formatCall geo st ≡ completed (formatted st) = rw (eq-eqb _ 0 passes) in
+        ap (λ (o : Outcome). o .state) r
 
-  sz : SizeFacts st
-  sz = sizes-facts st (cause-passes Request.format st passes .sizes)
+    sz : SizeFacts geo st
+    sz = sizes-facts geo st (cause-passes geo Request.format st passes .sizes)
 
-  abbrev N : ℕ
-  N = blocksIn (st .settled)
+    abbrev N : ℕ
+    N = blocksIn (st .settled)
 
-  abbrev zeros : List ℕ
-  zeros = replicate (length (st .settled)) 0
+    abbrev zeros : List ℕ
+    zeros = replicate (length (st .settled)) 0
 
-  room : (a : ℕ) → a < N → blockBytes * a + blockBytes ≤ length zeros
-  room a l = rw (length-replicate) (omega arith)
+    room : (a : ℕ) → a < N → blockBytes * a + blockBytes ≤ length zeros
+    room a l = rw (length-replicate) (omega arith)
 
-  header-now : cell blockBytes (setCell blockBytes zeros headerAt (encode (emptyHeader N))) headerAt ≡ encode (emptyHeader N)
-  header-now = cell-same blockBytes zeros headerAt (encode (emptyHeader N)) (room headerAt (omega (arith, sz .least))) (length-encode (emptyHeader N))
+    header-now : cell blockBytes (setCell blockBytes zeros headerAt (encode (emptyHeader N))) headerAt ≡ encode (emptyHeader N)
+    header-now = cell-same blockBytes zeros headerAt (encode (emptyHeader N)) (room headerAt (omega (arith, sz .least))) (length-encode (emptyHeader N))
 
-  data-now : (a : ℕ) → isData N a ≡ true → cell blockBytes (setCell blockBytes zeros headerAt (encode (emptyHeader N))) a ≡ replicate blockBytes 0
-  data-now a q =
-      let u = data-above N a q in
-      cell-other blockBytes zeros headerAt a (encode (emptyHeader N)) (λ z. omega arith)
-      ∙ cell-zeros blockBytes (length (st .settled)) a (let v = data-below N a q in omega arith)
+    data-now : (a : ℕ) → isData geo N a ≡ true → cell blockBytes (setCell blockBytes zeros headerAt (encode (emptyHeader N))) a ≡ replicate blockBytes 0
+    data-now a q =
+        let u = data-above geo N a q in
+        cell-other blockBytes zeros headerAt a (encode (emptyHeader N)) (λ z. omega arith)
+        ∙ cell-zeros blockBytes (length (st .settled)) a (let v = data-below geo N a q in omega arith)
 
-  pub begun-sim : WorldSim (begun st)
-  unfolding begun fresh formatted
-  begun-sim =
-      rw formatted-now
-      (record {
-        basics = record {
-          sizes = facts-sizes (formatted st)
-              (record {
-                settled = rw (length-setCell, length-replicate) (sz .settled);
-                least = rw (length-setCell, length-replicate) (sz .least);
-                most = rw (length-setCell, length-replicate) (sz .most);
-                waiting = length-replicate (length (st .waiting)) 0 ∙ sz .waiting;
-                work = length-replicate (length (st .work)) 0 ∙ sz .work;
-              });
-          counts = facts-record (formatted st)
-              (record {
-                mode = omega arith;
-                open-count = omega arith;
-                group-count = omega arith;
-                log-count = omega arith;
-                waiting-count = omega arith;
-                waiting-down = λ z. absurd (z refl);
-                blocks = sym (rw (length-setCell, length-replicate));
-                waiting-below = λ i z. absurd (omega arith);
-                lists = λ z. record { open-data = tt; group-data = tt; log-data = tt; open-distinct = tt; group-distinct = tt };
-              });
-          mirrors = record { mode = refl; N = refl; waiting = refl; T = λ z. refl; G = λ z. refl };
-          power = refl;
-        };
-        phase = _⊎_.inl (record {
-          mode = refl;
-          n = refl;
-          F = refl;
-          short = refl;
-          pending = refl;
-          sum = sym (sumOf-nil start);
-          card = emptied N (blockAt (setCell blockBytes zeros headerAt (encode (emptyHeader N)))) (blockAt (setCell blockBytes zeros headerAt (encode (emptyHeader N)))) (λ a. replicate blockBytes 0)
-              header-now (λ a q. refl) (λ a q. sym (data-now a q));
-        });
-      })
+    pub begun-sim : WorldSim geo (begun geo st)
+    unfolding begun fresh formatted
+    begun-sim =
+        rw formatted-now
+        (record {
+          basics = record {
+            sizes = facts-sizes geo (formatted st)
+                (record {
+                  settled = rw (length-setCell, length-replicate) (sz .settled);
+                  least = rw (length-setCell, length-replicate) (sz .least);
+                  most = rw (length-setCell, length-replicate) (sz .most);
+                  waiting = length-replicate (length (st .waiting)) 0 ∙ sz .waiting;
+                  work = length-replicate (length (st .work)) 0 ∙ sz .work;
+                });
+            counts = facts-record geo (formatted st)
+                (record {
+                  mode = omega arith;
+                  open-count = omega arith;
+                  group-count = omega arith;
+                  log-count = omega arith;
+                  waiting-count = omega arith;
+                  waiting-down = λ z. absurd (z refl);
+                  blocks = sym (rw (length-setCell, length-replicate));
+                  waiting-below = λ i z. absurd (omega arith);
+                  lists = λ z. record { open-data = tt; group-data = tt; log-data = tt; open-distinct = tt; group-distinct = tt };
+                });
+            mirrors = record { mode = refl; N = refl; waiting = refl; T = λ z. refl; G = λ z. refl };
+            power = refl;
+          };
+          phase = _⊎_.inl (record {
+            mode = refl;
+            n = refl;
+            F = refl;
+            short = refl;
+            pending = refl;
+            sum = sym (sumOf-nil start);
+            card = emptied geo N (blockAt (setCell blockBytes zeros headerAt (encode (emptyHeader N)))) (blockAt (setCell blockBytes zeros headerAt (encode (emptyHeader N)))) (λ a. replicate blockBytes 0)
+                header-now (λ a q. refl) (λ a q. sym (data-now a q));
+          });
+        })
 
-  pub begun-safe : Safe (begun st .store) (begun st .ledger)
-  begun-safe = record { ledger = begun st .ledger; plain = begun st .plain; sim = begun-sim; even = even-refl (begun st .ledger) }
+    pub begun-safe : Safe geo (begun geo st .store) (begun geo st .ledger)
+    begun-safe = record { ledger = begun geo st .ledger; plain = begun geo st .plain; sim = begun-sim; even = even-refl (begun geo st .ledger) }

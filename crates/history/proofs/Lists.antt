@@ -12,6 +12,7 @@ use Rattle.cells.specs.Upto.{upTo}
 use Rattle.cells.specs.Upto.Laws.{ext-upTo}
 use Rattle.cells.specs.Entry.{Entry}
 use Rattle.card.proofs.All.{All, all-upTo, upTo-all}
+use Rattle.journal.specs.Geometry.{Geometry}
 use Rattle.journal.specs.declared.lookup.Found.the-variants.{At}
 use Rattle.journal.specs.Layout.{isData}
 use Rattle.journal.specs.Lookup.{lastOf}
@@ -100,16 +101,17 @@ distinct-twice work from (suc n) d =
 
 -- ---- a list of data blocks
 
-abbrev pub Data : ℕ → Entry → Type 0
-Data N e = isData N (e .address) ≡ true
+module _ (geo : Geometry) where
+  abbrev pub Data : ℕ → Entry → Type 0
+  Data N e = isData geo N (e .address) ≡ true
 
-pub strays-all : (work : List ℕ) (N from n : ℕ) → strays work N from n ≡ false → All (Data N) (listOf work from n)
-strays-all work N from n e =
-    all-upTo (Data N) (listed work from) n (λ i h. not-false _ (some-none (λ j. not (isData N (listed work from j .address))) n e i h))
+  pub strays-all : (work : List ℕ) (N from n : ℕ) → strays geo work N from n ≡ false → All (Data N) (listOf work from n)
+  strays-all work N from n e =
+      all-upTo (Data N) (listed work from) n (λ i h. not-false _ (some-none (λ j. not (isData geo N (listed work from j .address))) n e i h))
 
-pub all-strays : (work : List ℕ) (N from n : ℕ) → All (Data N) (listOf work from n) → strays work N from n ≡ false
-all-strays work N from n p =
-    none-some (λ i. not (isData N (listed work from i .address))) n (λ i h. ap not (upTo-all (Data N) (listed work from) n p i h))
+  pub all-strays : (work : List ℕ) (N from n : ℕ) → All (Data N) (listOf work from n) → strays geo work N from n ≡ false
+  all-strays work N from n p =
+      none-some (λ i. not (isData geo N (listed work from i .address))) n (λ i h. ap not (upTo-all (Data N) (listed work from) n p i h))
 
 -- ---- an entry replaces the one of its address or joins at the end
 

@@ -13,6 +13,7 @@ use Rattle.store.specs.Save as Save
 use Rattle.store.specs.Save.{Save}
 use Rattle.store.specs.Request as Request
 use Rattle.store.proofs.Causes.{needsOpen}
+use Rattle.journal.specs.Geometry.{Geometry}
 use Rattle.history.specs.Call.{Call, local, save, cut}
 use Rattle.history.specs.Plain.{Plain, Short, Done, done, cutShort, whenOpen, locally, saving, served, plainSync, plainCut, syncTakes}
 use Rattle.history.proofs.PlainLaws.{sync-nothing, sync-finished, sync-short, apply-nothing, apply-finished, apply-short, recover-whole, recover-fallback, recover-short}
@@ -22,58 +23,59 @@ Either k = (k ≡ 0) ⊎ (k ≡ 4)
 
 -- ---- a save: done, or cut short
 
-pub sync-cases : (P : Done → Type 0) (d : Plain) → (length (d .G) ≡ 0 → P (plainSync d)) → (length (d .G) ≢ 0 → syncTakes (d .n) (length (d .G)) ≤ d .power → P (plainSync d))
-    → (length (d .G) ≢ 0 → d .power < syncTakes (d .n) (length (d .G)) → P (plainSync d)) → P (plainSync d)
-sync-cases P d a b c = go (ℕ-discrete (length (d .G)) 0) (decLe (syncTakes (d .n) (length (d .G))) (d .power))
-  where
-    go : Dec (length (d .G) ≡ 0) → Dec (syncTakes (d .n) (length (d .G)) ≤ d .power) → P (plainSync d)
-    go (yes z) q = a z
-    go (no z) (yes q) = b z q
-    go (no z) (no q) = c z (omega arith)
+module _ (geo : Geometry) where
+  pub sync-cases : (P : Done → Type 0) (d : Plain) → (length (d .G) ≡ 0 → P (plainSync geo d)) → (length (d .G) ≢ 0 → syncTakes geo (d .n) (length (d .G)) ≤ d .power → P (plainSync geo d))
+      → (length (d .G) ≢ 0 → d .power < syncTakes geo (d .n) (length (d .G)) → P (plainSync geo d)) → P (plainSync geo d)
+  sync-cases P d a b c = go (ℕ-discrete (length (d .G)) 0) (decLe (syncTakes geo (d .n) (length (d .G))) (d .power))
+    where
+      go : Dec (length (d .G) ≡ 0) → Dec (syncTakes geo (d .n) (length (d .G)) ≤ d .power) → P (plainSync geo d)
+      go (yes z) q = a z
+      go (no z) (yes q) = b z q
+      go (no z) (no q) = c z (omega arith)
 
--- how a save ends: done, with nothing to do or with all its orders, having left N, not raised the power, and left the mode or opened the
--- record; or cut short
-pub data SaveEnd (c : Save) (d : Plain) : Type 0 where
-  whole : (k : ℕ) (e : Plain) → saving c d ≡ done k e → e .N ≡ d .N → e .power ≤ d .power → (e .mode ≡ d .mode) ⊎ (e .mode ≡ 1) → SaveEnd c d
-  short : (s : Short) (k : ℕ) → saving c d ≡ cutShort s k d → SaveEnd c d
+  -- how a save ends: done, with nothing to do or with all its orders, having left N, not raised the power, and left the mode or opened the
+  -- record; or cut short
+  pub data SaveEnd (c : Save) (d : Plain) : Type 0 where
+    whole : (k : ℕ) (e : Plain) → saving geo c d ≡ done k e → e .N ≡ d .N → e .power ≤ d .power → (e .mode ≡ d .mode) ⊎ (e .mode ≡ 1) → SaveEnd c d
+    short : (s : Short) (k : ℕ) → saving geo c d ≡ cutShort s k d → SaveEnd c d
 
-pub save-end : (c : Save) (d : Plain) → SaveEnd c d
-save-end Save.sync d = go (ℕ-discrete (length (d .G)) 0) (decLe (syncTakes (d .n) (length (d .G))) (d .power))
-  where
-    go : Dec (length (d .G) ≡ 0) → Dec (syncTakes (d .n) (length (d .G)) ≤ d .power) → SaveEnd Save.sync d
-    go (yes z) q = whole _ _ (sync-nothing d z) refl (omega arith) (_⊎_.inl refl)
-    go (no z) (yes q) = whole _ _ (sync-finished d z q) refl (omega arith) (_⊎_.inl refl)
-    go (no z) (no q) = short _ _ (sync-short d z (omega arith))
-save-end Save.apply d = go (ℕ-discrete (d .n) 0) (decLe (d .n + 3) (d .power))
-  where
-    go : Dec (d .n ≡ 0) → Dec (d .n + 3 ≤ d .power) → SaveEnd Save.apply d
-    go (yes z) q = whole _ _ (apply-nothing d z) refl (omega arith) (_⊎_.inl refl)
-    go (no z) (yes q) = whole _ _ (apply-finished d z q) refl (omega arith) (_⊎_.inl refl)
-    go (no z) (no q) = short _ _ (apply-short d z (omega arith))
-save-end Save.recover d = go (d .F) refl (decLe 2 (d .power))
-  where
-    go : (t : Bool) → d .F ≡ t → Dec (2 ≤ d .power) → SaveEnd Save.recover d
-    go false f q = whole _ _ (recover-whole d f) refl (omega arith) (_⊎_.inr refl)
-    go true f (yes q) = whole _ _ (recover-fallback d f q) refl (omega arith) (_⊎_.inr refl)
-    go true f (no q) = short _ _ (recover-short d f (omega arith))
+  pub save-end : (c : Save) (d : Plain) → SaveEnd c d
+  save-end Save.sync d = go (ℕ-discrete (length (d .G)) 0) (decLe (syncTakes geo (d .n) (length (d .G))) (d .power))
+    where
+      go : Dec (length (d .G) ≡ 0) → Dec (syncTakes geo (d .n) (length (d .G)) ≤ d .power) → SaveEnd Save.sync d
+      go (yes z) q = whole _ _ (sync-nothing geo d z) refl (omega arith) (_⊎_.inl refl)
+      go (no z) (yes q) = whole _ _ (sync-finished geo d z q) refl (omega arith) (_⊎_.inl refl)
+      go (no z) (no q) = short _ _ (sync-short geo d z (omega arith))
+  save-end Save.apply d = go (ℕ-discrete (d .n) 0) (decLe (d .n + 3) (d .power))
+    where
+      go : Dec (d .n ≡ 0) → Dec (d .n + 3 ≤ d .power) → SaveEnd Save.apply d
+      go (yes z) q = whole _ _ (apply-nothing d z) refl (omega arith) (_⊎_.inl refl)
+      go (no z) (yes q) = whole _ _ (apply-finished d z q) refl (omega arith) (_⊎_.inl refl)
+      go (no z) (no q) = short _ _ (apply-short d z (omega arith))
+  save-end Save.recover d = go (d .F) refl (decLe 2 (d .power))
+    where
+      go : (t : Bool) → d .F ≡ t → Dec (2 ≤ d .power) → SaveEnd Save.recover d
+      go false f q = whole _ _ (recover-whole d f) refl (omega arith) (_⊎_.inr refl)
+      go true f (yes q) = whole _ _ (recover-fallback d f q) refl (omega arith) (_⊎_.inr refl)
+      go true f (no q) = short _ _ (recover-short d f (omega arith))
 
-save-answer : (c : Save) (d : Plain) → SaveEnd c d → Either (saving c d .answer)
-save-answer c d (whole k e p n s m) = _⊎_.inl (ap (λ (o : Done). o .answer) p)
-save-answer c d (short s k p) = _⊎_.inr (ap (λ (o : Done). o .answer) p)
+  save-answer : (c : Save) (d : Plain) → SaveEnd c d → Either (saving geo c d .answer)
+  save-answer c d (whole k e p n s m) = _⊎_.inl (ap (λ (o : Done). o .answer) p)
+  save-answer c d (short s k p) = _⊎_.inr (ap (λ (o : Done). o .answer) p)
 
-pub save-N : (c : Save) (d : Plain) → SaveEnd c d → saving c d .plain .N ≡ d .N
-save-N c d (whole k e p n s m) = ap (λ (o : Done). o .plain .N) p ∙ n
-save-N c d (short s k p) = ap (λ (o : Done). o .plain .N) p
+  pub save-N : (c : Save) (d : Plain) → SaveEnd c d → saving geo c d .plain .N ≡ d .N
+  save-N c d (whole k e p n s m) = ap (λ (o : Done). o .plain .N) p ∙ n
+  save-N c d (short s k p) = ap (λ (o : Done). o .plain .N) p
 
-pub save-power : (c : Save) (d : Plain) → SaveEnd c d → saving c d .plain .power ≤ d .power
-save-power c d (whole k e p n s m) = rw p s
-save-power c d (short s k p) = rw p (omega arith)
+  pub save-power : (c : Save) (d : Plain) → SaveEnd c d → saving geo c d .plain .power ≤ d .power
+  save-power c d (whole k e p n s m) = rw p s
+  save-power c d (short s k p) = rw p (omega arith)
 
--- a save of a record that is not closed leaves one
-pub save-mode : (c : Save) (d : Plain) → SaveEnd c d → d .mode ≢ 0 → saving c d .plain .mode ≢ 0
-save-mode c d (whole k e p n s (_⊎_.inl m)) h q = h (sym m ∙ sym (ap (λ (o : Done). o .plain .mode) p) ∙ q)
-save-mode c d (whole k e p n s (_⊎_.inr m)) h q = let z : _≡_ {A = ℕ} 1 0 = sym m ∙ sym (ap (λ (o : Done). o .plain .mode) p) ∙ q in omega arith
-save-mode c d (short s k p) h q = let z : _≡_ {A = ℕ} 2 0 = sym (ap (λ (o : Done). o .plain .mode) p) ∙ q in omega arith
+  -- a save of a record that is not closed leaves one
+  pub save-mode : (c : Save) (d : Plain) → SaveEnd c d → d .mode ≢ 0 → saving geo c d .plain .mode ≢ 0
+  save-mode c d (whole k e p n s (_⊎_.inl m)) h q = h (sym m ∙ sym (ap (λ (o : Done). o .plain .mode) p) ∙ q)
+  save-mode c d (whole k e p n s (_⊎_.inr m)) h q = let z : _≡_ {A = ℕ} 1 0 = sym m ∙ sym (ap (λ (o : Done). o .plain .mode) p) ∙ q in omega arith
+  save-mode c d (short s k p) h q = let z : _≡_ {A = ℕ} 2 0 = sym (ap (λ (o : Done). o .plain .mode) p) ∙ q in omega arith
 
 -- ---- a local call: power, or one that needs an open record and changes the lists alone
 
@@ -83,36 +85,37 @@ pub record ListsAlone (d e : Plain) : Type 0 where
   pub mode : e .mode ≡ d .mode
   pub power : e .power ≡ d .power
 
-pub data LocalKind : Local → Type 0 where
-  powers : (k : ℕ) → LocalKind (Local.power k)
-  opens : (c : Local) → needsOpen (Request.local c) ≡ true → ((d : Plain) → ListsAlone d (locally c d)) → LocalKind c
+module _ (geo : Geometry) where
+  pub data LocalKind : Local → Type 0 where
+    powers : (k : ℕ) → LocalKind (Local.power k)
+    opens : (c : Local) → needsOpen geo (Request.local c) ≡ true → ((d : Plain) → ListsAlone d (locally c d)) → LocalKind c
 
-pub local-kind : (c : Local) → LocalKind c
-local-kind (Local.power k) = powers k
-local-kind (Local.put a b) = opens _ refl (λ d. record { N = refl; S = refl; mode = refl; power = refl })
-local-kind (Local.get a) = opens _ refl (λ d. record { N = refl; S = refl; mode = refl; power = refl })
-local-kind Local.commit = opens _ refl (λ d. record { N = refl; S = refl; mode = refl; power = refl })
-local-kind Local.abandon = opens _ refl (λ d. record { N = refl; S = refl; mode = refl; power = refl })
+  pub local-kind : (c : Local) → LocalKind c
+  local-kind (Local.power k) = powers k
+  local-kind (Local.put a b) = opens _ refl (λ d. record { N = refl; S = refl; mode = refl; power = refl })
+  local-kind (Local.get a) = opens _ refl (λ d. record { N = refl; S = refl; mode = refl; power = refl })
+  local-kind Local.commit = opens _ refl (λ d. record { N = refl; S = refl; mode = refl; power = refl })
+  local-kind Local.abandon = opens _ refl (λ d. record { N = refl; S = refl; mode = refl; power = refl })
 
-pub local-N : (c : Local) (d : Plain) → LocalKind c → locally c d .N ≡ d .N
-local-N c d (powers k) = refl
-local-N c d (opens _ n s) = s d .N
+  pub local-N : (c : Local) (d : Plain) → LocalKind c → locally c d .N ≡ d .N
+  local-N c d (powers k) = refl
+  local-N c d (opens _ n s) = s d .N
 
--- ---- every call
+  -- ---- every call
 
--- done or power gone
-pub served-answer : (c : Call) (f : Bool) (d : Plain) → Either (served c f d .answer)
-unfolding plainCut
-served-answer (local c) f d = _⊎_.inl refl
-served-answer (save c) f d = save-answer c d (save-end c d)
-served-answer (cut ms) f d = _⊎_.inl refl
+  -- done or power gone
+  pub served-answer : (c : Call) (f : Bool) (d : Plain) → Either (served geo c f d .answer)
+  unfolding plainCut
+  served-answer (local c) f d = _⊎_.inl refl
+  served-answer (save c) f d = save-answer geo c d (save-end geo c d)
+  served-answer (cut ms) f d = _⊎_.inl refl
 
--- N never changes
-pub served-N : (c : Call) (f : Bool) (d : Plain) → served c f d .plain .N ≡ d .N
-unfolding plainCut
-served-N (local c) f d = local-N c d (local-kind c)
-served-N (save c) f d = save-N c d (save-end c d)
-served-N (cut ms) f d = refl
+  -- N never changes
+  pub served-N : (c : Call) (f : Bool) (d : Plain) → served geo c f d .plain .N ≡ d .N
+  unfolding plainCut
+  served-N (local c) f d = local-N c d (local-kind c)
+  served-N (save c) f d = save-N geo c d (save-end geo c d)
+  served-N (cut ms) f d = refl
 
 -- ---- modes
 

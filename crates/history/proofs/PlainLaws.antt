@@ -10,16 +10,17 @@ use borrow.Author.Tests.{eq-eqb, ne-eqb, le-leb, lt-leb, lt-ltb, le-ltb}
 use lib.Dec.{eqb, ltb}
 use lib.ListN.{length, getD}
 use Rattle.card.specs.Marks.{keptAt}
-use Rattle.journal.specs.Layout.{slots}
+use Rattle.journal.specs.Geometry.{Geometry}
 use Rattle.history.specs.Plain.{Plain, none, ofSync, ofApply, ofRecover, applies, syncTakes, applyWaits, syncWaits, unchanged, Verdict, applyVerdict, ownVerdict, verdict, cutShort, plainSync, plainApply, plainRecover, headerKept, done, still, synced, cleared, recovered}
 
 -- ---- orders and waiting writes
 
-pub no-apply : (n m : ℕ) → n + m ≤ slots → applies n m ≡ false
-no-apply n m h = rw (le-leb _ _ h)
+module _ (geo : Geometry) where
+  pub no-apply : (n m : ℕ) → n + m ≤ geo .slots → applies geo n m ≡ false
+  no-apply n m h = rw (le-leb _ _ h)
 
-pub do-apply : (n m : ℕ) → slots < n + m → applies n m ≡ true
-do-apply n m h = rw (lt-leb _ _ h)
+  pub do-apply : (n m : ℕ) → geo .slots < n + m → applies geo n m ≡ true
+  do-apply n m h = rw (lt-leb _ _ h)
 
 pub waits-homes : (n k : ℕ) → k ≤ n → applyWaits n k ≡ k
 waits-homes n k h = rw (le-leb _ _ h)
@@ -30,46 +31,47 @@ waits-flushed n k h = rw (lt-leb k n (omega arith), ne-eqb k (n + 2) (λ e. omeg
 pub waits-header : (n k : ℕ) → k ≡ n + 2 → applyWaits n k ≡ 1
 waits-header n k h = rw (lt-leb k n (omega arith), eq-eqb k (n + 2) h)
 
-pub sync-waits-apply : (n m k : ℕ) → slots < n + m → k < n + 3 → syncWaits n m k ≡ applyWaits n k
-sync-waits-apply n m k h l = rw (do-apply n m h, lt-ltb k (n + 3) l)
+module _ (geo : Geometry) where
+  pub sync-waits-apply : (n m k : ℕ) → geo .slots < n + m → k < n + 3 → syncWaits geo n m k ≡ applyWaits n k
+  sync-waits-apply n m k h l = rw (do-apply geo n m h, lt-ltb k (n + 3) l)
 
--- ---- a sync: the orders of the apply inside, and n as its own part meets it
+  -- ---- a sync: the orders of the apply inside, and n as its own part meets it
 
-abbrev pub innerTakes : ℕ → ℕ → ℕ
-innerTakes n m = cond (applies n m) (n + 3) 0
+  abbrev pub innerTakes : ℕ → ℕ → ℕ
+  innerTakes n m = cond (applies geo n m) (n + 3) 0
 
-abbrev pub countMet : ℕ → ℕ → ℕ
-countMet n m = cond (applies n m) 0 n
+  abbrev pub countMet : ℕ → ℕ → ℕ
+  countMet n m = cond (applies geo n m) 0 n
 
-pub sync-takes : (n m : ℕ) → syncTakes n m ≡ innerTakes n m + (m + 3)
-sync-takes n m = go (applies n m)
-  where
-    go : (t : Bool) → cond t (n + 3 + (m + 3)) (m + 3) ≡ cond t (n + 3) 0 + (m + 3)
-    go true = refl
-    go false = omega arith
+  pub sync-takes : (n m : ℕ) → syncTakes geo n m ≡ innerTakes n m + (m + 3)
+  sync-takes n m = go (applies geo n m)
+    where
+      go : (t : Bool) → cond t (n + 3 + (m + 3)) (m + 3) ≡ cond t (n + 3) 0 + (m + 3)
+      go true = refl
+      go false = omega arith
 
-pub sync-waits-own : (n m k : ℕ) → innerTakes n m ≤ k → syncWaits n m k ≡ k - innerTakes n m
-sync-waits-own n m k h = go (applies n m) h
-  where
-    go : (t : Bool) → cond t (n + 3) 0 ≤ k → cond t (cond (ltb k (n + 3)) (applyWaits n k) (k - (n + 3))) k ≡ k - cond t (n + 3) 0
-    go true l = rw (le-ltb k (n + 3) l)
-    go false l = omega arith
+  pub sync-waits-own : (n m k : ℕ) → innerTakes n m ≤ k → syncWaits geo n m k ≡ k - innerTakes n m
+  sync-waits-own n m k h = go (applies geo n m) h
+    where
+      go : (t : Bool) → cond t (n + 3) 0 ≤ k → cond t (cond (ltb k (n + 3)) (applyWaits n k) (k - (n + 3))) k ≡ k - cond t (n + 3) 0
+      go true l = rw (le-ltb k (n + 3) l)
+      go false l = omega arith
 
--- ---- the steps
+  -- ---- the steps
 
-pub sync-nothing : (d : Plain) → length (d .G) ≡ 0 → plainSync d ≡ still d
-unfolding plainSync
-sync-nothing d h = rw (eq-eqb _ _ h)
+  pub sync-nothing : (d : Plain) → length (d .G) ≡ 0 → plainSync geo d ≡ still d
+  unfolding plainSync
+  sync-nothing d h = rw (eq-eqb _ _ h)
 
-pub sync-finished : (d : Plain) → length (d .G) ≢ 0 → syncTakes (d .n) (length (d .G)) ≤ d .power
-    → plainSync d ≡ done (syncTakes (d .n) (length (d .G))) (synced d)
-unfolding plainSync
-sync-finished d h p = rw (ne-eqb _ _ h, le-leb _ _ p)
+  pub sync-finished : (d : Plain) → length (d .G) ≢ 0 → syncTakes geo (d .n) (length (d .G)) ≤ d .power
+      → plainSync geo d ≡ done (syncTakes geo (d .n) (length (d .G))) (synced geo d)
+  unfolding plainSync
+  sync-finished d h p = rw (ne-eqb _ _ h, le-leb _ _ p)
 
-pub sync-short : (d : Plain) → length (d .G) ≢ 0 → d .power < syncTakes (d .n) (length (d .G))
-    → plainSync d ≡ cutShort (ofSync (d .power)) (syncWaits (d .n) (length (d .G)) (d .power)) d
-unfolding plainSync
-sync-short d h p = rw (ne-eqb _ _ h, lt-leb _ _ p)
+  pub sync-short : (d : Plain) → length (d .G) ≢ 0 → d .power < syncTakes geo (d .n) (length (d .G))
+      → plainSync geo d ≡ cutShort (ofSync (d .power)) (syncWaits geo (d .n) (length (d .G)) (d .power)) d
+  unfolding plainSync
+  sync-short d h p = rw (ne-eqb _ _ h, lt-leb _ _ p)
 
 pub apply-nothing : (d : Plain) → d .n ≡ 0 → plainApply d ≡ still d
 unfolding plainApply
@@ -100,9 +102,10 @@ recover-short d h p = rw (h, lt-leb 2 (d .power) p)
 
 -- ---- the choice at a cut
 
-pub choose-none : (n m : ℕ) (F kept found : Bool) → verdict none n m F kept found ≡ unchanged n F
-unfolding verdict
-choose-none n m F kept found = refl
+module _ (geo : Geometry) where
+  pub choose-none : (n m : ℕ) (F kept found : Bool) → verdict geo none n m F kept found ≡ unchanged n F
+  unfolding verdict
+  choose-none n m F kept found = refl
 
 pub apply-before : (k n : ℕ) (F kept : Bool) → k < n + 2 → applyVerdict k n F kept ≡ unchanged n F
 unfolding applyVerdict
@@ -126,51 +129,52 @@ apply-laid k n F kept = go (ltb k (n + 2)) (eqb k (n + 2))
     go false true = refl
     go false false = refl
 
-pub choose-apply : (k n m : ℕ) (F kept found : Bool) → verdict (ofApply k) n m F kept found ≡ applyVerdict k n F kept
-unfolding verdict
-choose-apply k n m F kept found = refl
+module _ (geo : Geometry) where
+  pub choose-apply : (k n m : ℕ) (F kept found : Bool) → verdict geo (ofApply k) n m F kept found ≡ applyVerdict k n F kept
+  unfolding verdict
+  choose-apply k n m F kept found = refl
 
-pub choose-recover-none : (n m : ℕ) (F kept found : Bool) → verdict (ofRecover 0) n m F kept found ≡ unchanged n F
-unfolding verdict
-choose-recover-none n m F kept found = refl
+  pub choose-recover-none : (n m : ℕ) (F kept found : Bool) → verdict geo (ofRecover 0) n m F kept found ≡ unchanged n F
+  unfolding verdict
+  choose-recover-none n m F kept found = refl
 
-pub choose-recover : (n m : ℕ) (F kept found : Bool) → verdict (ofRecover 1) n m F kept found ≡ unchanged n (not kept)
-unfolding verdict
-choose-recover n m F kept found = refl
+  pub choose-recover : (n m : ℕ) (F kept found : Bool) → verdict geo (ofRecover 1) n m F kept found ≡ unchanged n (not kept)
+  unfolding verdict
+  choose-recover n m F kept found = refl
 
-pub choose-sync-apply : (k n m : ℕ) (F kept found : Bool) → slots < n + m → k ≢ n + 3 + (m + 2) → verdict (ofSync k) n m F kept found ≡ applyVerdict k n F kept
-unfolding verdict
-choose-sync-apply k n m F kept found h z = rw (do-apply n m h, ne-eqb k (n + 3 + (m + 2)) z)
+  pub choose-sync-apply : (k n m : ℕ) (F kept found : Bool) → geo .slots < n + m → k ≢ n + 3 + (m + 2) → verdict geo (ofSync k) n m F kept found ≡ applyVerdict k n F kept
+  unfolding verdict
+  choose-sync-apply k n m F kept found h z = rw (do-apply geo n m h, ne-eqb k (n + 3 + (m + 2)) z)
 
--- its own at its header, else the apply's inside or none
-sync-verdict : (k n m : ℕ) (F kept found : Bool)
-    → verdict (ofSync k) n m F kept found ≡ cond (eqb k (innerTakes n m + (m + 2))) (ownVerdict (countMet n m) m kept found) (cond (applies n m) (applyVerdict k n F kept) (unchanged n F))
-unfolding verdict
-sync-verdict k n m F kept found = go (applies n m)
-  where
-    go : (t : Bool) → cond t (cond (eqb k (n + 3 + (m + 2))) (ownVerdict 0 m kept found) (applyVerdict k n F kept)) (cond (eqb k (m + 2)) (ownVerdict n m kept found) (unchanged n F))
-        ≡ cond (eqb k (cond t (n + 3) 0 + (m + 2))) (ownVerdict (cond t 0 n) m kept found) (cond t (applyVerdict k n F kept) (unchanged n F))
-    go true = refl
-    go false = let e : 0 + (m + 2) ≡ m + 2 = omega arith in rw e
+  -- its own at its header, else the apply's inside or none
+  sync-verdict : (k n m : ℕ) (F kept found : Bool)
+      → verdict geo (ofSync k) n m F kept found ≡ cond (eqb k (innerTakes geo n m + (m + 2))) (ownVerdict (countMet geo n m) m kept found) (cond (applies geo n m) (applyVerdict k n F kept) (unchanged n F))
+  unfolding verdict
+  sync-verdict k n m F kept found = go (applies geo n m)
+    where
+      go : (t : Bool) → cond t (cond (eqb k (n + 3 + (m + 2))) (ownVerdict 0 m kept found) (applyVerdict k n F kept)) (cond (eqb k (m + 2)) (ownVerdict n m kept found) (unchanged n F))
+          ≡ cond (eqb k (cond t (n + 3) 0 + (m + 2))) (ownVerdict (cond t 0 n) m kept found) (cond t (applyVerdict k n F kept) (unchanged n F))
+      go true = refl
+      go false = let e : 0 + (m + 2) ≡ m + 2 = omega arith in rw e
 
-pub choose-sync-own : (k n m : ℕ) (F kept found : Bool) → k ≡ innerTakes n m + (m + 2) → verdict (ofSync k) n m F kept found ≡ ownVerdict (countMet n m) m kept found
-choose-sync-own k n m F kept found e = sync-verdict k n m F kept found ∙ rw (eq-eqb k (innerTakes n m + (m + 2)) e)
+  pub choose-sync-own : (k n m : ℕ) (F kept found : Bool) → k ≡ innerTakes geo n m + (m + 2) → verdict geo (ofSync k) n m F kept found ≡ ownVerdict (countMet geo n m) m kept found
+  choose-sync-own k n m F kept found e = sync-verdict k n m F kept found ∙ rw (eq-eqb k (innerTakes geo n m + (m + 2)) e)
 
--- behind the apply inside, before its own header
-pub choose-sync-before : (k n m : ℕ) (kept found : Bool) → innerTakes n m ≤ k → k < innerTakes n m + (m + 2) → verdict (ofSync k) n m false kept found ≡ unchanged (countMet n m) false
-choose-sync-before k n m kept found h l = sync-verdict k n m false kept found ∙ rw (ne-eqb k (innerTakes n m + (m + 2)) (λ e. omega arith)) (go (applies n m) h)
-  where
-    go : (t : Bool) → cond t (n + 3) 0 ≤ k → cond t (applyVerdict k n false kept) (unchanged n false) ≡ unchanged (cond t 0 n) false
-    go true a = apply-behind k n false kept (omega arith)
-    go false a = refl
+  -- behind the apply inside, before its own header
+  pub choose-sync-before : (k n m : ℕ) (kept found : Bool) → innerTakes geo n m ≤ k → k < innerTakes geo n m + (m + 2) → verdict geo (ofSync k) n m false kept found ≡ unchanged (countMet geo n m) false
+  choose-sync-before k n m kept found h l = sync-verdict k n m false kept found ∙ rw (ne-eqb k (innerTakes geo n m + (m + 2)) (λ e. omega arith)) (go (applies geo n m) h)
+    where
+      go : (t : Bool) → cond t (n + 3) 0 ≤ k → cond t (applyVerdict k n false kept) (unchanged n false) ≡ unchanged (cond t 0 n) false
+      go true a = apply-behind k n false kept (omega arith)
+      go false a = refl
 
--- but at its own header it lays nothing
-pub sync-still : (k n m : ℕ) (F kept found : Bool) → k ≢ innerTakes n m + (m + 2) → verdict (ofSync k) n m F kept found .laid ≡ false
-sync-still k n m F kept found e = ap (λ (v : Verdict). v .laid) (sync-verdict k n m F kept found) ∙ rw (ne-eqb k (innerTakes n m + (m + 2)) e) (go (applies n m))
-  where
-    go : (t : Bool) → cond t (applyVerdict k n F kept) (unchanged n F) .laid ≡ false
-    go true = apply-laid k n F kept
-    go false = refl
+  -- but at its own header it lays nothing
+  pub sync-still : (k n m : ℕ) (F kept found : Bool) → k ≢ innerTakes geo n m + (m + 2) → verdict geo (ofSync k) n m F kept found .laid ≡ false
+  sync-still k n m F kept found e = ap (λ (v : Verdict). v .laid) (sync-verdict k n m F kept found) ∙ rw (ne-eqb k (innerTakes geo n m + (m + 2)) e) (go (applies geo n m))
+    where
+      go : (t : Bool) → cond t (applyVerdict k n F kept) (unchanged n F) .laid ≡ false
+      go true = apply-laid k n F kept
+      go false = refl
 
 pub own-lost : (n m : ℕ) (found : Bool) → ownVerdict n m false found ≡ unchanged n false
 unfolding ownVerdict
@@ -197,17 +201,18 @@ own-laid n m true true = refl
 own-laid n m true false = refl
 own-laid n m false u = refl
 
-pub sync-laid : (n m k : ℕ) (F found : Bool) (ms : List ℕ)
-    → verdict (ofSync k) n m F (headerKept ms (syncWaits n m k)) found .laid ≡ eqb k (innerTakes n m + (m + 2)) && keptAt ms (m + 1) && found
-sync-laid n m k F found ms = go (ℕ-discrete k (innerTakes n m + (m + 2)))
-  where
-    go : Dec (k ≡ innerTakes n m + (m + 2)) → verdict (ofSync k) n m F (headerKept ms (syncWaits n m k)) found .laid ≡ eqb k (innerTakes n m + (m + 2)) && keptAt ms (m + 1) && found
-    go (yes e) =
-        let w : syncWaits n m k ≡ suc (m + 1) = sync-waits-own n m k (omega arith) ∙ (omega arith) in
-        ap (λ (v : Verdict). v .laid) (choose-sync-own k n m F (headerKept ms (syncWaits n m k)) found e)
-        ∙ own-laid (countMet n m) m (headerKept ms (syncWaits n m k)) found
-        ∙ ap (λ (t : Bool). t && found) (kept-mark ms (syncWaits n m k) (m + 1) w)
-        ∙ sym (ap (λ (t : Bool). t && keptAt ms (m + 1) && found) (eq-eqb k (innerTakes n m + (m + 2)) e))
-    go (no e) =
-        sync-still k n m F (headerKept ms (syncWaits n m k)) found e
-        ∙ sym (ap (λ (t : Bool). t && keptAt ms (m + 1) && found) (ne-eqb k (innerTakes n m + (m + 2)) e))
+module _ (geo : Geometry) where
+  pub sync-laid : (n m k : ℕ) (F found : Bool) (ms : List ℕ)
+      → verdict geo (ofSync k) n m F (headerKept ms (syncWaits geo n m k)) found .laid ≡ eqb k (innerTakes geo n m + (m + 2)) && keptAt ms (m + 1) && found
+  sync-laid n m k F found ms = go (ℕ-discrete k (innerTakes geo n m + (m + 2)))
+    where
+      go : Dec (k ≡ innerTakes geo n m + (m + 2)) → verdict geo (ofSync k) n m F (headerKept ms (syncWaits geo n m k)) found .laid ≡ eqb k (innerTakes geo n m + (m + 2)) && keptAt ms (m + 1) && found
+      go (yes e) =
+          let w : syncWaits geo n m k ≡ suc (m + 1) = sync-waits-own geo n m k (omega arith) ∙ (omega arith) in
+          ap (λ (v : Verdict). v .laid) (choose-sync-own geo k n m F (headerKept ms (syncWaits geo n m k)) found e)
+          ∙ own-laid (countMet geo n m) m (headerKept ms (syncWaits geo n m k)) found
+          ∙ ap (λ (t : Bool). t && found) (kept-mark ms (syncWaits geo n m k) (m + 1) w)
+          ∙ sym (ap (λ (t : Bool). t && keptAt ms (m + 1) && found) (eq-eqb k (innerTakes geo n m + (m + 2)) e))
+      go (no e) =
+          sync-still geo k n m F (headerKept ms (syncWaits geo n m k)) found e
+          ∙ sym (ap (λ (t : Bool). t && keptAt ms (m + 1) && found) (ne-eqb k (innerTakes geo n m + (m + 2)) e))

@@ -6,10 +6,11 @@ use native.Mathlib.Omega.{arith}
 use native.Mathlib.Decide.{decLe}
 use lib.ListN.{length, take, length-append, length-map, length-take}
 use Rattle.cells.specs.Entry.{entryBytes, Entry}
-use Rattle.card.specs.Card.{Card, Order, write, flush, settle, run, places}
+use Rattle.card.specs.Card.{Card, Order, write, flush, settle, run}
 use Rattle.card.proofs.All.{All, all-map, all-take}
 use Rattle.card.proofs.Runs.{Whole, NarrowAddress, run-nil, run-append, length-settle}
 use Rattle.crash.proofs.Batches.{Left, Fit, batch, batch-short, batch-done, left-dead, left-then, left-power}
+use Rattle.journal.specs.Geometry.{Geometry}
 
 -- the writes of each batch
 abbrev pub Plan : Type 0
@@ -52,11 +53,12 @@ pub settles-append : (a b : Plan) (s : List ℕ) → settles (a ++ b) s ≡ sett
 settles-append [] b s = refl
 settles-append (W ∷ a) b s = settles-append a b (settle W s)
 
--- a batch fits the empty queue of a card of N blocks
-pub record Fits (N : ℕ) (W : List Entry) : Type 0 where
-  pub few : length W ≤ places
-  pub whole : All Whole W
-  pub low : All (λ e. e .address < N) W
+module _ (geo : Geometry) where
+  -- a batch fits the empty queue of a card of N blocks
+  pub record Fits (N : ℕ) (W : List Entry) : Type 0 where
+    pub few : length W ≤ geo .places
+    pub whole : All Whole W
+    pub low : All (λ e. e .address < N) W
 
 -- ---- what is asked wherever power can end: of the settled bytes, the waiting writes and the orders carried out, k of them before
 
@@ -95,58 +97,59 @@ throughout-all X (W ∷ Ws) s k f = (λ j i h e. f s (take j W) i (omega arith),
 
 -- ---- for any power
 
--- with less: the batches before one are settled, and of that one the first writes wait
-pub record Stopped (N : ℕ) (c r : Card) (X : Asked) (s₀ : List ℕ) (i : ℕ) : Type 0 where
-  pub s : List ℕ
-  pub q : List Entry
-  pub left : Left c r s q 0
-  pub long : length s ≡ length s₀
-  pub few : length q ≤ places
-  pub low : All (λ e. e .address < N) q
-  pub met : X s q i
+module _ (geo : Geometry) where
+  -- with less: the batches before one are settled, and of that one the first writes wait
+  pub record Stopped (N : ℕ) (c r : Card) (X : Asked) (s₀ : List ℕ) (i : ℕ) : Type 0 where
+    pub s : List ℕ
+    pub q : List Entry
+    pub left : Left c r s q 0
+    pub long : length s ≡ length s₀
+    pub few : length q ≤ geo .places
+    pub low : All (λ e. e .address < N) q
+    pub met : X s q i
 
-module _ (N : ℕ) (c₀ : Card) (small : N < 2 ^ 32) (room : length (c₀ .waiting) ≡ entryBytes * places) where
-  fit : (c : Card) (s : List ℕ) (p : ℕ) (W : List Entry) → Left c₀ c s [] p → Fits N W → Fit c W
-  fit c s p W l f = record {
-    none = l .count;
-    room = let e : length (c .waiting) ≡ entryBytes * places = l .room ∙ room in omega (arith, f .few);
-    whole = f .whole;
-    low = all-map (λ e. e .address < N) NarrowAddress (λ e h. omega arith) W (f .low);
-  }
+  module _ (N : ℕ) (c₀ : Card) (small : N < 2 ^ 32) (room : length (c₀ .waiting) ≡ entryBytes * geo .places) where
+    fit : (c : Card) (s : List ℕ) (p : ℕ) (W : List Entry) → Left c₀ c s [] p → Fits geo N W → Fit c W
+    fit c s p W l f = record {
+      none = l .count;
+      room = let e : length (c .waiting) ≡ entryBytes * geo .places = l .room ∙ room in omega (arith, f .few);
+      whole = f .whole;
+      low = all-map (λ e. e .address < N) NarrowAddress (λ e h. omega arith) W (f .low);
+    }
 
-  -- with enough: every batch is settled
-  pub plan-done : (Ws : Plan) (c : Card) (s : List ℕ) (p : ℕ) → Left c₀ c s [] p → All (Fits N) Ws → takes Ws ≤ p → Left c₀ (run (planned Ws) c) (settles Ws s) [] (p - takes Ws)
-  plan-done [] c s p l f h = let e : p ≡ p - 0 = omega arith in rw (run-nil c) (left-power e l)
-  plan-done (W ∷ Ws) c s p l f h =
-      let b = batch-done c W (fit c s p W l (f .0)) (omega (arith, l .power)) in
-      let e : p - (length W + 1) - takes Ws ≡ p - (length W + 1 + takes Ws) = omega arith in
-      rw (run-append (batch W) (planned Ws) c)
-      (left-power e
-      (plan-done Ws (run (batch W) c) (settle W s) (p - (length W + 1)) (left-then l b (ap (settle W) (l .settled)) refl (ap (λ (k : ℕ). k - (length W + 1)) (l .power))) (f .1) (omega arith)))
+    -- with enough: every batch is settled
+    pub plan-done : (Ws : Plan) (c : Card) (s : List ℕ) (p : ℕ) → Left c₀ c s [] p → All (Fits geo N) Ws → takes Ws ≤ p → Left c₀ (run (planned Ws) c) (settles Ws s) [] (p - takes Ws)
+    plan-done [] c s p l f h = let e : p ≡ p - 0 = omega arith in rw (run-nil c) (left-power e l)
+    plan-done (W ∷ Ws) c s p l f h =
+        let b = batch-done c W (fit c s p W l (f .0)) (omega (arith, l .power)) in
+        let e : p - (length W + 1) - takes Ws ≡ p - (length W + 1 + takes Ws) = omega arith in
+        rw (run-append (batch W) (planned Ws) c)
+        (left-power e
+        (plan-done Ws (run (batch W) c) (settle W s) (p - (length W + 1)) (left-then l b (ap (settle W) (l .settled)) refl (ap (λ (k : ℕ). k - (length W + 1)) (l .power))) (f .1) (omega arith)))
 
-  pub plan-short : (X : Asked) (Ws : Plan) (c : Card) (s : List ℕ) (p k i : ℕ) → i ≡ k + p → Left c₀ c s [] p → All (Fits N) Ws → p < takes Ws → Throughout X Ws s k
-      → Stopped N c₀ (run (planned Ws) c) X s i
-  plan-short X [] c s p k i z l f h x = absurd (omega arith)
-  plan-short X (W ∷ Ws) c s p k i z l f h x =
-      go (decLe p (length W))
-      (λ m.
-      let b = batch-done c W (fit c s p W l (f .0)) (omega (arith, l .power)) in
-      plan-short X Ws (run (batch W) c) (settle W s) (p - (length W + 1)) (k + (length W + 1)) i (omega arith)
-      (left-then l b (ap (settle W) (l .settled)) refl (ap (λ (n : ℕ). n - (length W + 1)) (l .power))) (f .1) (omega arith) (x .1))
-    where
-      go : Dec (p ≤ length W) → (length W < p → Stopped N c₀ (run (planned Ws) (run (batch W) c)) X (settle W s) i) → Stopped N c₀ (run (batch W ++ planned Ws) c) X s i
-      go (yes m) more =
-          let b = batch-short c W (fit c s p W l (f .0)) (omega (arith, l .power)) in
-          record {
-            s = s;
-            q = take p W;
-            left = rw (run-append (batch W) (planned Ws) c)
-                (left-dead c₀ (run (batch W) c) s (take p W) (planned Ws) (left-then l b (l .settled) (ap (λ (n : ℕ). take n W) (l .power)) refl));
-            long = refl;
-            few = rw (length-take p W) (omega (arith, f .0 .few));
-            low = all-take (λ e. e .address < N) p W (f .0 .low);
-            met = x .0 p i m z;
-          }
-      go (no m) more =
-          let y = more (omega arith) in
-          record { s = y .s; q = y .q; left = rw (run-append (batch W) (planned Ws) c) (y .left); long = y .long ∙ length-settle W s; few = y .few; low = y .low; met = y .met }
+    pub plan-short : (X : Asked) (Ws : Plan) (c : Card) (s : List ℕ) (p k i : ℕ) → i ≡ k + p → Left c₀ c s [] p → All (Fits geo N) Ws → p < takes Ws → Throughout X Ws s k
+        → Stopped N c₀ (run (planned Ws) c) X s i
+    plan-short X [] c s p k i z l f h x = absurd (omega arith)
+    plan-short X (W ∷ Ws) c s p k i z l f h x =
+        go (decLe p (length W))
+        (λ m.
+        let b = batch-done c W (fit c s p W l (f .0)) (omega (arith, l .power)) in
+        plan-short X Ws (run (batch W) c) (settle W s) (p - (length W + 1)) (k + (length W + 1)) i (omega arith)
+        (left-then l b (ap (settle W) (l .settled)) refl (ap (λ (n : ℕ). n - (length W + 1)) (l .power))) (f .1) (omega arith) (x .1))
+      where
+        go : Dec (p ≤ length W) → (length W < p → Stopped N c₀ (run (planned Ws) (run (batch W) c)) X (settle W s) i) → Stopped N c₀ (run (batch W ++ planned Ws) c) X s i
+        go (yes m) more =
+            let b = batch-short c W (fit c s p W l (f .0)) (omega (arith, l .power)) in
+            record {
+              s = s;
+              q = take p W;
+              left = rw (run-append (batch W) (planned Ws) c)
+                  (left-dead c₀ (run (batch W) c) s (take p W) (planned Ws) (left-then l b (l .settled) (ap (λ (n : ℕ). take n W) (l .power)) refl));
+              long = refl;
+              few = rw (length-take p W) (omega (arith, f .0 .few));
+              low = all-take (λ e. e .address < N) p W (f .0 .low);
+              met = x .0 p i m z;
+            }
+        go (no m) more =
+            let y = more (omega arith) in
+            record { s = y .s; q = y .q; left = rw (run-append (batch W) (planned Ws) c) (y .left); long = y .long ∙ length-settle W s; few = y .few; low = y .low; met = y .met }

@@ -15,6 +15,7 @@ use Rattle.card.specs.Disk.{Disk}
 use Rattle.card.specs.Card.{settle, blockAt}
 use Rattle.card.proofs.Runs.{Whole}
 use Rattle.card.specs.Marks.{keptAt}
+use Rattle.journal.specs.Geometry.{Geometry}
 use Rattle.journal.specs.declared.choice.Choice.{Choice}
 use Rattle.journal.specs.declared.choice.Choice.the-variants.{Fallback}
 use Rattle.journal.specs.Layout.{firstData}
@@ -47,176 +48,177 @@ use Rattle.history.proofs.Worlds.{settledLedger, plainShut, closedWorld
 recover-no-get : (a : ℕ) → recover ≡ get a → ⊥
 recover-no-get a e = let z : _≡_ {A = ℕ} 0 1 = cc in omega arith
 
--- not refused, so closed
-pub is-closed : (st : State) (l : Ledger) (d : Plain) → Sim st l d → Passes Request.recover st → ClosedSim st l d
-is-closed st l d m p = go (m .phase)
-  where
-    go : OpenSim st l d ⊎ (ClosedSim st l d ⊎ DownSim st l d) → ClosedSim st l d
-    go (_⊎_.inl o) = absurd (true≢false (rw (eq-eqb _ _ (o .mode)) at (p .own .1 .0)))
-    go (_⊎_.inr (_⊎_.inl o)) = o
-    go (_⊎_.inr (_⊎_.inr o)) = absurd (true≢false (rw (eq-eqb _ _ (o .mode)) at (p .own .0)))
+module _ (geo : Geometry) where
+  -- not refused, so closed
+  pub is-closed : (st : State) (l : Ledger) (d : Plain) → Sim geo st l d → Passes geo Request.recover st → ClosedSim geo st l d
+  is-closed st l d m p = go (m .phase)
+    where
+      go : OpenSim geo st l d ⊎ (ClosedSim geo st l d ⊎ DownSim geo st l d) → ClosedSim geo st l d
+      go (_⊎_.inl o) = absurd (true≢false (rw (eq-eqb _ _ (o .mode)) at (p .own .1 .0)))
+      go (_⊎_.inr (_⊎_.inl o)) = o
+      go (_⊎_.inr (_⊎_.inr o)) = absurd (true≢false (rw (eq-eqb _ _ (o .mode)) at (p .own .0)))
 
-module _ (st : State) (v : List Entry) (S : Disk) (n : ℕ) (F x : Bool) (f : Closed st v S n F) where
-  abbrev w : World
-  w = closedWorld st v S n F x
+  module _ (st : State) (v : List Entry) (S : Disk) (n : ℕ) (F x : Bool) (f : Closed geo st v S n F) where
+    abbrev w : World
+    w = closedWorld st v S n F x
 
-  abbrev d : Plain
-  d = plainShut st S n F
+    abbrev d : Plain
+    d = plainShut st S n F
 
-  abbrev N : ℕ
-  N = st .rec .blocks
+    abbrev N : ℕ
+    N = st .rec .blocks
 
-  abbrev s : List ℕ
-  s = st .settled
+    abbrev s : List ℕ
+    s = st .settled
 
-  abbrev sum : ℕ
-  sum = sumOf start (entries (st .settled) n)
+    abbrev sum : ℕ
+    sum = sumOf start (entries geo (st .settled) n)
 
-  rc : RecordFacts st
-  rc = record-facts st (f .basics .counts)
+    rc : RecordFacts geo st
+    rc = record-facts geo st (f .basics .counts)
 
-  small : N < 2 ^ 32
-  small = small-N st d (f .basics)
+    small : N < 2 ^ 32
+    small = small-N geo st d (f .basics)
 
-  big : firstData < N
-  big = big-N st d (f .basics)
+    big : firstData geo < N
+    big = big-N geo st d (f .basics)
 
-  idle : st .rec .waiting ≡ 0
-  idle = idle-closed w (f .basics) (f .sim)
+    idle : st .rec .waiting ≡ 0
+    idle = idle-closed geo w (f .basics) (f .sim)
 
-  served : refusal recover d ≡ 0
-  unfolding refusal
-  served = refl
+    served : refusal geo recover d ≡ 0
+    unfolding refusal
+    served = refl
 
-  accepted : cause Request.recover st ≡ 0
-  accepted = same-cause st (settledLedger v) d (closed-sim f) recover ∙ served
+    accepted : cause geo Request.recover st ≡ 0
+    accepted = same-cause geo st (settledLedger v) d (closed-sim geo f) recover ∙ served
 
-  call : (c : Choice) → choose N s ≡ c → recoverCall st ≡ recovering c st
-  unfolding recoverCall
-  call c e = rw (eq-eqb _ 0 accepted) (ap (λ (y : Choice). recovering y st) e)
+    call : (c : Choice) → choose geo N s ≡ c → recoverCall geo st ≡ recovering c st
+    unfolding recoverCall
+    call c e = rw (eq-eqb _ 0 accepted) (ap (λ (y : Choice). recovering y st) e)
 
-  plain : plainStep recover (foundWritten recover w) d ≡ plainRecover d
-  plain = plain-served recover (foundWritten recover w) d served
+    plain : plainStep geo recover (foundWritten geo recover w) d ≡ plainRecover d
+    plain = plain-served geo recover (foundWritten geo recover w) d served
 
-  -- no header is to be written
-  whole : F ≡ false → WholeCard N (blockAt s) v S n → Gives recover w []
-  unfolding entered
-  whole e r = record {
-    done = reopened n sum (st .rec);
-    gone = st .rec;
-    call = call _ (choose-whole N s small v S n r);
-    none-waits = idle;
-    fits = tt;
-    counts = countable st rc (st .rec .logged) (st .rec .sum) (rc .log-count);
-    headers = recoverHeaders st;
-    notes = refl;
-    short = ofRecover;
-    waits = λ k. k;
-    S = S;
-    plain-done = λ p. plain ∙ recover-whole d e;
-    plain-short = λ p. absurd (omega arith);
-    cuts = tt;
-    list = v;
-    noted-all = noted-none (recoverHeaders st) (settledLedger v);
-    mode = refl;
-    blocks = refl;
-    opened = none-listed _ _ _;
-    grouped = none-listed _ _ _;
-    sum = ap (sumOf start) (entries-disk s n);
-    card = r;
-    no-get = recover-no-get;
-  }
-
-  -- one is: the fallback's
-  module _ (e : F ≡ true) (r : FallCard N (blockAt s) v S n) where
-    abbrev top : Entry
-    top = fallHeader N s n
-
-    abbrev plan : Plan
-    plan = (top ∷ []) ∷ []
-
-    log-is : entries s n ≡ logD (blockAt s) n
-    log-is = entries-disk s n
-
-    chosen : choose N s ≡ Fallback n (sumOf start (logD (blockAt s) n))
-    chosen = choose-fallback N s small v S n r ∙ ap (λ (y : List Entry). Fallback n (sumOf start y)) log-is
-
-    list : taken st ≡ logD (blockAt s) n
-    list = ap (λ (c : Choice). entries s (takenCount c)) chosen ∙ log-is
-
-    top-whole : Whole top
-    top-whole = length-encode (header N n (sumOf start (logD (blockAt s) n)) n (sumOf start (logD (blockAt s) n)))
-
-    abbrev At : Asked
-    At = CutsAt w (recoverHeaders st) ofRecover (λ k. k)
-
-    -- before the header
-    still : At s [] 0
-    unfolding resolved
-    still = record {
-      waiting = refl;
-      leads = λ c l ms y.
-          rw (noted-none (recoverHeaders st) (settledLedger v))
-          (leads-still _ _ (unchanged n F) (choose-recover-none n 0 F (headerKept ms 0) _) refl
-          (rw e (fall-still N s n v S _ c 0 ms big (rc .blocks) r l y)));
-    }
-
-    -- behind it
-    note-top : noted (recoverHeaders st) 1 (settledLedger v) ≡ record { written = v; pending = waits 0 (logD (blockAt s) n) }
-    unfolding recoverHeaders noted
-    note-top = ap (λ (y : List Entry). record { written = v; pending = waits 0 y }) list
-
-    headed : At s (top ∷ []) 1
-    unfolding resolved
-    headed = record {
-      waiting = refl;
-      leads = λ c l ms y.
-          rw note-top
-          (leads-still _ _ (unchanged n (not (keptAt ms 0)))
-          (choose-recover n 0 F (headerKept ms 1) _ ∙ ap (λ (t : Bool). unchanged n (not t)) (kept-mark ms 1 0 refl)) refl
-          (fall-cuts N s n v S _ c ms big (rc .blocks) r top-whole l y (keptAt ms 0) refl));
-    }
-
-    fallen : WholeCard N (blockAt (settle (top ∷ []) s)) (logD (blockAt s) n) S n
-    fallen = fallen-card N s v S n (settle (top ∷ []) s) big r (λ a q. settled-laid (top ∷ []) s (settle (top ∷ []) s) a refl (omega (arith, rc .blocks)) (top-whole, tt))
-
-    fallback : Gives recover w plan
-    unfolding entered recoverHeaders noted
-    fallback = record {
-      done = reopened n (sumOf start (logD (blockAt s) n)) (st .rec);
+    -- no header is to be written
+    whole : F ≡ false → WholeCard geo N (blockAt s) v S n → Gives geo recover w []
+    unfolding entered
+    whole e r = record {
+      done = reopened n sum (st .rec);
       gone = st .rec;
-      call = call _ chosen ∙ rw (fallback-writes N n (sumOf start (logD (blockAt s) n)));
+      call = call _ (choose-whole geo N s small v S n r);
       none-waits = idle;
-      fits = (record { few = omega arith; whole = (top-whole, tt); low = (omega (arith, big), tt) }, tt);
-      counts = countable st rc (st .rec .logged) (st .rec .sum) (rc .log-count);
-      headers = recoverHeaders st;
+      fits = tt;
+      counts = countable geo st rc (st .rec .logged) (st .rec .sum) (rc .log-count);
+      headers = recoverHeaders geo st;
       notes = refl;
       short = ofRecover;
       waits = λ k. k;
       S = S;
-      plain-done = λ p. plain ∙ recover-fallback d e p;
-      plain-short = λ p. plain ∙ recover-short d e p;
-      cuts = for-one At top s 0 (λ i z. subst (At s []) (sym z) still) (λ i z. subst (At s (top ∷ [])) (let q : 1 ≡ i = omega arith in q) headed);
-      list = logD (blockAt s) n;
-      noted-all = ap settledLedger list;
+      plain-done = λ p. plain ∙ recover-whole d e;
+      plain-short = λ p. absurd (omega arith);
+      cuts = tt;
+      list = v;
+      noted-all = noted-none (recoverHeaders geo st) (settledLedger v);
       mode = refl;
       blocks = refl;
-      opened = none-listed _ _ _;
-      grouped = none-listed _ _ _;
-      sum = ap (sumOf start) (fallen .same);
-      card = fallen;
+      opened = none-listed geo _ _ _;
+      grouped = none-listed geo _ _ _;
+      sum = ap (sumOf start) (entries-disk geo s n);
+      card = r;
       no-get = recover-no-get;
     }
 
-recover-closed : (st : State) (v : List Entry) (S : Disk) (n : ℕ) (F x : Bool) → Closed st v S n F → StepOK recover (closedWorld st v S n F x)
-recover-closed st v S n false x f = gives-step recover _ _ (f .basics) (whole st v S n false x f refl (f .sim .card))
-recover-closed st v S n true x f = gives-step recover _ _ (f .basics) (fallback st v S n true x f refl (f .sim .card))
+    -- one is: the fallback's
+    module _ (e : F ≡ true) (r : FallCard geo N (blockAt s) v S n) where
+      abbrev top : Entry
+      top = fallHeader geo N s n
 
-pub recover-step : (w : World) → WorldSim w → StepOK recover w
-recover-step w m = go (ℕ-discrete (refusal recover (w .plain)) 0)
-  where
-    go : Dec (refusal recover (w .plain) ≡ 0) → StepOK recover w
-    go (no h) = refused-step recover w m h
-    go (yes h) =
-        let o : ClosedSim (w .store) (w .ledger) (w .plain) = is-closed (w .store) (w .ledger) (w .plain) m (cause-passes Request.recover (w .store) (same-cause (w .store) (w .ledger) (w .plain) m recover ∙ h)) in
-        subst (StepOK recover) (sym (closed-world w (m .basics) o)) (recover-closed (w .store) (w .ledger .written) (w .plain .S) (w .plain .n) (w .plain .F) (w .excepted) (shut w (m .basics) o))
+      abbrev plan : Plan
+      plan = (top ∷ []) ∷ []
+
+      log-is : entries geo s n ≡ logD geo (blockAt s) n
+      log-is = entries-disk geo s n
+
+      chosen : choose geo N s ≡ Fallback n (sumOf start (logD geo (blockAt s) n))
+      chosen = choose-fallback geo N s small v S n r ∙ ap (λ (y : List Entry). Fallback n (sumOf start y)) log-is
+
+      list : taken geo st ≡ logD geo (blockAt s) n
+      list = ap (λ (c : Choice). entries geo s (takenCount c)) chosen ∙ log-is
+
+      top-whole : Whole top
+      top-whole = length-encode (header N n (sumOf start (logD geo (blockAt s) n)) n (sumOf start (logD geo (blockAt s) n)))
+
+      abbrev At : Asked
+      At = CutsAt geo w (recoverHeaders geo st) ofRecover (λ k. k)
+
+      -- before the header
+      still : At s [] 0
+      unfolding resolved
+      still = record {
+        waiting = refl;
+        leads = λ c l ms y.
+            rw (noted-none (recoverHeaders geo st) (settledLedger v))
+            (leads-still geo _ _ (unchanged n F) (choose-recover-none geo n 0 F (headerKept ms 0) _) refl
+            (rw e (fall-still N s n v S _ c 0 ms big (rc .blocks) r l y)));
+      }
+
+      -- behind it
+      note-top : noted (recoverHeaders geo st) 1 (settledLedger v) ≡ record { written = v; pending = waits 0 (logD geo (blockAt s) n) }
+      unfolding recoverHeaders noted
+      note-top = ap (λ (y : List Entry). record { written = v; pending = waits 0 y }) list
+
+      headed : At s (top ∷ []) 1
+      unfolding resolved
+      headed = record {
+        waiting = refl;
+        leads = λ c l ms y.
+            rw note-top
+            (leads-still geo _ _ (unchanged n (not (keptAt ms 0)))
+            (choose-recover geo n 0 F (headerKept ms 1) _ ∙ ap (λ (t : Bool). unchanged n (not t)) (kept-mark ms 1 0 refl)) refl
+            (fall-cuts geo N s n v S _ c ms big (rc .blocks) r top-whole l y (keptAt ms 0) refl));
+      }
+
+      fallen : WholeCard geo N (blockAt (settle (top ∷ []) s)) (logD geo (blockAt s) n) S n
+      fallen = fallen-card geo N s v S n (settle (top ∷ []) s) big r (λ a q. settled-laid (top ∷ []) s (settle (top ∷ []) s) a refl (omega (arith, rc .blocks)) (top-whole, tt))
+
+      fallback : Gives geo recover w plan
+      unfolding entered recoverHeaders noted
+      fallback = record {
+        done = reopened n (sumOf start (logD geo (blockAt s) n)) (st .rec);
+        gone = st .rec;
+        call = call _ chosen ∙ rw (fallback-writes N n (sumOf start (logD geo (blockAt s) n)));
+        none-waits = idle;
+        fits = (record { few = omega arith; whole = (top-whole, tt); low = (omega (arith, big), tt) }, tt);
+        counts = countable geo st rc (st .rec .logged) (st .rec .sum) (rc .log-count);
+        headers = recoverHeaders geo st;
+        notes = refl;
+        short = ofRecover;
+        waits = λ k. k;
+        S = S;
+        plain-done = λ p. plain ∙ recover-fallback d e p;
+        plain-short = λ p. plain ∙ recover-short d e p;
+        cuts = for-one At top s 0 (λ i z. subst (At s []) (sym z) still) (λ i z. subst (At s (top ∷ [])) (let q : 1 ≡ i = omega arith in q) headed);
+        list = logD geo (blockAt s) n;
+        noted-all = ap settledLedger list;
+        mode = refl;
+        blocks = refl;
+        opened = none-listed geo _ _ _;
+        grouped = none-listed geo _ _ _;
+        sum = ap (sumOf start) (fallen .same);
+        card = fallen;
+        no-get = recover-no-get;
+      }
+
+  recover-closed : (st : State) (v : List Entry) (S : Disk) (n : ℕ) (F x : Bool) → Closed geo st v S n F → StepOK geo recover (closedWorld st v S n F x)
+  recover-closed st v S n false x f = gives-step geo recover _ _ (f .basics) (whole st v S n false x f refl (f .sim .card))
+  recover-closed st v S n true x f = gives-step geo recover _ _ (f .basics) (fallback st v S n true x f refl (f .sim .card))
+
+  pub recover-step : (w : World) → WorldSim geo w → StepOK geo recover w
+  recover-step w m = go (ℕ-discrete (refusal geo recover (w .plain)) 0)
+    where
+      go : Dec (refusal geo recover (w .plain) ≡ 0) → StepOK geo recover w
+      go (no h) = refused-step geo recover w m h
+      go (yes h) =
+          let o : ClosedSim geo (w .store) (w .ledger) (w .plain) = is-closed (w .store) (w .ledger) (w .plain) m (cause-passes geo Request.recover (w .store) (same-cause geo (w .store) (w .ledger) (w .plain) m recover ∙ h)) in
+          subst (StepOK geo recover) (sym (closed-world geo w (m .basics) o)) (recover-closed (w .store) (w .ledger .written) (w .plain .S) (w .plain .n) (w .plain .F) (w .excepted) (shut geo w (m .basics) o))

@@ -17,10 +17,11 @@ use Rattle.fnv.specs.Fnv.{start}
 use Rattle.card.specs.Card.{Card, Order, run, blockAt}
 use Rattle.card.proofs.All.{All, all-append, all-map}
 use Rattle.card.proofs.Runs.{run-nil, run-dead, run-append, run-power, settle-other}
+use Rattle.journal.specs.Geometry.{Geometry}
 use Rattle.journal.specs.declared.header.Header.{Header}
 use Rattle.journal.specs.declared.choice.Choice.{Choice}
 use Rattle.journal.specs.declared.choice.Choice.the-variants.{Whole, Fallback, Foreign, Neither}
-use Rattle.journal.specs.Layout.{slots, descriptorAt}
+use Rattle.journal.specs.Layout.{descriptorAt}
 use Rattle.journal.specs.Header.{header, emptyHeader}
 use Rattle.journal.specs.Log.{entries, slotEntry}
 use Rattle.journal.specs.Orders.{appendOrders, checkpointOrders, applyOrders, syncOrders}
@@ -115,69 +116,70 @@ more-batches c os ps a b = record {
 
 -- ---- so are the orders of recover, apply and sync
 
-module _ (st : State) (none : st .rec .waiting ≡ 0) (room : length (st .waiting) ≡ waitingBytes) where
-  header-batch : (h : Header) → Batched (cardIn st) (batch (headerEntry h ∷ []))
-  header-batch h = one-batch (cardIn st) (headerEntry h ∷ []) (record { none = none; room = omega arith; whole = (length-encode h, tt); low = (lit< tt, tt) })
+module _ (geo : Geometry) where
+  module _ (st : State) (none : st .rec .waiting ≡ 0) (room : length (st .waiting) ≡ waitingBytes geo) where
+    header-batch : (h : Header) → Batched (cardIn st) (batch (headerEntry h ∷ []))
+    header-batch h = one-batch (cardIn st) (headerEntry h ∷ []) (record { none = none; room = omega arith; whole = (length-encode h, tt); low = (lit< tt, tt) })
 
-  recover-batched : (N : ℕ) (c : Choice) → Batched (cardIn st) (recoverOrders N c)
-  recover-batched N (Whole n h) = no-batches (cardIn st)
-  recover-batched N (Fallback p h) = rw (fallback-writes N p h) (header-batch (header N p h p h))
-  recover-batched N Foreign = no-batches (cardIn st)
-  recover-batched N Neither = no-batches (cardIn st)
+    recover-batched : (N : ℕ) (c : Choice) → Batched (cardIn st) (recoverOrders N c)
+    recover-batched N (Whole n h) = no-batches (cardIn st)
+    recover-batched N (Fallback p h) = rw (fallback-writes N p h) (header-batch (header N p h p h))
+    recover-batched N Foreign = no-batches (cardIn st)
+    recover-batched N Neither = no-batches (cardIn st)
 
-module _ (st : State) (o : IsOpen st) where
-  none-waits : st .rec .waiting ≡ 0
-  none-waits = idle st (o .facts .counts) (λ z. omega (arith, o .mode))
+  module _ (st : State) (o : IsOpen geo st) where
+    none-waits : st .rec .waiting ≡ 0
+    none-waits = idle geo st (o .facts .counts) (λ z. omega (arith, o .mode))
 
-  checkpoint-batched : Batched (cardIn st) (checkpointOrders (st .rec .blocks) (entries (st .settled) (st .rec .logged)))
-  checkpoint-batched =
-      let sz = o .facts .sizes in
-      let rc = o .facts .counts in
-      let log = entries (st .settled) (st .rec .logged) in
-      rw (checkpoint-writes (st .rec .blocks) log)
-      (more-batches (cardIn st) (batch log) (batch (headerEntry (emptyHeader (st .rec .blocks)) ∷ []))
-      (one-batch (cardIn st) log
-      (record {
-        none = none-waits;
-        room = omega (arith, length-upTo (slotEntry (st .settled)) (st .rec .logged), rc .log-count, sz .waiting);
-        whole = entries-whole (st .settled) (st .rec .logged) (omega (arith, sz .least)) (rc .log-count);
-        low = data-short (st .rec .blocks) (omega (arith, sz .most, rc .blocks)) log (o .lists .log-data);
-      }))
-      (header-batch st none-waits (sz .waiting) (emptyHeader (st .rec .blocks))))
+    checkpoint-batched : Batched (cardIn st) (checkpointOrders (st .rec .blocks) (entries geo (st .settled) (st .rec .logged)))
+    checkpoint-batched =
+        let sz = o .facts .sizes in
+        let rc = o .facts .counts in
+        let log = entries geo (st .settled) (st .rec .logged) in
+        rw (checkpoint-writes (st .rec .blocks) log)
+        (more-batches (cardIn st) (batch log) (batch (headerEntry (emptyHeader (st .rec .blocks)) ∷ []))
+        (one-batch (cardIn st) log
+        (record {
+          none = none-waits;
+          room = omega (arith, length-upTo (slotEntry geo (st .settled)) (st .rec .logged), rc .log-count, sz .waiting);
+          whole = entries-whole geo (st .settled) (st .rec .logged) (omega (arith, sz .least)) (rc .log-count);
+          low = data-short geo (st .rec .blocks) (omega (arith, sz .most, rc .blocks)) log (o .lists .log-data);
+        }))
+        (header-batch st none-waits (sz .waiting) (emptyHeader (st .rec .blocks))))
 
-  append-batched : (n h : ℕ) → n + length (groupOf st) ≤ slots → Batched (cardIn st) (appendOrders (st .rec .blocks) (st .settled) n h (groupOf st))
-  append-batched n h p =
-      let sz = o .facts .sizes in
-      let rc = o .facts .counts in
-      rw (append-writes (st .rec .blocks) (st .settled) n h (groupOf st))
-      (one-batch (cardIn st) (appendWrites (st .rec .blocks) (st .settled) n h (groupOf st))
-      (append-fit (cardIn st) (st .rec .blocks) (st .settled) n h (groupOf st)
-      (omega (arith, length-blockAt (st .settled) descriptorAt (omega (arith, sz .least))))
-      (none-waits, omega (arith, sz .waiting), p, from-whole (st .work) groupFrom (st .rec .grouped) (omega (arith, sz .work, rc .group-count)))))
+    append-batched : (n h : ℕ) → n + length (groupOf geo st) ≤ geo .slots → Batched (cardIn st) (appendOrders geo (st .rec .blocks) (st .settled) n h (groupOf geo st))
+    append-batched n h p =
+        let sz = o .facts .sizes in
+        let rc = o .facts .counts in
+        rw (append-writes geo (st .rec .blocks) (st .settled) n h (groupOf geo st))
+        (one-batch (cardIn st) (appendWrites geo (st .rec .blocks) (st .settled) n h (groupOf geo st))
+        (append-fit geo (cardIn st) (st .rec .blocks) (st .settled) n h (groupOf geo st)
+        (omega (arith, length-blockAt (st .settled) descriptorAt (omega (arith, sz .least))))
+        (none-waits, omega (arith, sz .waiting), p, from-whole (st .work) (groupFrom geo) (st .rec .grouped) (omega (arith, sz .work, rc .group-count)))))
 
-  apply-batched : Batched (cardIn st) (applyOrders (st .rec .blocks) (st .settled) (st .rec .logged))
-  unfolding applyOrders
-  apply-batched = go (eqb (st .rec .logged) 0)
-    where
-      go : (t : Bool) → Batched (cardIn st) (cond t [] (checkpointOrders (st .rec .blocks) (entries (st .settled) (st .rec .logged))))
-      go true = no-batches (cardIn st)
-      go false = checkpoint-batched
+    apply-batched : Batched (cardIn st) (applyOrders geo (st .rec .blocks) (st .settled) (st .rec .logged))
+    unfolding applyOrders
+    apply-batched = go (eqb (st .rec .logged) 0)
+      where
+        go : (t : Bool) → Batched (cardIn st) (cond t [] (checkpointOrders (st .rec .blocks) (entries geo (st .settled) (st .rec .logged))))
+        go true = no-batches (cardIn st)
+        go false = checkpoint-batched
 
-  sync-batched : Batched (cardIn st) (syncOrders (st .rec .blocks) (st .settled) (st .rec .logged) (st .rec .sum) (groupOf st))
-  unfolding syncOrders
-  sync-batched = go (eqb (length (groupOf st)) 0) (leb (st .rec .logged + length (groupOf st)) slots) refl
-    where
-      go : (s t : Bool) → leb (st .rec .logged + length (groupOf st)) slots ≡ t
-          → Batched (cardIn st)
-          (cond s []
-          (cond t
-          (appendOrders (st .rec .blocks) (st .settled) (st .rec .logged) (st .rec .sum) (groupOf st))
-          (checkpointOrders (st .rec .blocks) (entries (st .settled) (st .rec .logged)) ++ appendOrders (st .rec .blocks) (st .settled) 0 start (groupOf st))))
-      go true t p = no-batches (cardIn st)
-      go false true p = append-batched (st .rec .logged) (st .rec .sum) (leb-true _ _ p)
-      go false false p =
-          let few : length (groupOf st) ≤ slots = rw (length-upTo (listed (st .work) groupFrom) (st .rec .grouped)) (o .facts .counts .group-count) in
-          more-batches (cardIn st) _ _ checkpoint-batched (append-batched 0 start (omega arith))
+    sync-batched : Batched (cardIn st) (syncOrders geo (st .rec .blocks) (st .settled) (st .rec .logged) (st .rec .sum) (groupOf geo st))
+    unfolding syncOrders
+    sync-batched = go (eqb (length (groupOf geo st)) 0) (leb (st .rec .logged + length (groupOf geo st)) (geo .slots)) refl
+      where
+        go : (s t : Bool) → leb (st .rec .logged + length (groupOf geo st)) (geo .slots) ≡ t
+            → Batched (cardIn st)
+            (cond s []
+            (cond t
+            (appendOrders geo (st .rec .blocks) (st .settled) (st .rec .logged) (st .rec .sum) (groupOf geo st))
+            (checkpointOrders (st .rec .blocks) (entries geo (st .settled) (st .rec .logged)) ++ appendOrders geo (st .rec .blocks) (st .settled) 0 start (groupOf geo st))))
+        go true t p = no-batches (cardIn st)
+        go false true p = append-batched (st .rec .logged) (st .rec .sum) (leb-true _ _ p)
+        go false false p =
+            let few : length (groupOf geo st) ≤ geo .slots = rw (length-upTo (listed (st .work) (groupFrom geo)) (st .rec .grouped)) (o .facts .counts .group-count) in
+            more-batches (cardIn st) _ _ checkpoint-batched (append-batched 0 start (omega arith))
 
 -- ---- every call
 
@@ -190,12 +192,13 @@ recover-few N (Fallback p h) = omega (arith, length-fallback N p h)
 recover-few N Foreign = omega arith
 recover-few N Neither = omega arith
 
-recover-two : (st : State) → recoverCall st .orders ≤ 2
-unfolding recoverCall carried
-recover-two st =
-    unless-either (λ o. o .orders ≤ 2) (cause recover st) st _
-    (λ e. omega (arith, recover-few (st .rec .blocks) (choose (st .rec .blocks) (st .settled))))
-    (omega arith)
+module _ (geo : Geometry) where
+  recover-two : (st : State) → recoverCall geo st .orders ≤ 2
+  unfolding recoverCall carried
+  recover-two st =
+      unless-either (λ o. o .orders ≤ 2) (cause geo recover st) st _
+      (λ e. omega (arith, recover-few (st .rec .blocks) (choose geo (st .rec .blocks) (st .settled))))
+      (omega arith)
 
 -- what is as before in the record of a call cut short, and what is not
 left-is : {A : Type 0} (t : Bool) (st : State) (f : Record → A) (a : A) → f (withLog 0 start (st .rec)) ≡ a → f (left t st) ≡ cond t a (f (st .rec))
@@ -206,75 +209,76 @@ same-both : {A : Type 0} (t : Bool) (a : A) → cond t a a ≡ a
 same-both true a = refl
 same-both false a = refl
 
--- an apply takes three orders at the least
-inner-powerless : (st : State) → st .rec .power ≡ 0 → innerDone st ≡ false
-inner-powerless st e = go (applies st) (lt-leb (st .rec .logged + 3) (st .rec .power) (omega arith))
-  where
-    go : (t : Bool) → leb (st .rec .logged + 3) (st .rec .power) ≡ false → t && leb (st .rec .logged + 3) (st .rec .power) ≡ false
-    go true h = h
-    go false h = refl
+module _ (geo : Geometry) where
+  -- an apply takes three orders at the least
+  inner-powerless : (st : State) → st .rec .power ≡ 0 → innerDone geo st ≡ false
+  inner-powerless st e = go (applies geo st) (lt-leb (st .rec .logged + 3) (st .rec .power) (omega arith))
+    where
+      go : (t : Bool) → leb (st .rec .logged + 3) (st .rec .power) ≡ false → t && leb (st .rec .logged + 3) (st .rec .power) ≡ false
+      go true h = h
+      go false h = refl
 
-cut-short : (q : Request) (st : State) (t : Bool) → AppliedFirst q st t
-    → called q st ≡ record { answer = 4; orders = st .rec .power; state = withCard (run (ordersOf q st) (cardIn st)) (withRecord (withMode down (left t st)) st) }
-    → st .rec .power < length (ordersOf q st) → Batched (cardIn st) (ordersOf q st) → Gone q st
-cut-short q st t first short less batched = record {
-  answer = ap (λ (o : Outcome). o .answer) short;
-  orders = ap (λ (o : Outcome). o .orders) short;
-  down-now = ap (λ (o : Outcome). o .state .rec .mode) short;
-  N = ap (λ (o : Outcome). o .state .rec .blocks) short ∙ left-is t st (λ r. r .blocks) (st .rec .blocks) refl ∙ same-both t (st .rec .blocks);
-  emptied = λ e d. let u : t ≡ true = sym (first .is e) ∙ d in (
-    ap (λ (o : Outcome). o .state .rec .logged) short ∙ left-is t st (λ r. r .logged) 0 refl ∙ ap (λ (b : Bool). cond b 0 (st .rec .logged)) u,
-    ap (λ (o : Outcome). o .state .rec .sum) short ∙ left-is t st (λ r. r .sum) start refl ∙ ap (λ (b : Bool). cond b start (st .rec .sum)) u,
-  );
-  kept = λ d. let u : t ≡ false = first .not d in (
-    ap (λ (o : Outcome). o .state .rec .logged) short ∙ left-is t st (λ r. r .logged) 0 refl ∙ ap (λ (b : Bool). cond b 0 (st .rec .logged)) u,
-    ap (λ (o : Outcome). o .state .rec .sum) short ∙ left-is t st (λ r. r .sum) start refl ∙ ap (λ (b : Bool). cond b start (st .rec .sum)) u,
-  );
-  power = ap (λ (o : Outcome). o .state .rec .power) short ∙ run-power (ordersOf q st) (cardIn st) ∙ (omega arith);
-  work = ap (λ (o : Outcome). o .state .work) short;
-  open-count = ap (λ (o : Outcome). o .state .rec .opened) short ∙ left-is t st (λ r. r .opened) (st .rec .opened) refl ∙ same-both t (st .rec .opened);
-  group-count = ap (λ (o : Outcome). o .state .rec .grouped) short ∙ left-is t st (λ r. r .grouped) (st .rec .grouped) refl ∙ same-both t (st .rec .grouped);
-  card = ap (λ (o : Outcome). cardIn (o .state)) short;
-  blocks = λ x u. ap (λ (o : Outcome). blockAt (o .state .settled) x) short ∙ batched-keep x (ordersOf q st) (cardIn st) batched u;
-  powerless = λ z.
-      ap (λ (o : Outcome). o .state) short
-      ∙ ap (λ (c : Card). withCard c (withRecord (withMode down (left t st)) st)) (run-dead (ordersOf q st) (cardIn st) z)
-      ∙ ap (λ (b : Bool). withCard (cardIn st) (withRecord (withMode down (left b st)) st)) (first .not (λ e. inner-powerless st z));
-}
+  cut-short : (q : Request) (st : State) (t : Bool) → AppliedFirst geo q st t
+      → called geo q st ≡ record { answer = 4; orders = st .rec .power; state = withCard (run (ordersOf geo q st) (cardIn st)) (withRecord (withMode down (left t st)) st) }
+      → st .rec .power < length (ordersOf geo q st) → Batched (cardIn st) (ordersOf geo q st) → Gone geo q st
+  cut-short q st t first short less batched = record {
+    answer = ap (λ (o : Outcome). o .answer) short;
+    orders = ap (λ (o : Outcome). o .orders) short;
+    down-now = ap (λ (o : Outcome). o .state .rec .mode) short;
+    N = ap (λ (o : Outcome). o .state .rec .blocks) short ∙ left-is t st (λ r. r .blocks) (st .rec .blocks) refl ∙ same-both t (st .rec .blocks);
+    emptied = λ e d. let u : t ≡ true = sym (first .is e) ∙ d in (
+      ap (λ (o : Outcome). o .state .rec .logged) short ∙ left-is t st (λ r. r .logged) 0 refl ∙ ap (λ (b : Bool). cond b 0 (st .rec .logged)) u,
+      ap (λ (o : Outcome). o .state .rec .sum) short ∙ left-is t st (λ r. r .sum) start refl ∙ ap (λ (b : Bool). cond b start (st .rec .sum)) u,
+    );
+    kept = λ d. let u : t ≡ false = first .not d in (
+      ap (λ (o : Outcome). o .state .rec .logged) short ∙ left-is t st (λ r. r .logged) 0 refl ∙ ap (λ (b : Bool). cond b 0 (st .rec .logged)) u,
+      ap (λ (o : Outcome). o .state .rec .sum) short ∙ left-is t st (λ r. r .sum) start refl ∙ ap (λ (b : Bool). cond b start (st .rec .sum)) u,
+    );
+    power = ap (λ (o : Outcome). o .state .rec .power) short ∙ run-power (ordersOf geo q st) (cardIn st) ∙ (omega arith);
+    work = ap (λ (o : Outcome). o .state .work) short;
+    open-count = ap (λ (o : Outcome). o .state .rec .opened) short ∙ left-is t st (λ r. r .opened) (st .rec .opened) refl ∙ same-both t (st .rec .opened);
+    group-count = ap (λ (o : Outcome). o .state .rec .grouped) short ∙ left-is t st (λ r. r .grouped) (st .rec .grouped) refl ∙ same-both t (st .rec .grouped);
+    card = ap (λ (o : Outcome). cardIn (o .state)) short;
+    blocks = λ x u. ap (λ (o : Outcome). blockAt (o .state .settled) x) short ∙ batched-keep x (ordersOf geo q st) (cardIn st) batched u;
+    powerless = λ z.
+        ap (λ (o : Outcome). o .state) short
+        ∙ ap (λ (c : Card). withCard c (withRecord (withMode down (left t st)) st)) (run-dead (ordersOf geo q st) (cardIn st) z)
+        ∙ ap (λ (b : Bool). withCard (cardIn st) (withRecord (withMode down (left b st)) st)) (first .not (λ e. inner-powerless st z));
+  }
 
--- the orders of a call that nothing refuses
-batched : (q : Request) (st : State) → cause q st ≡ 0 → Batched (cardIn st) (ordersOf q st)
-batched format st e = no-batches (cardIn st)
-batched (local c) st e = no-batches (cardIn st)
-batched (save Save.sync) st e = sync-batched st (cause-opened sync st refl refl e)
-batched (save Save.apply) st e = apply-batched st (cause-opened apply st refl refl e)
-batched (save Save.recover) st e =
-    let p = cause-passes recover st e in
-    recover-batched st (idle st (record-facts st (p .counts)) (eqb-false _ _ (p .own .0))) (sizes-facts st (p .sizes) .waiting) (st .rec .blocks) (choose (st .rec .blocks) (st .settled))
-batched (cut ms) st e = no-batches (cardIn st)
+  -- the orders of a call that nothing refuses
+  batched : (q : Request) (st : State) → cause geo q st ≡ 0 → Batched (cardIn st) (ordersOf geo q st)
+  batched format st e = no-batches (cardIn st)
+  batched (local c) st e = no-batches (cardIn st)
+  batched (save Save.sync) st e = sync-batched geo st (cause-opened geo sync st refl refl e)
+  batched (save Save.apply) st e = apply-batched geo st (cause-opened geo apply st refl refl e)
+  batched (save Save.recover) st e =
+      let p = cause-passes geo recover st e in
+      recover-batched geo st (idle geo st (record-facts geo st (p .counts)) (eqb-false _ _ (p .own .0))) (sizes-facts geo st (p .sizes) .waiting) (st .rec .blocks) (choose geo (st .rec .blocks) (st .settled))
+  batched (cut ms) st e = no-batches (cardIn st)
 
-answers : (q : Request) (st : State) → Form q st → Answers q st
-answers q st (quiet now call none sized) = record {
-  refuses = called-refused q st;
-  gone = λ e h. absurd (omega (arith, leb-false (length (ordersOf q st)) (st .rec .power) h, ap length none));
-  serves = λ e h.
-      let p : called q st ≡ completed now = call ∙ sym (call-done (cause q st) _ st (completed now) refl e) in
-      (ap (λ (o : Outcome). o .answer) p, ap (λ (o : Outcome). o .orders) p ∙ sym (ap length none));
-  two-suffice = recover-two st;
-}
-answers q st (gives t done call first) = record {
-  refuses = called-refused q st;
-  gone = λ e h.
-      cut-short q st t first
-      (call ∙ sym (call-done (cause q st) _ st (carried (ordersOf q st) done (left t st) st) refl e) ∙ carried-short (ordersOf q st) done (left t st) st (leb-false _ _ h))
-      (leb-false _ _ h)
-      (batched q st e);
-  serves = λ e h.
-      let p : called q st ≡ record { answer = 0; orders = length (ordersOf q st); state = withCard (run (ordersOf q st) (cardIn st)) (withRecord done st) } =
-      (call ∙ sym (call-done (cause q st) _ st (carried (ordersOf q st) done (left t st) st) refl e) ∙ carried-done (ordersOf q st) done (left t st) st (leb-true _ _ h)) in
-      (ap (λ (o : Outcome). o .answer) p, ap (λ (o : Outcome). o .orders) p);
-  two-suffice = recover-two st;
-}
+  answers : (q : Request) (st : State) → Form geo q st → Answers geo q st
+  answers q st (quiet now call none sized) = record {
+    refuses = called-refused geo q st;
+    gone = λ e h. absurd (omega (arith, leb-false (length (ordersOf geo q st)) (st .rec .power) h, ap length none));
+    serves = λ e h.
+        let p : called geo q st ≡ completed now = call ∙ sym (call-done (cause geo q st) _ st (completed now) refl e) in
+        (ap (λ (o : Outcome). o .answer) p, ap (λ (o : Outcome). o .orders) p ∙ sym (ap length none));
+    two-suffice = recover-two geo st;
+  }
+  answers q st (gives t done call first) = record {
+    refuses = called-refused geo q st;
+    gone = λ e h.
+        cut-short q st t first
+        (call ∙ sym (call-done (cause geo q st) _ st (carried (ordersOf geo q st) done (left t st) st) refl e) ∙ carried-short (ordersOf geo q st) done (left t st) st (leb-false _ _ h))
+        (leb-false _ _ h)
+        (batched q st e);
+    serves = λ e h.
+        let p : called geo q st ≡ record { answer = 0; orders = length (ordersOf geo q st); state = withCard (run (ordersOf geo q st) (cardIn st)) (withRecord done st) } =
+        (call ∙ sym (call-done (cause geo q st) _ st (carried (ordersOf geo q st) done (left t st) st) refl e) ∙ carried-done (ordersOf geo q st) done (left t st) st (leb-true _ _ h)) in
+        (ap (λ (o : Outcome). o .answer) p, ap (λ (o : Outcome). o .orders) p);
+    two-suffice = recover-two geo st;
+  }
 
-pub calls : (q : Request) (st : State) → Answers q st
-calls q st = answers q st (form q st)
+  pub calls : (q : Request) (st : State) → Answers geo q st
+  calls q st = answers q st (form geo q st)

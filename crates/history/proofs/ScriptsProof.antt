@@ -15,11 +15,13 @@ use Rattle.script.specs.Commands.{parse}
 use Rattle.script.specs.Answers.{answerLine, decimal, digits}
 use Rattle.script.specs.Replies.{perform, answered}
 use Rattle.script.specs.Transcript.{reply, printed, said, beginning, transcript}
+use Rattle.journal.specs.Geometry.{trap}
 use Rattle.history.specs.Call.{requestOf}
 use Rattle.history.specs.Dispatch.{called}
 use Rattle.history.specs.History.{World, begun, next}
 use Rattle.history.specs.Scripts.{Says, nothing, begins, asks, saysOf, says, lineOf, leftBy, ByCall, leftAfter, worldBy, told, ScriptsAreHistories}
 use Rattle.history.proofs.Forms.{SameSizes, called-sized}
+
 
 -- ---- a line
 
@@ -56,29 +58,29 @@ by-call l st = record { prints = prints-by (parse l) l st; leaves = leaves-by (p
 
 -- ---- no call changes a buffer's length
 
-sizes-kept : (st st′ : State) → SameSizes st st′ → wrongSizes st′ ≡ wrongSizes st
+sizes-kept : (st st′ : State) → SameSizes st st′ → wrongSizes trap st′ ≡ wrongSizes trap st
 unfolding wrongSizes Rattle.journal.specs.Layout.wrongSize
 sizes-kept st st′ h = rw (h .settled, h .waiting, h .work)
 
-line-sizes : (s : Says) (st : State) → wrongSizes (leftBy s st) ≡ wrongSizes st
+line-sizes : (s : Says) (st : State) → wrongSizes trap (leftBy s st) ≡ wrongSizes trap st
 line-sizes nothing st = refl
-line-sizes begins st = sizes-kept st (called Request.format st .state) (called-sized Request.format st)
-line-sizes (asks c) st = sizes-kept st (called (requestOf c) st .state) (called-sized (requestOf c) st)
+line-sizes begins st = sizes-kept st (called trap Request.format st .state) (called-sized trap Request.format st)
+line-sizes (asks c) st = sizes-kept st (called trap (requestOf c) st .state) (called-sized trap (requestOf c) st)
 
-after-sizes : (ls : List (List ℕ)) (st : State) → wrongSizes (leftAfter ls st) ≡ wrongSizes st
+after-sizes : (ls : List (List ℕ)) (st : State) → wrongSizes trap (leftAfter ls st) ≡ wrongSizes trap st
 unfolding leftAfter
 after-sizes [] st = refl
-after-sizes (l ∷ ls) st = after-sizes ls (reply l st .state) ∙ ap wrongSizes (by-call l st .leaves) ∙ line-sizes (says l) st
+after-sizes (l ∷ ls) st = after-sizes ls (reply l st .state) ∙ ap (wrongSizes trap) (by-call l st .leaves) ∙ line-sizes (says l) st
 
-sizes-right : (st : State) → length (st .settled) ≡ blockBytes * 64 → length (st .waiting) ≡ waitingBytes → length (st .work) ≡ workBytes → wrongSizes st ≡ false
+sizes-right : (st : State) → length (st .settled) ≡ blockBytes * 64 → length (st .waiting) ≡ waitingBytes trap → length (st .work) ≡ workBytes trap → wrongSizes trap st ≡ false
 unfolding wrongSizes Rattle.journal.specs.Layout.wrongSize
 sizes-right st a b c = rw (a, b, c)
 
-beginning-sizes : wrongSizes beginning ≡ false
+beginning-sizes : wrongSizes trap beginning ≡ false
 unfolding beginning
-beginning-sizes = sizes-right beginning (length-replicate {A = ℕ} (blockBytes * 64) 0) (length-replicate {A = ℕ} waitingBytes 0) (length-replicate {A = ℕ} workBytes 0)
+beginning-sizes = sizes-right beginning (length-replicate {A = ℕ} (blockBytes * 64) 0) (length-replicate {A = ℕ} (waitingBytes trap) 0) (length-replicate {A = ℕ} (workBytes trap) 0)
 
-format-done : (st : State) → wrongSizes st ≡ false → formatCall st .answer ≡ 0
+format-done : (st : State) → wrongSizes trap st ≡ false → formatCall trap st .answer ≡ 0
 unfolding formatCall
 format-done st h = rw h
 
@@ -105,10 +107,10 @@ said-told (l ∷ ls) w =
 
 -- ---- the theorem
 
-format-line : (f : List ℕ) (st : State) → parse f ≡ Format → formatCall st .answer ≡ 0 → printed f st ≡ answerLine Format 0 0
+format-line : (f : List ℕ) (st : State) → parse f ≡ Format → formatCall trap st .answer ≡ 0 → printed f st ≡ answerLine Format 0 0
 format-line f st p h = by-call f st .prints ∙ ap (λ (c : Command). lineOf (saysOf c f) c st) p ∙ ap (λ (k : ℕ). answerLine Format k 0) h
 
-format-left : (f : List ℕ) (st : State) → parse f ≡ Format → reply f st .state ≡ begun st .store
+format-left : (f : List ℕ) (st : State) → parse f ≡ Format → reply f st .state ≡ begun trap st .store
 unfolding begun
 format-left f st p = by-call f st .leaves ∙ ap (λ (c : Command). leftBy (saysOf c f) st) p
 
@@ -122,8 +124,8 @@ scripts ls ms = record {
       ∙ said-append ls (f ∷ ms) beginning
       ∙ ap (λ (x : List ℕ). said ls beginning ++ (x ++ said ms (reply f st .state))) (format-line f st p done)
       ∙ ap (λ (s : State). said ls beginning ++ (answerLine Format 0 0 ++ said ms s)) (format-left f st p)
-      ∙ ap (λ (x : List ℕ). said ls beginning ++ (answerLine Format 0 0 ++ x)) (said-told ms (begun st));
+      ∙ ap (λ (x : List ℕ). said ls beginning ++ (answerLine Format 0 0 ++ x)) (said-told ms (begun trap st));
 }
   where
-    done : formatCall (leftAfter ls beginning) .answer ≡ 0
+    done : formatCall trap (leftAfter ls beginning) .answer ≡ 0
     done = format-done (leftAfter ls beginning) (after-sizes ls beginning ∙ beginning-sizes)

@@ -14,7 +14,7 @@ use Rattle.card.specs.Disk.{Disk, overlay}
 use Rattle.card.specs.Card as Card
 use Rattle.card.specs.Card.{queue}
 use Rattle.card.specs.Marks.{keptAt, allKept}
-use Rattle.journal.specs.Layout.{slots}
+use Rattle.journal.specs.Geometry.{Geometry}
 use Rattle.journal.proofs.Choices.{both}
 use Rattle.crash.proofs.Leads.{foundIn}
 use Rattle.store.specs.Local.{Local}
@@ -48,33 +48,35 @@ use Rattle.history.proofs.ReadsBack.{power-served, cut-accepted}
 
 -- ---- phases
 
-abbrev pub planned : Plain → List ℕ → Bool → Verdict
-planned d ms found = verdict (d .short) (d .n) (length (d .G)) (d .F) (headerKept ms (d .waiting)) found
+module _ (geo : Geometry) where
+  abbrev pub planned : Plain → List ℕ → Bool → Verdict
+  planned d ms (found geo) = verdict geo (d .short) (d .n) (length (d .G)) (d .F) (headerKept ms (d .waiting)) (found geo)
 
 -- open: nothing has happened to S
 pub record OpenPhase (old : Disk) (st : State) (d : Plain) : Type 0 where
   pub mode : st .rec .mode ≡ openMode
   pub S : d .S ≡ old
 
--- not open, and no cut lays anything
-pub record OtherPhase (old : Disk) (f : Fate) (st : State) (d : Plain) : Type 0 where
-  pub mode : st .rec .mode ≢ openMode
-  pub S : d .S ≡ outcome f old
-  pub laid : (ms : List ℕ) (found : Bool) → planned d ms found .laid ≡ false
-  pub whole : WholeIsNew f
+module _ (geo : Geometry) where
+  -- not open, and no cut lays anything
+  pub record OtherPhase (old : Disk) (f : Fate) (st : State) (d : Plain) : Type 0 where
+    pub mode : st .rec .mode ≢ openMode
+    pub S : d .S ≡ outcome f old
+    pub laid : (ms : List ℕ) (found geo : Bool) → planned geo d ms (found geo) .laid ≡ false
+    pub whole : WholeIsNew f
 
--- down by a sync of the group G
-pub record ShortPhase (old : Disk) (G : List Entry) (place : ℕ) (made : Bool) (st : State) (l : Ledger) (d : Plain) : Type 0 where
-  pub mode : st .rec .mode ≡ down
-  pub S : d .S ≡ old
-  pub group : d .G ≡ G
-  pub laid : (ms : List ℕ) (found : Bool) → planned d ms found .laid ≡ made && keptAt ms place && found
-  pub whole : made ≡ true → (ms : List ℕ) → length ms ≡ st .rec .waiting → allKept ms ≡ true → (keptAt ms place ≡ true) × (sameLog (foundIn (cutSettled ms st)) (cutWritten ms l) ≡ true)
+  -- down by a sync of the group G
+  pub record ShortPhase (old : Disk) (G : List Entry) (place : ℕ) (made : Bool) (st : State) (l : Ledger) (d : Plain) : Type 0 where
+    pub mode : st .rec .mode ≡ down
+    pub S : d .S ≡ old
+    pub group : d .G ≡ G
+    pub laid : (ms : List ℕ) (found geo : Bool) → planned geo d ms (found geo) .laid ≡ made && keptAt ms place && found geo
+    pub whole : made ≡ true → (ms : List ℕ) → length ms ≡ st .rec .waiting → allKept ms ≡ true → (keptAt ms place ≡ true) × (sameLog (foundIn geo (cutSettled ms st)) (cutWritten ms l) ≡ true)
 
-abbrev pub Watch : Disk → Progress → State → Ledger → Plain → Type 0
-Watch old (known quiet) st l d = OpenPhase old st d ⊎ OtherPhase old quiet st d
-Watch old (undecided G place made) st l d = ShortPhase old G place made st l d
-Watch old (known (decided G laid all)) st l d = OtherPhase old (decided G laid all) st d
+  abbrev pub Watch : Disk → Progress → State → Ledger → Plain → Type 0
+  Watch old (known quiet) st l d = OpenPhase old st d ⊎ OtherPhase old quiet st d
+  Watch old (undecided G place made) st l d = ShortPhase old G place made st l d
+  Watch old (known (decided G laid all)) st l d = OtherPhase old (decided G laid all) st d
 
 -- ---- a refused call
 
@@ -83,110 +85,111 @@ pub record IsShort (c : Call) (w : World) : Type 0 where
   pub is : c ≡ sync
   pub mode : w .store .rec .mode ≡ openMode
 
-pub short-is : (c : Call) (w : World) → shortSync c w ≡ true → IsShort c w
-unfolding shortSync
-short-is (local c) w h = absurd (false≢true h)
-short-is (save Save.sync) w h = record { is = refl; mode = eqb-true _ _ (both (eqb (w .store .rec .mode) openMode) (eqb (dispatch sync (w .store) .answer) 4) h .0) }
-short-is (save Save.apply) w h = absurd (false≢true h)
-short-is (save Save.recover) w h = absurd (false≢true h)
-short-is (cut ms) w h = absurd (false≢true h)
+module _ (geo : Geometry) where
+  pub short-is : (c : Call) (w : World) → shortSync geo c w ≡ true → IsShort c w
+  unfolding shortSync
+  short-is (local c) w h = absurd (false≢true h)
+  short-is (save Save.sync) w h = record { is = refl; mode = eqb-true _ _ (both (eqb (w .store .rec .mode) openMode) (eqb (dispatch geo sync (w .store) .answer) 4) h .0) }
+  short-is (save Save.apply) w h = absurd (false≢true h)
+  short-is (save Save.recover) w h = absurd (false≢true h)
+  short-is (cut ms) w h = absurd (false≢true h)
 
-pub not-short : (c : Call) (w : World) → (c ≡ sync → w .store .rec .mode ≢ openMode) → shortSync c w ≡ false
-not-short c w n = go (shortSync c w) refl
-  where
-    go : (t : Bool) → shortSync c w ≡ t → t ≡ false
-    go false p = refl
-    go true p = let s = short-is c w p in absurd (n (s .is) (s .mode))
+  pub not-short : (c : Call) (w : World) → (c ≡ sync → w .store .rec .mode ≢ openMode) → shortSync geo c w ≡ false
+  not-short c w n = go (shortSync geo c w) refl
+    where
+      go : (t : Bool) → shortSync geo c w ≡ t → t ≡ false
+      go false p = refl
+      go true p = let s = short-is c w p in absurd (n (s .is) (s .mode))
 
--- on an open record a sync is never refused
-pub open-serves : (w : World) → WorldSim w → w .store .rec .mode ≡ openMode → refusal sync (w .plain) ≡ 0
-unfolding refusal
-open-serves w m o =
-    let d : w .plain .mode ≡ 1 = m .basics .mirrors .mode ∙ o in
-    rw (ne-eqb (w .plain .mode) 0 (λ z. omega arith), ne-eqb (w .plain .mode) 2 (λ z. omega arith))
+  -- on an open record a sync is never refused
+  pub open-serves : (w : World) → WorldSim geo w → w .store .rec .mode ≡ openMode → refusal geo sync (w .plain) ≡ 0
+  unfolding refusal
+  open-serves w m o =
+      let d : w .plain .mode ≡ 1 = m .basics .mirrors .mode ∙ o in
+      rw (ne-eqb (w .plain .mode) 0 (λ z. omega arith), ne-eqb (w .plain .mode) 2 (λ z. omega arith))
 
-refused-short : (c : Call) (w : World) → refusal c (w .plain) ≢ 0 → WorldSim w → shortSync c w ≡ false
-refused-short c w h m = not-short c w (λ e o. h (ap (λ (x : Call). refusal x (w .plain)) e ∙ open-serves w m o))
+  refused-short : (c : Call) (w : World) → refusal geo c (w .plain) ≢ 0 → WorldSim geo w → shortSync geo c w ≡ false
+  refused-short c w h m = not-short c w (λ e o. h (ap (λ (x : Call). refusal geo x (w .plain)) e ∙ open-serves w m o))
 
-refused-cut : (ms : List ℕ) (w : World) → refusal (cut ms) (w .plain) ≢ 0 → WorldSim w → acceptedCut (cut ms) w ≡ false
-unfolding acceptedCut
-refused-cut ms w h m =
-    let k : cause (Request.cut ms) (w .store) ≢ 0 = λ e. h (sym (same-cause (w .store) (w .ledger) (w .plain) m (cut ms)) ∙ e) in
-    let e : dispatch (cut ms) (w .store) .answer ≡ cause (Request.cut ms) (w .store) = ap (λ (o : Outcome). o .answer) (dispatch-refused (cut ms) (w .store) k) in
-    rw e (ne-eqb _ 0 k)
+  refused-cut : (ms : List ℕ) (w : World) → refusal geo (cut ms) (w .plain) ≢ 0 → WorldSim geo w → acceptedCut geo (cut ms) w ≡ false
+  unfolding acceptedCut
+  refused-cut ms w h m =
+      let k : cause geo (Request.cut ms) (w .store) ≢ 0 = λ e. h (sym (same-cause geo (w .store) (w .ledger) (w .plain) m (cut ms)) ∙ e) in
+      let e : dispatch geo (cut ms) (w .store) .answer ≡ cause geo (Request.cut ms) (w .store) = ap (λ (o : Outcome). o .answer) (dispatch-refused geo (cut ms) (w .store) k) in
+      rw e (ne-eqb _ 0 k)
 
-refused-at : (c : Call) (w : World) (G : List Entry) (place : ℕ) (made : Bool) → refusal c (w .plain) ≢ 0 → WorldSim w → atCut c w G place made ≡ undecided G place made
-refused-at (local c) w G place made h m = refl
-refused-at (save c) w G place made h m = refl
-refused-at (cut ms) w G place made h m =
-    ap (λ (t : Bool). cond t (known (decided G (made && keptAt ms place && foundWritten (cut ms) w) (made && allKept ms))) (undecided G place made)) (refused-cut ms w h m)
+  refused-at : (c : Call) (w : World) (G : List Entry) (place : ℕ) (made : Bool) → refusal geo c (w .plain) ≢ 0 → WorldSim geo w → atCut geo c w G place made ≡ undecided G place made
+  refused-at (local c) w G place made h m = refl
+  refused-at (save c) w G place made h m = refl
+  refused-at (cut ms) w G place made h m =
+      ap (λ (t : Bool). cond t (known (decided G (made && keptAt ms place && foundWritten geo (cut ms) w) (made && allKept ms))) (undecided G place made)) (refused-cut ms w h m)
 
-observe-refused : (c : Call) (w : World) (f : Progress) → refusal c (w .plain) ≢ 0 → WorldSim w → observe c w f ≡ f
-unfolding observe
-observe-refused c w (known quiet) h m = rw (refused-short c w h m)
-observe-refused c w (undecided G place made) h m = refused-at c w G place made h m
-observe-refused c w (known (decided G laid all)) h m = refl
+  observe-refused : (c : Call) (w : World) (f : Progress) → refusal geo c (w .plain) ≢ 0 → WorldSim geo w → observe geo c w f ≡ f
+  unfolding observe
+  observe-refused c w (known quiet) h m = rw (refused-short c w h m)
+  observe-refused c w (undecided G place made) h m = refused-at c w G place made h m
+  observe-refused c w (known (decided G laid all)) h m = refl
 
-watch-at : (old : Disk) {f f′ : Progress} {st st′ : State} {l l′ : Ledger} {d d′ : Plain} → f′ ≡ f → st′ ≡ st → l′ ≡ l → d′ ≡ d → Watch old f st l d → Watch old f′ st′ l′ d′
-watch-at old a b c e x = rw (a, b, c, e) x
+  watch-at : (old : Disk) {f f′ : Progress} {st st′ : State} {l l′ : Ledger} {d d′ : Plain} → f′ ≡ f → st′ ≡ st → l′ ≡ l → d′ ≡ d → Watch geo old f st l d → Watch geo old f′ st′ l′ d′
+  watch-at old a b c e x = rw (a, b, c, e) x
 
-watch-refused : (old : Disk) (c : Call) (w : World) (f : Progress) → refusal c (w .plain) ≢ 0 → WorldSim w → Watch old f (w .store) (w .ledger) (w .plain)
-    → Watch old (observe c w f) (storeNext c w) (ledgerNext c w) (plainNext c w)
-watch-refused old c w f h m x =
-    let k : cause (requestOf c) (w .store) ≢ 0 = λ e. h (sym (same-cause (w .store) (w .ledger) (w .plain) m c) ∙ e) in
-    watch-at old (observe-refused c w f h m) (ap (λ (o : Outcome). o .state) (dispatch-refused c (w .store) k)) (entered-refused c (w .store) (w .ledger) k)
-    (ap (λ (o : Done). o .plain) (plain-refused c (foundWritten c w) (w .plain) h)) x
+  watch-refused : (old : Disk) (c : Call) (w : World) (f : Progress) → refusal geo c (w .plain) ≢ 0 → WorldSim geo w → Watch geo old f (w .store) (w .ledger) (w .plain)
+      → Watch geo old (observe geo c w f) (storeNext geo c w) (ledgerNext geo c w) (plainNext geo c w)
+  watch-refused old c w f h m x =
+      let k : cause geo (requestOf c) (w .store) ≢ 0 = λ e. h (sym (same-cause geo (w .store) (w .ledger) (w .plain) m c) ∙ e) in
+      watch-at old (observe-refused c w f h m) (ap (λ (o : Outcome). o .state) (dispatch-refused geo c (w .store) k)) (entered-refused geo c (w .store) (w .ledger) k)
+      (ap (λ (o : Done). o .plain) (plain-refused geo c (foundWritten geo c w) (w .plain) h)) x
 
--- ---- a call that is served
+  -- ---- a call that is served
 
-power-watch : (old : Disk) (k : ℕ) (f : Progress) (st : State) (l : Ledger) (d : Plain) → Watch old f st l d → Watch old f (withRecord (withQueue (st .rec .waiting) k (st .rec)) st) l (withPower k d)
-unfolding Card.cut queue
-power-watch old k (known quiet) st l d (_⊎_.inl x) = _⊎_.inl (record { mode = x .mode; S = x .S })
-power-watch old k (known quiet) st l d (_⊎_.inr x) = _⊎_.inr (record { mode = x .mode; S = x .S; laid = x .laid; whole = x .whole })
-power-watch old k (undecided G place made) st l d x = record { mode = x .mode; S = x .S; group = x .group; laid = x .laid; whole = x .whole }
-power-watch old k (known (decided G laid all)) st l d x = record { mode = x .mode; S = x .S; laid = x .laid; whole = x .whole }
+  power-watch : (old : Disk) (k : ℕ) (f : Progress) (st : State) (l : Ledger) (d : Plain) → Watch geo old f st l d → Watch geo old f (withRecord (withQueue (st .rec .waiting) k (st .rec)) st) l (withPower k d)
+  unfolding Card.cut queue
+  power-watch old k (known quiet) st l d (_⊎_.inl x) = _⊎_.inl (record { mode = x .mode; S = x .S })
+  power-watch old k (known quiet) st l d (_⊎_.inr x) = _⊎_.inr (record { mode = x .mode; S = x .S; laid = x .laid; whole = x .whole })
+  power-watch old k (undecided G place made) st l d x = record { mode = x .mode; S = x .S; group = x .group; laid = x .laid; whole = x .whole }
+  power-watch old k (known (decided G laid all)) st l d x = record { mode = x .mode; S = x .S; laid = x .laid; whole = x .whole }
 
-power-same : (k : ℕ) (w : World) (f : Progress) → observe (power k) w f ≡ f
-unfolding observe shortSync
-power-same k w (known quiet) = refl
-power-same k w (undecided G place made) = refl
-power-same k w (known (decided G laid all)) = refl
+  power-same : (k : ℕ) (w : World) (f : Progress) → observe geo (power k) w f ≡ f
+  unfolding observe shortSync
+  power-same k w (known quiet) = refl
+  power-same k w (undecided G place made) = refl
+  power-same k w (known (decided G laid all)) = refl
 
--- open: no sync was cut short yet
-open-watch : (old : Disk) (f : Progress) (st : State) (l : Ledger) (d : Plain) → Watch old f st l d → st .rec .mode ≡ openMode → (f ≡ known quiet) × (d .S ≡ old)
-open-watch old (known quiet) st l d (_⊎_.inl x) e = (refl, x .S)
-open-watch old (known quiet) st l d (_⊎_.inr x) e = absurd (x .mode e)
-open-watch old (undecided G place made) st l d x e = absurd (omega (arith, x .mode))
-open-watch old (known (decided G laid all)) st l d x e = absurd (x .mode e)
+  -- open: no sync was cut short yet
+  open-watch : (old : Disk) (f : Progress) (st : State) (l : Ledger) (d : Plain) → Watch geo old f st l d → st .rec .mode ≡ openMode → (f ≡ known quiet) × (d .S ≡ old)
+  open-watch old (known quiet) st l d (_⊎_.inl x) e = (refl, x .S)
+  open-watch old (known quiet) st l d (_⊎_.inr x) e = absurd (x .mode e)
+  open-watch old (undecided G place made) st l d x e = absurd (omega (arith, x .mode))
+  open-watch old (known (decided G laid all)) st l d x e = absurd (x .mode e)
 
--- closed: what became of it is known
-pub record Closed (old : Disk) (f : Progress) (st : State) (d : Plain) : Type 0 where
-  pub end : Fate
-  pub fated : f ≡ known end
-  pub phase : OtherPhase old end st d
+  -- closed: what became of it is known
+  pub record Closed (old : Disk) (f : Progress) (st : State) (d : Plain) : Type 0 where
+    pub end : Fate
+    pub fated : f ≡ known end
+    pub phase : OtherPhase geo old end st d
 
-pub closed-watch : (old : Disk) (f : Progress) (st : State) (l : Ledger) (d : Plain) → Watch old f st l d → st .rec .mode ≡ closed → Closed old f st d
-closed-watch old (known quiet) st l d (_⊎_.inl x) e = absurd (omega (arith, x .mode))
-closed-watch old (known quiet) st l d (_⊎_.inr x) e = record { end = quiet; fated = refl; phase = x }
-closed-watch old (undecided G place made) st l d x e = absurd (omega (arith, x .mode))
-closed-watch old (known (decided G laid all)) st l d x e = record { end = decided G laid all; fated = refl; phase = x }
+  pub closed-watch : (old : Disk) (f : Progress) (st : State) (l : Ledger) (d : Plain) → Watch geo old f st l d → st .rec .mode ≡ closed → Closed old f st d
+  closed-watch old (known quiet) st l d (_⊎_.inl x) e = absurd (omega (arith, x .mode))
+  closed-watch old (known quiet) st l d (_⊎_.inr x) e = record { end = quiet; fated = refl; phase = x }
+  closed-watch old (undecided G place made) st l d x e = absurd (omega (arith, x .mode))
+  closed-watch old (known (decided G laid all)) st l d x e = record { end = decided G laid all; fated = refl; phase = x }
 
-to-watch : (old : Disk) (f : Fate) (st : State) (l : Ledger) (d : Plain) → OtherPhase old f st d → Watch old (known f) st l d
-to-watch old quiet st l d x = _⊎_.inr x
-to-watch old (decided G laid all) st l d x = x
+  to-watch : (old : Disk) (f : Fate) (st : State) (l : Ledger) (d : Plain) → OtherPhase geo old f st d → Watch geo old (known f) st l d
+  to-watch old quiet st l d x = _⊎_.inr x
+  to-watch old (decided G laid all) st l d x = x
 
--- a call that needs an open record, keeps it open and leaves S
-open-kept : (old : Disk) (c : Call) (w : World) (f : Progress) → WorldSim w → w .store .rec .mode ≡ openMode → Watch old f (w .store) (w .ledger) (w .plain)
-    → plainNext c w .mode ≡ w .plain .mode → plainNext c w .S ≡ w .plain .S → observe c w (known quiet) ≡ known quiet
-    → Watch old (observe c w f) (storeNext c w) (ledgerNext c w) (plainNext c w)
-open-kept old c w f m o x p s q =
-    let y = open-watch old f (w .store) (w .ledger) (w .plain) x o in
-    watch-at old (ap (observe c w) (y .0) ∙ q) refl refl refl
-    (_⊎_.inl (record { mode = step c w m .agrees .mode ∙ p ∙ m .basics .mirrors .mode ∙ o; S = s ∙ y .1 }))
+  -- a call that needs an open record, keeps it open and leaves S
+  open-kept : (old : Disk) (c : Call) (w : World) (f : Progress) → WorldSim geo w → w .store .rec .mode ≡ openMode → Watch geo old f (w .store) (w .ledger) (w .plain)
+      → plainNext geo c w .mode ≡ w .plain .mode → plainNext geo c w .S ≡ w .plain .S → observe geo c w (known quiet) ≡ known quiet
+      → Watch geo old (observe geo c w f) (storeNext geo c w) (ledgerNext geo c w) (plainNext geo c w)
+  open-kept old c w f m o x p s q =
+      let y = open-watch old f (w .store) (w .ledger) (w .plain) x o in
+      watch-at old (ap (observe geo c w) (y .0) ∙ q) refl refl refl
+      (_⊎_.inl (record { mode = step geo c w m .agrees .mode ∙ p ∙ m .basics .mirrors .mode ∙ o; S = s ∙ y .1 }))
 
-pub open-now : (c : Call) (w : World) → WorldSim w → needsOpen (requestOf c) ≡ true → refusal c (w .plain) ≡ 0 → OpenSim (w .store) (w .ledger) (w .plain)
-open-now c w m n h =
-    is-open (w .store) (w .ledger) (w .plain) m (requestOf c) n (cause-passes (requestOf c) (w .store) (same-cause (w .store) (w .ledger) (w .plain) m c ∙ h))
+  pub open-now : (c : Call) (w : World) → WorldSim geo w → needsOpen geo (requestOf c) ≡ true → refusal geo c (w .plain) ≡ 0 → OpenSim geo (w .store) (w .ledger) (w .plain)
+  open-now c w m n h =
+      is-open geo (w .store) (w .ledger) (w .plain) m (requestOf c) n (cause-passes geo (requestOf c) (w .store) (same-cause geo (w .store) (w .ledger) (w .plain) m c ∙ h))
 
 -- ---- sync
 
@@ -195,255 +198,256 @@ unfolding allKept
 ones-mark (k ∷ ms) zero l h = both (eqb k 1) (allKept ms) h .0
 ones-mark (k ∷ ms) (suc i) l h = ones-mark ms i (omega arith) (both (eqb k 1) (allKept ms) h .1)
 
-module _ (old : Disk) (w : World) (m : WorldSim w) (h : refusal sync (w .plain) ≡ 0) (nf : S.finished sync w ≡ false) where
-  o : OpenSim (w .store) (w .ledger) (w .plain)
-  o = open-now sync w m refl h
+module _ (geo : Geometry) where
+  module _ (old : Disk) (w : World) (m : WorldSim geo w) (h : refusal geo sync (w .plain) ≡ 0) (nf : S.finished geo sync w ≡ false) where
+    o : OpenSim geo (w .store) (w .ledger) (w .plain)
+    o = open-now geo sync w m refl h
 
-  b : Basics (w .store) (w .plain)
-  b = m .basics
+    b : Basics geo (w .store) (w .plain)
+    b = m .basics
 
-  plain-is : plainStep sync (foundWritten sync w) (w .plain) ≡ plainSync (w .plain)
-  plain-is = plain-served sync (foundWritten sync w) (w .plain) h
+    plain-is : plainStep geo sync (foundWritten geo sync w) (w .plain) ≡ plainSync geo (w .plain)
+    plain-is = plain-served geo sync (foundWritten geo sync w) (w .plain) h
 
-  answer-not : dispatch sync (w .store) .answer ≢ 0
-  unfolding S.finished
-  answer-not e = true≢false (sym (eq-eqb _ 0 e) ∙ nf)
+    answer-not : dispatch geo sync (w .store) .answer ≢ 0
+    unfolding S.finished
+    answer-not e = true≢false (sym (eq-eqb _ 0 e) ∙ nf)
 
-  answer-plain : dispatch sync (w .store) .answer ≡ plainSync (w .plain) .answer
-  answer-plain = step sync w m .agrees .answer ∙ ap (λ (x : Done). x .answer) plain-is
+    answer-plain : dispatch geo sync (w .store) .answer ≡ plainSync geo (w .plain) .answer
+    answer-plain = step geo sync w m .agrees .answer ∙ ap (λ (x : Done). x .answer) plain-is
 
-  -- so it was cut short
-  pub record SyncGone : Type 0 where
-    pub some : length (w .plain .G) ≢ 0
-    pub less : w .plain .power < syncTakes (w .plain .n) (length (w .plain .G))
+    -- so it was cut short
+    pub record SyncGone : Type 0 where
+      pub some : length (w .plain .G) ≢ 0
+      pub less : w .plain .power < syncTakes geo (w .plain .n) (length (w .plain .G))
 
-  gone : SyncGone
-  gone =
-      sync-cases (λ x. SyncGone) (w .plain)
-      (λ z. absurd (answer-not (answer-plain ∙ ap (λ (x : Done). x .answer) (PlainLaws.sync-nothing (w .plain) z))))
-      (λ z p. absurd (answer-not (answer-plain ∙ ap (λ (x : Done). x .answer) (PlainLaws.sync-finished (w .plain) z p))))
-      (λ z p. record { some = z; less = p })
+    gone : SyncGone
+    gone =
+        sync-cases geo (λ x. SyncGone) (w .plain)
+        (λ z. absurd (answer-not (answer-plain ∙ ap (λ (x : Done). x .answer) (PlainLaws.sync-nothing geo (w .plain) z))))
+        (λ z p. absurd (answer-not (answer-plain ∙ ap (λ (x : Done). x .answer) (PlainLaws.sync-finished geo (w .plain) z p))))
+        (λ z p. record { some = z; less = p })
 
-  pub short-plain : plainStep sync (foundWritten sync w) (w .plain) ≡ Plain.cutShort (ofSync (w .plain .power)) (syncWaits (w .plain .n) (length (w .plain .G)) (w .plain .power)) (w .plain)
-  short-plain = plain-is ∙ PlainLaws.sync-short (w .plain) (gone .some) (gone .less)
+    pub short-plain : plainStep geo sync (foundWritten geo sync w) (w .plain) ≡ Plain.cutShort (ofSync (w .plain .power)) (syncWaits geo (w .plain .n) (length (w .plain .G)) (w .plain .power)) (w .plain)
+    short-plain = plain-is ∙ PlainLaws.sync-short geo (w .plain) (gone .some) (gone .less)
 
-  answer-four : dispatch sync (w .store) .answer ≡ 4
-  answer-four = step sync w m .agrees .answer ∙ ap (λ (x : Done). x .answer) short-plain
+    answer-four : dispatch geo sync (w .store) .answer ≡ 4
+    answer-four = step geo sync w m .agrees .answer ∙ ap (λ (x : Done). x .answer) short-plain
 
-  orders-power : dispatch sync (w .store) .orders ≡ w .plain .power
-  orders-power = step sync w m .agrees .orders ∙ ap (λ (x : Done). x .orders) short-plain
+    orders-power : dispatch geo sync (w .store) .orders ≡ w .plain .power
+    orders-power = step geo sync w m .agrees .orders ∙ ap (λ (x : Done). x .orders) short-plain
 
-  count : length (w .plain .G) ≡ w .store .rec .grouped
-  count = Facts.plain-count (w .store) (w .ledger) (w .plain) b o
+    count : length (w .plain .G) ≡ w .store .rec .grouped
+    count = Facts.plain-count geo (w .store) (w .ledger) (w .plain) b o
 
-  grouped-some : w .store .rec .grouped ≢ 0
-  grouped-some e = gone .some (count ∙ e)
+    grouped-some : w .store .rec .grouped ≢ 0
+    grouped-some e = gone .some (count ∙ e)
 
-  inner-is : inner (w .store) ≡ innerTakes (w .plain .n) (length (w .plain .G))
-  inner-is =
-      ap (λ (t : Bool). cond (not t && not (leb (w .store .rec .logged + w .store .rec .grouped) slots)) (w .store .rec .logged + 3) 0) (ne-eqb _ 0 grouped-some)
-      ∙ ap₂ (λ (x y : ℕ). cond (not (leb (x + y) slots)) (x + 3) 0) (sym (o .n)) (sym count)
+    inner-is : inner geo (w .store) ≡ innerTakes geo (w .plain .n) (length (w .plain .G))
+    inner-is =
+        ap (λ (t : Bool). cond (not t && not (leb (w .store .rec .logged + w .store .rec .grouped) (geo .slots))) (w .store .rec .logged + 3) 0) (ne-eqb _ 0 grouped-some)
+        ∙ ap₂ (λ (x y : ℕ). cond (not (leb (x + y) (geo .slots))) (x + 3) 0) (sym (o .n)) (sym count)
 
-  headed-is : headed w ≡ eqb (w .plain .power) (innerTakes (w .plain .n) (length (w .plain .G)) + (length (w .plain .G) + 2))
-  headed-is = ap₂ (λ (x y : ℕ). eqb x y) orders-power (ap₂ (λ (x y : ℕ). x + (y + 2)) inner-is (sym count))
+    headed-is : headed geo w ≡ eqb (w .plain .power) (innerTakes geo (w .plain .n) (length (w .plain .G)) + (length (w .plain .G) + 2))
+    headed-is = ap₂ (λ (x y : ℕ). eqb x y) orders-power (ap₂ (λ (x y : ℕ). x + (y + 2)) inner-is (sym count))
 
-  observed : observe sync w (known quiet) ≡ undecided (groupOf (w .store)) (w .store .rec .grouped + 1) (headed w)
-  unfolding observe shortSync
-  observed =
-      let e : eqb (w .store .rec .mode) openMode && eqb (dispatch sync (w .store) .answer) 4 ≡ true = rw (eq-eqb _ _ (o .mode), eq-eqb _ 4 answer-four) in
-      ap (λ (t : Bool). cond t (undecided (groupOf (w .store)) (w .store .rec .grouped + 1) (headed w)) (known quiet)) e
+    observed : observe geo sync w (known quiet) ≡ undecided (groupOf geo (w .store)) (w .store .rec .grouped + 1) (headed geo w)
+    unfolding observe shortSync
+    observed =
+        let e : eqb (w .store .rec .mode) openMode && eqb (dispatch geo sync (w .store) .answer) 4 ≡ true = rw (eq-eqb _ _ (o .mode), eq-eqb _ 4 answer-four) in
+        ap (λ (t : Bool). cond t (undecided (groupOf geo (w .store)) (w .store .rec .grouped + 1) (headed geo w)) (known quiet)) e
 
-  -- behind its own header m + 2 writes wait
-  waits-two : headed w ≡ true → storeNext sync w .rec .waiting ≡ w .store .rec .grouped + 2
-  waits-two e =
-      let k : w .plain .power ≡ innerTakes (w .plain .n) (length (w .plain .G)) + (length (w .plain .G) + 2) = eqb-true _ _ (sym headed-is ∙ e) in
-      step sync w m .agrees .waiting ∙ ap (λ (x : Done). x .plain .waiting) short-plain
-      ∙ PlainLaws.sync-waits-own (w .plain .n) (length (w .plain .G)) (w .plain .power) (omega arith)
-      ∙ (let q : w .plain .power - innerTakes (w .plain .n) (length (w .plain .G)) ≡ length (w .plain .G) + 2 = omega arith in q)
-      ∙ ap (λ (x : ℕ). x + 2) count
+    -- behind its own header m + 2 writes wait
+    waits-two : headed geo w ≡ true → storeNext geo sync w .rec .waiting ≡ w .store .rec .grouped + 2
+    waits-two e =
+        let k : w .plain .power ≡ innerTakes geo (w .plain .n) (length (w .plain .G)) + (length (w .plain .G) + 2) = eqb-true _ _ (sym headed-is ∙ e) in
+        step geo sync w m .agrees .waiting ∙ ap (λ (x : Done). x .plain .waiting) short-plain
+        ∙ PlainLaws.sync-waits-own geo (w .plain .n) (length (w .plain .G)) (w .plain .power) (omega arith)
+        ∙ (let q : w .plain .power - innerTakes geo (w .plain .n) (length (w .plain .G)) ≡ length (w .plain .G) + 2 = omega arith in q)
+        ∙ ap (λ (x : ℕ). x + 2) count
 
-  sync-watch : (f : Progress) → Watch old f (w .store) (w .ledger) (w .plain) → Watch old (observe sync w f) (storeNext sync w) (ledgerNext sync w) (plainNext sync w)
-  sync-watch f x =
-      let y = open-watch old f (w .store) (w .ledger) (w .plain) x (o .mode) in
-      let P : plainNext sync w ≡ Plain.cutShort (ofSync (w .plain .power)) (syncWaits (w .plain .n) (length (w .plain .G)) (w .plain .power)) (w .plain) .plain = ap (λ (z : Done). z .plain) short-plain in
-      watch-at old (ap (observe sync w) (y .0) ∙ observed) refl refl P
-      (record {
-        mode = step sync w m .agrees .mode ∙ ap (λ (z : Plain). z .mode) P;
-        S = y .1;
-        group = Facts.plain-group (w .store) (w .ledger) (w .plain) b o;
-        laid = λ ms u.
-            PlainLaws.sync-laid (w .plain .n) (length (w .plain .G)) (w .plain .power) (w .plain .F) u ms
-            ∙ ap₂ (λ (t : Bool) (i : ℕ). t && keptAt ms (i + 1) && u) (sym headed-is) count;
-        whole = λ e ms l a.
-            let q : length ms ≡ w .store .rec .grouped + 2 = l ∙ waits-two e in (
-              ones-mark ms (w .store .rec .grouped + 1) (omega arith) a,
-              short-whole w m h o grouped-some answer-four (eqb-true _ _ e) ms q a,
-            );
-      })
-
--- ---- apply
-
-apply-watch : (old : Disk) (w : World) (f : Progress) → WorldSim w → refusal apply (w .plain) ≡ 0 → Watch old f (w .store) (w .ledger) (w .plain)
-    → Watch old (observe apply w f) (storeNext apply w) (ledgerNext apply w) (plainNext apply w)
-unfolding observe shortSync
-apply-watch old w f m h x = go (ℕ-discrete (w .plain .n) 0) (decLe (w .plain .n + 3) (w .plain .power))
-  where
-    o : OpenSim (w .store) (w .ledger) (w .plain)
-    o = open-now apply w m refl h
-
-    P : plainStep apply (foundWritten apply w) (w .plain) ≡ plainApply (w .plain)
-    P = plain-served apply (foundWritten apply w) (w .plain) h
-
-    kept : (D : Done) → plainApply (w .plain) ≡ D → D .plain .mode ≡ w .plain .mode → D .plain .S ≡ w .plain .S → Watch old (observe apply w f) (storeNext apply w) (ledgerNext apply w) (plainNext apply w)
-    kept D e p s =
-        open-kept old apply w f m (o .mode) x (ap (λ (z : Done). z .plain .mode) (P ∙ e) ∙ p) (ap (λ (z : Done). z .plain .S) (P ∙ e) ∙ s) refl
-
-    go : Dec (w .plain .n ≡ 0) → Dec (w .plain .n + 3 ≤ w .plain .power) → Watch old (observe apply w f) (storeNext apply w) (ledgerNext apply w) (plainNext apply w)
-    go (yes z) q = kept _ (PlainLaws.apply-nothing (w .plain) z) refl refl
-    go (no z) (yes q) = kept _ (PlainLaws.apply-finished (w .plain) z q) refl refl
-    go (no z) (no q) =
-        let y = open-watch old f (w .store) (w .ledger) (w .plain) x (o .mode) in
-        let e = P ∙ PlainLaws.apply-short (w .plain) z (omega arith) in
-        let mode : storeNext apply w .rec .mode ≡ 2 = step apply w m .agrees .mode ∙ ap (λ (d : Done). d .plain .mode) e in
-        watch-at old (ap (observe apply w) (y .0)) refl refl (ap (λ (d : Done). d .plain) e)
-        (_⊎_.inr
+    sync-watch : (f : Progress) → Watch geo old f (w .store) (w .ledger) (w .plain) → Watch geo old (observe geo sync w f) (storeNext geo sync w) (ledgerNext geo sync w) (plainNext geo sync w)
+    sync-watch f x =
+        let y = open-watch geo old f (w .store) (w .ledger) (w .plain) x (o .mode) in
+        let P : plainNext geo sync w ≡ Plain.cutShort (ofSync (w .plain .power)) (syncWaits geo (w .plain .n) (length (w .plain .G)) (w .plain .power)) (w .plain) .plain = ap (λ (z : Done). z .plain) short-plain in
+        watch-at geo old (ap (observe geo sync w) (y .0) ∙ observed) refl refl P
         (record {
-          mode = λ k. omega arith;
+          mode = step geo sync w m .agrees .mode ∙ ap (λ (z : Plain). z .mode) P;
           S = y .1;
-          laid = λ ms u. ap (λ (v : Verdict). v .laid) (PlainLaws.choose-apply (w .plain .power) (w .plain .n) (length (w .plain .G)) (w .plain .F) _ u) ∙ apply-laid (w .plain .power) (w .plain .n) (w .plain .F) _;
-          whole = tt;
-        }))
+          group = Facts.plain-group geo (w .store) (w .ledger) (w .plain) b o;
+          laid = λ ms u.
+              PlainLaws.sync-laid geo (w .plain .n) (length (w .plain .G)) (w .plain .power) (w .plain .F) u ms
+              ∙ ap₂ (λ (t : Bool) (i : ℕ). t && keptAt ms (i + 1) && u) (sym headed-is) count;
+          whole = λ e ms l a.
+              let q : length ms ≡ w .store .rec .grouped + 2 = l ∙ waits-two e in (
+                ones-mark ms (w .store .rec .grouped + 1) (omega arith) a,
+                short-whole geo w m h o grouped-some answer-four (eqb-true _ _ e) ms q a,
+              );
+        })
 
--- ---- recover
+  -- ---- apply
 
-recover-laid : (k n m : ℕ) (F t u : Bool) → verdict (ofRecover k) n m F t u .laid ≡ false
-unfolding verdict
-recover-laid k n m F t u = go (eqb k 0)
-  where
-    go : (s : Bool) → cond s (unchanged n F) (unchanged n (not t)) .laid ≡ false
-    go true = refl
-    go false = refl
-
-recover-same : (w : World) (f : Progress) → observe recover w f ≡ f
-unfolding observe shortSync
-recover-same w (known quiet) = refl
-recover-same w (undecided G place made) = refl
-recover-same w (known (decided G laid all)) = refl
-
-recover-watch : (old : Disk) (w : World) (f : Progress) → WorldSim w → refusal recover (w .plain) ≡ 0 → S.finished recover w ≡ false → Watch old f (w .store) (w .ledger) (w .plain)
-    → Watch old (observe recover w f) (storeNext recover w) (ledgerNext recover w) (plainNext recover w)
-unfolding S.finished
-recover-watch old w f m h nf x = go (w .plain .F) refl (decLe 2 (w .plain .power))
-  where
-    P : plainStep recover (foundWritten recover w) (w .plain) ≡ plainRecover (w .plain)
-    P = plain-served recover (foundWritten recover w) (w .plain) h
-
-    not-zero : plainRecover (w .plain) .answer ≡ 0 → ⊥
-    not-zero e = true≢false (sym (eq-eqb _ 0 (step recover w m .agrees .answer ∙ ap (λ (d : Done). d .answer) P ∙ e)) ∙ nf)
-
-    shut : w .store .rec .mode ≡ closed
-    shut = is-closed (w .store) (w .ledger) (w .plain) m (cause-passes Request.recover (w .store) (same-cause (w .store) (w .ledger) (w .plain) m recover ∙ h)) .mode
-
-    go : (t : Bool) → w .plain .F ≡ t → Dec (2 ≤ w .plain .power) → Watch old (observe recover w f) (storeNext recover w) (ledgerNext recover w) (plainNext recover w)
-    go false e q = absurd (not-zero (ap (λ (d : Done). d .answer) (PlainLaws.recover-whole (w .plain) e)))
-    go true e (yes q) = absurd (not-zero (ap (λ (d : Done). d .answer) (PlainLaws.recover-fallback (w .plain) e q)))
-    go true e (no q) =
-        let y = closed-watch old f (w .store) (w .ledger) (w .plain) x shut in
-        let k = P ∙ PlainLaws.recover-short (w .plain) e (omega arith) in
-        let mode : storeNext recover w .rec .mode ≡ 2 = step recover w m .agrees .mode ∙ ap (λ (d : Done). d .plain .mode) k in
-        watch-at old (recover-same w f ∙ y .fated) refl refl (ap (λ (d : Done). d .plain) k)
-        (to-watch old (y .end) (storeNext recover w) (ledgerNext recover w) _
-        (record { mode = λ z. omega arith; S = y .phase .S; laid = λ ms u. recover-laid (w .plain .power) (w .plain .n) (length (w .plain .G)) (w .plain .F) _ u; whole = y .phase .whole }))
-
--- ---- cut
-
-module _ (old : Disk) (ms : List ℕ) (w : World) (m : WorldSim w) (h : refusal (cut ms) (w .plain) ≡ 0) where
-  abbrev found : Bool
-  found = sameLog (foundIn (cutSettled ms (w .store))) (cutWritten ms (w .ledger))
-
-  P : plainNext (cut ms) w ≡ CutStep.plainAt (w .store) (w .plain) (cond (planned (w .plain) ms found .laid) (overlay (w .plain .G) (w .plain .S)) (w .plain .S)) (planned (w .plain) ms found .n) (planned (w .plain) ms found .F)
-  P = ap (λ (d : Done). d .plain) (CutStep.plain-cut ms w m h)
-
-  closed-now : storeNext (cut ms) w .rec .mode ≢ openMode
-  closed-now e = let k : storeNext (cut ms) w .rec .mode ≡ 0 = ap (λ (s : State). s .rec .mode) (CutStep.store-cut ms w m h) in omega arith
-
-  -- nothing is laid
-  cut-still : (f : Fate) → observe (cut ms) w (known f) ≡ known f
-      → planned (w .plain) ms found .laid ≡ false → w .plain .S ≡ outcome f old → WholeIsNew f
-      → Watch old (observe (cut ms) w (known f)) (storeNext (cut ms) w) (ledgerNext (cut ms) w) (plainNext (cut ms) w)
-  cut-still f q z s y =
-      watch-at old q refl refl P
-      (to-watch old f (storeNext (cut ms) w) (ledgerNext (cut ms) w) _
-      (record { mode = closed-now; S = ap (λ (t : Bool). cond t (overlay (w .plain .G) (w .plain .S)) (w .plain .S)) z ∙ s; laid = λ ns u. ap (λ (v : Verdict). v .laid) (PlainLaws.choose-none _ _ _ _ u); whole = y }))
-
-  cut-observed : (G : List Entry) (place : ℕ) (made : Bool) → observe (cut ms) w (undecided G place made) ≡ known (decided G (made && keptAt ms place && found) (made && allKept ms))
-  unfolding observe
-  cut-observed G place made =
-      ap (λ (t : Bool). cond t (known (decided G (made && keptAt ms place && foundWritten (cut ms) w) (made && allKept ms))) (undecided G place made)) (cut-accepted ms w m h)
-      ∙ ap (λ (t : Bool). known (decided G (made && keptAt ms place && t) (made && allKept ms))) (CutStep.found-cut ms w m h)
-
-  cut-decides : (G : List Entry) (place : ℕ) (made : Bool) → ShortPhase old G place made (w .store) (w .ledger) (w .plain)
-      → Watch old (observe (cut ms) w (undecided G place made)) (storeNext (cut ms) w) (ledgerNext (cut ms) w) (plainNext (cut ms) w)
-  cut-decides G place made x =
-      watch-at old (cut-observed G place made) refl refl P
-      (record {
-        mode = closed-now;
-        S = ap (λ (t : Bool). cond t (overlay (w .plain .G) (w .plain .S)) (w .plain .S)) (x .laid ms found)
-            ∙ ap₂ (λ (g : List Entry) (d : Disk). cond (made && keptAt ms place && found) (overlay g d) d) (x .group) (x .S);
-        laid = λ ns u. ap (λ (v : Verdict). v .laid) (PlainLaws.choose-none _ _ _ _ u);
-        whole = λ e.
-            let q = both made (allKept ms) e in
-            let y = x .whole (q .0) ms (CutStep.marks-fit ms (w .plain) h ∙ m .basics .mirrors .waiting) (q .1) in
-            rw (q .0, y .0, y .1);
-      })
-
-  cut-watch : (f : Progress) → Watch old f (w .store) (w .ledger) (w .plain) → Watch old (observe (cut ms) w f) (storeNext (cut ms) w) (ledgerNext (cut ms) w) (plainNext (cut ms) w)
+  apply-watch : (old : Disk) (w : World) (f : Progress) → WorldSim geo w → refusal geo apply (w .plain) ≡ 0 → Watch geo old f (w .store) (w .ledger) (w .plain)
+      → Watch geo old (observe geo apply w f) (storeNext geo apply w) (ledgerNext geo apply w) (plainNext geo apply w)
   unfolding observe shortSync
-  cut-watch (known quiet) (_⊎_.inl x) = cut-still quiet refl (open-none (m .phase)) (x .S) tt
+  apply-watch old w f m h x = go (ℕ-discrete (w .plain .n) 0) (decLe (w .plain .n + 3) (w .plain .power))
     where
-      open-none : OpenSim (w .store) (w .ledger) (w .plain) ⊎ (ClosedSim (w .store) (w .ledger) (w .plain) ⊎ DownSim (w .store) (w .ledger) (w .plain)) → planned (w .plain) ms found .laid ≡ false
-      open-none (_⊎_.inl o) =
-          ap (λ (s : Short). verdict s (w .plain .n) (length (w .plain .G)) (w .plain .F) (headerKept ms (w .plain .waiting)) found .laid) (o .short)
-          ∙ ap (λ (v : Verdict). v .laid) (PlainLaws.choose-none (w .plain .n) (length (w .plain .G)) (w .plain .F) (headerKept ms (w .plain .waiting)) found)
-      open-none (_⊎_.inr (_⊎_.inl o)) = absurd (omega (arith, o .mode, x .mode))
-      open-none (_⊎_.inr (_⊎_.inr o)) = absurd (omega (arith, o .mode, x .mode))
-  cut-watch (known quiet) (_⊎_.inr x) = cut-still quiet refl (x .laid ms found) (x .S) tt
-  cut-watch (undecided G place made) x = cut-decides G place made x
-  cut-watch (known (decided G laid all)) x = cut-still (decided G laid all) refl (x .laid ms found) (x .S) (x .whole)
+      o : OpenSim geo (w .store) (w .ledger) (w .plain)
+      o = open-now geo apply w m refl h
 
--- ---- every call
+      P : plainStep geo apply (foundWritten geo apply w) (w .plain) ≡ plainApply (w .plain)
+      P = plain-served geo apply (foundWritten geo apply w) (w .plain) h
 
-local-watch : (old : Disk) (c : Local) (w : World) (f : Progress) → LocalKind c → WorldSim w → refusal (local c) (w .plain) ≡ 0 → Watch old f (w .store) (w .ledger) (w .plain)
-    → Watch old (observe (local c) w f) (storeNext (local c) w) (ledgerNext (local c) w) (plainNext (local c) w)
-unfolding observe shortSync entered
-local-watch old c w f (powers k) m h x =
-    watch-at old (power-same k w f) (ap (λ (o : Outcome). o .state) (power-served k w m)) refl (ap (λ (d : Done). d .plain) (plain-served (power k) (foundWritten (power k) w) (w .plain) h))
-    (power-watch old k f (w .store) (w .ledger) (w .plain) x)
-local-watch old c w f (opens _ n s) m h x =
-    let P = plain-served (local c) (foundWritten (local c) w) (w .plain) h in
-    open-kept old (local c) w f m (open-now (local c) w m n h .mode) x (ap (λ (d : Done). d .plain .mode) P ∙ s (w .plain) .mode) (ap (λ (d : Done). d .plain .S) P ∙ s (w .plain) .S) refl
+      kept : (D : Done) → plainApply (w .plain) ≡ D → D .plain .mode ≡ w .plain .mode → D .plain .S ≡ w .plain .S → Watch geo old (observe geo apply w f) (storeNext geo apply w) (ledgerNext geo apply w) (plainNext geo apply w)
+      kept D e p s =
+          open-kept geo old apply w f m (o .mode) x (ap (λ (z : Done). z .plain .mode) (P ∙ e) ∙ p) (ap (λ (z : Done). z .plain .S) (P ∙ e) ∙ s) refl
 
-served-watch : (old : Disk) (c : Call) (w : World) (f : Progress) → WorldSim w → refusal c (w .plain) ≡ 0 → S.finished c w ≡ false → Watch old f (w .store) (w .ledger) (w .plain)
-    → Watch old (observe c w f) (storeNext c w) (ledgerNext c w) (plainNext c w)
-unfolding observe shortSync entered
-served-watch old (local c) w f m h nf x = local-watch old c w f (local-kind c) m h x
-served-watch old (save Save.sync) w f m h nf x = sync-watch old w m h nf f x
-served-watch old (save Save.apply) w f m h nf x = apply-watch old w f m h x
-served-watch old (save Save.recover) w f m h nf x = recover-watch old w f m h nf x
-served-watch old (cut ms) w f m h nf x = cut-watch old ms w m h f x
+      go : Dec (w .plain .n ≡ 0) → Dec (w .plain .n + 3 ≤ w .plain .power) → Watch geo old (observe geo apply w f) (storeNext geo apply w) (ledgerNext geo apply w) (plainNext geo apply w)
+      go (yes z) q = kept _ (PlainLaws.apply-nothing (w .plain) z) refl refl
+      go (no z) (yes q) = kept _ (PlainLaws.apply-finished (w .plain) z q) refl refl
+      go (no z) (no q) =
+          let y = open-watch geo old f (w .store) (w .ledger) (w .plain) x (o .mode) in
+          let e = P ∙ PlainLaws.apply-short (w .plain) z (omega arith) in
+          let mode : storeNext geo apply w .rec .mode ≡ 2 = step geo apply w m .agrees .mode ∙ ap (λ (d : Done). d .plain .mode) e in
+          watch-at geo old (ap (observe geo apply w) (y .0)) refl refl (ap (λ (d : Done). d .plain) e)
+          (_⊎_.inr
+          (record {
+            mode = λ k. omega arith;
+            S = y .1;
+            laid = λ ms u. ap (λ (v : Verdict). v .laid) (PlainLaws.choose-apply geo (w .plain .power) (w .plain .n) (length (w .plain .G)) (w .plain .F) _ u) ∙ apply-laid (w .plain .power) (w .plain .n) (w .plain .F) _;
+            whole = tt;
+          }))
 
-pub watch-step : (old : Disk) (c : Call) (w : World) (f : Progress) → WorldSim w → S.finished c w ≡ false → Watch old f (w .store) (w .ledger) (w .plain)
-    → Watch old (observe c w f) (storeNext c w) (ledgerNext c w) (plainNext c w)
-watch-step old c w f m nf x = go (ℕ-discrete (refusal c (w .plain)) 0)
-  where
-    go : Dec (refusal c (w .plain) ≡ 0) → Watch old (observe c w f) (storeNext c w) (ledgerNext c w) (plainNext c w)
-    go (yes h) = served-watch old c w f m h nf x
-    go (no h) = watch-refused old c w f h m x
+  -- ---- recover
 
-pub watch-list : (old : Disk) (cs : List Call) (w : World) (f : Progress) → WorldSim w → noneFinished cs w ≡ true → after cs w .excepted ≡ false → Watch old f (w .store) (w .ledger) (w .plain)
-    → Watch old (fate cs w f) (after cs w .store) (after cs w .ledger) (after cs w .plain)
-unfolding after fate noneFinished next
-watch-list old [] w f m n e x = x
-watch-list old (c ∷ cs) w f m n e x =
-    let p = both (not (S.finished c w)) (noneFinished cs (next c w)) n in
-    watch-list old cs (next c w) (observe c w f) (next-sim c w m (clean-first c cs w e)) (p .1) e (watch-step old c w f m (not-true _ (p .0)) x)
+  recover-laid : (k n m : ℕ) (F t u : Bool) → verdict geo (ofRecover k) n m F t u .laid ≡ false
+  unfolding verdict
+  recover-laid k n m F t u = go (eqb k 0)
+    where
+      go : (s : Bool) → cond s (unchanged n F) (unchanged n (not t)) .laid ≡ false
+      go true = refl
+      go false = refl
+
+  recover-same : (w : World) (f : Progress) → observe geo recover w f ≡ f
+  unfolding observe shortSync
+  recover-same w (known quiet) = refl
+  recover-same w (undecided G place made) = refl
+  recover-same w (known (decided G laid all)) = refl
+
+  recover-watch : (old : Disk) (w : World) (f : Progress) → WorldSim geo w → refusal geo recover (w .plain) ≡ 0 → S.finished geo recover w ≡ false → Watch geo old f (w .store) (w .ledger) (w .plain)
+      → Watch geo old (observe geo recover w f) (storeNext geo recover w) (ledgerNext geo recover w) (plainNext geo recover w)
+  unfolding S.finished
+  recover-watch old w f m h nf x = go (w .plain .F) refl (decLe 2 (w .plain .power))
+    where
+      P : plainStep geo recover (foundWritten geo recover w) (w .plain) ≡ plainRecover (w .plain)
+      P = plain-served geo recover (foundWritten geo recover w) (w .plain) h
+
+      not-zero : plainRecover (w .plain) .answer ≡ 0 → ⊥
+      not-zero e = true≢false (sym (eq-eqb _ 0 (step geo recover w m .agrees .answer ∙ ap (λ (d : Done). d .answer) P ∙ e)) ∙ nf)
+
+      shut : w .store .rec .mode ≡ closed
+      shut = is-closed geo (w .store) (w .ledger) (w .plain) m (cause-passes geo Request.recover (w .store) (same-cause geo (w .store) (w .ledger) (w .plain) m recover ∙ h)) .mode
+
+      go : (t : Bool) → w .plain .F ≡ t → Dec (2 ≤ w .plain .power) → Watch geo old (observe geo recover w f) (storeNext geo recover w) (ledgerNext geo recover w) (plainNext geo recover w)
+      go false e q = absurd (not-zero (ap (λ (d : Done). d .answer) (PlainLaws.recover-whole (w .plain) e)))
+      go true e (yes q) = absurd (not-zero (ap (λ (d : Done). d .answer) (PlainLaws.recover-fallback (w .plain) e q)))
+      go true e (no q) =
+          let y = closed-watch geo old f (w .store) (w .ledger) (w .plain) x shut in
+          let k = P ∙ PlainLaws.recover-short (w .plain) e (omega arith) in
+          let mode : storeNext geo recover w .rec .mode ≡ 2 = step geo recover w m .agrees .mode ∙ ap (λ (d : Done). d .plain .mode) k in
+          watch-at geo old (recover-same w f ∙ y .fated) refl refl (ap (λ (d : Done). d .plain) k)
+          (to-watch geo old (y .end) (storeNext geo recover w) (ledgerNext geo recover w) _
+          (record { mode = λ z. omega arith; S = y .phase .S; laid = λ ms u. recover-laid (w .plain .power) (w .plain .n) (length (w .plain .G)) (w .plain .F) _ u; whole = y .phase .whole }))
+
+  -- ---- cut
+
+  module _ (old : Disk) (ms : List ℕ) (w : World) (m : WorldSim geo w) (h : refusal geo (cut ms) (w .plain) ≡ 0) where
+    abbrev found : Bool
+    found = sameLog (foundIn geo (cutSettled ms (w .store))) (cutWritten ms (w .ledger))
+
+    P : plainNext geo (cut ms) w ≡ CutStep.plainAt (w .store) (w .plain) (cond (planned geo (w .plain) ms found .laid) (overlay (w .plain .G) (w .plain .S)) (w .plain .S)) (planned geo (w .plain) ms found .n) (planned geo (w .plain) ms found .F)
+    P = ap (λ (d : Done). d .plain) (CutStep.plain-cut geo ms w m h)
+
+    closed-now : storeNext geo (cut ms) w .rec .mode ≢ openMode
+    closed-now e = let k : storeNext geo (cut ms) w .rec .mode ≡ 0 = ap (λ (s : State). s .rec .mode) (CutStep.store-cut geo ms w m h) in omega arith
+
+    -- nothing is laid
+    cut-still : (f : Fate) → observe geo (cut ms) w (known f) ≡ known f
+        → planned geo (w .plain) ms found .laid ≡ false → w .plain .S ≡ outcome f old → WholeIsNew f
+        → Watch geo old (observe geo (cut ms) w (known f)) (storeNext geo (cut ms) w) (ledgerNext geo (cut ms) w) (plainNext geo (cut ms) w)
+    cut-still f q z s y =
+        watch-at geo old q refl refl P
+        (to-watch geo old f (storeNext geo (cut ms) w) (ledgerNext geo (cut ms) w) _
+        (record { mode = closed-now; S = ap (λ (t : Bool). cond t (overlay (w .plain .G) (w .plain .S)) (w .plain .S)) z ∙ s; laid = λ ns u. ap (λ (v : Verdict). v .laid) (PlainLaws.choose-none geo _ _ _ _ u); whole = y }))
+
+    cut-observed : (G : List Entry) (place : ℕ) (made : Bool) → observe geo (cut ms) w (undecided G place made) ≡ known (decided G (made && keptAt ms place && found) (made && allKept ms))
+    unfolding observe
+    cut-observed G place made =
+        ap (λ (t : Bool). cond t (known (decided G (made && keptAt ms place && foundWritten geo (cut ms) w) (made && allKept ms))) (undecided G place made)) (cut-accepted geo ms w m h)
+        ∙ ap (λ (t : Bool). known (decided G (made && keptAt ms place && t) (made && allKept ms))) (CutStep.found-cut geo ms w m h)
+
+    cut-decides : (G : List Entry) (place : ℕ) (made : Bool) → ShortPhase geo old G place made (w .store) (w .ledger) (w .plain)
+        → Watch geo old (observe geo (cut ms) w (undecided G place made)) (storeNext geo (cut ms) w) (ledgerNext geo (cut ms) w) (plainNext geo (cut ms) w)
+    cut-decides G place made x =
+        watch-at geo old (cut-observed G place made) refl refl P
+        (record {
+          mode = closed-now;
+          S = ap (λ (t : Bool). cond t (overlay (w .plain .G) (w .plain .S)) (w .plain .S)) (x .laid ms found)
+              ∙ ap₂ (λ (g : List Entry) (d : Disk). cond (made && keptAt ms place && found) (overlay g d) d) (x .group) (x .S);
+          laid = λ ns u. ap (λ (v : Verdict). v .laid) (PlainLaws.choose-none geo _ _ _ _ u);
+          whole = λ e.
+              let q = both made (allKept ms) e in
+              let y = x .whole (q .0) ms (CutStep.marks-fit geo ms (w .plain) h ∙ m .basics .mirrors .waiting) (q .1) in
+              rw (q .0, y .0, y .1);
+        })
+
+    cut-watch : (f : Progress) → Watch geo old f (w .store) (w .ledger) (w .plain) → Watch geo old (observe geo (cut ms) w f) (storeNext geo (cut ms) w) (ledgerNext geo (cut ms) w) (plainNext geo (cut ms) w)
+    unfolding observe shortSync
+    cut-watch (known quiet) (_⊎_.inl x) = cut-still quiet refl (open-none (m .phase)) (x .S) tt
+      where
+        open-none : OpenSim geo (w .store) (w .ledger) (w .plain) ⊎ (ClosedSim geo (w .store) (w .ledger) (w .plain) ⊎ DownSim geo (w .store) (w .ledger) (w .plain)) → planned geo (w .plain) ms found .laid ≡ false
+        open-none (_⊎_.inl o) =
+            ap (λ (s : Short). verdict geo s (w .plain .n) (length (w .plain .G)) (w .plain .F) (headerKept ms (w .plain .waiting)) found .laid) (o .short)
+            ∙ ap (λ (v : Verdict). v .laid) (PlainLaws.choose-none geo (w .plain .n) (length (w .plain .G)) (w .plain .F) (headerKept ms (w .plain .waiting)) found)
+        open-none (_⊎_.inr (_⊎_.inl o)) = absurd (omega (arith, o .mode, x .mode))
+        open-none (_⊎_.inr (_⊎_.inr o)) = absurd (omega (arith, o .mode, x .mode))
+    cut-watch (known quiet) (_⊎_.inr x) = cut-still quiet refl (x .laid ms found) (x .S) tt
+    cut-watch (undecided G place made) x = cut-decides G place made x
+    cut-watch (known (decided G laid all)) x = cut-still (decided G laid all) refl (x .laid ms found) (x .S) (x .whole)
+
+  -- ---- every call
+
+  local-watch : (old : Disk) (c : Local) (w : World) (f : Progress) → LocalKind geo c → WorldSim geo w → refusal geo (local c) (w .plain) ≡ 0 → Watch geo old f (w .store) (w .ledger) (w .plain)
+      → Watch geo old (observe geo (local c) w f) (storeNext geo (local c) w) (ledgerNext geo (local c) w) (plainNext geo (local c) w)
+  unfolding observe shortSync entered
+  local-watch old c w f (powers k) m h x =
+      watch-at geo old (power-same geo k w f) (ap (λ (o : Outcome). o .state) (power-served geo k w m)) refl (ap (λ (d : Done). d .plain) (plain-served geo (power k) (foundWritten geo (power k) w) (w .plain) h))
+      (power-watch geo old k f (w .store) (w .ledger) (w .plain) x)
+  local-watch old c w f (opens _ n s) m h x =
+      let P = plain-served geo (local c) (foundWritten geo (local c) w) (w .plain) h in
+      open-kept geo old (local c) w f m (open-now geo (local c) w m n h .mode) x (ap (λ (d : Done). d .plain .mode) P ∙ s (w .plain) .mode) (ap (λ (d : Done). d .plain .S) P ∙ s (w .plain) .S) refl
+
+  served-watch : (old : Disk) (c : Call) (w : World) (f : Progress) → WorldSim geo w → refusal geo c (w .plain) ≡ 0 → S.finished geo c w ≡ false → Watch geo old f (w .store) (w .ledger) (w .plain)
+      → Watch geo old (observe geo c w f) (storeNext geo c w) (ledgerNext geo c w) (plainNext geo c w)
+  unfolding observe shortSync entered
+  served-watch old (local c) w f m h nf x = local-watch old c w f (local-kind geo c) m h x
+  served-watch old (save Save.sync) w f m h nf x = sync-watch old w m h nf f x
+  served-watch old (save Save.apply) w f m h nf x = apply-watch old w f m h x
+  served-watch old (save Save.recover) w f m h nf x = recover-watch old w f m h nf x
+  served-watch old (cut ms) w f m h nf x = cut-watch old ms w m h f x
+
+  pub watch-step : (old : Disk) (c : Call) (w : World) (f : Progress) → WorldSim geo w → S.finished geo c w ≡ false → Watch geo old f (w .store) (w .ledger) (w .plain)
+      → Watch geo old (observe geo c w f) (storeNext geo c w) (ledgerNext geo c w) (plainNext geo c w)
+  watch-step old c w f m nf x = go (ℕ-discrete (refusal geo c (w .plain)) 0)
+    where
+      go : Dec (refusal geo c (w .plain) ≡ 0) → Watch geo old (observe geo c w f) (storeNext geo c w) (ledgerNext geo c w) (plainNext geo c w)
+      go (yes h) = served-watch old c w f m h nf x
+      go (no h) = watch-refused geo old c w f h m x
+
+  pub watch-list : (old : Disk) (cs : List Call) (w : World) (f : Progress) → WorldSim geo w → noneFinished geo cs w ≡ true → after geo cs w .excepted ≡ false → Watch geo old f (w .store) (w .ledger) (w .plain)
+      → Watch geo old (fate geo cs w f) (after geo cs w .store) (after geo cs w .ledger) (after geo cs w .plain)
+  unfolding after fate noneFinished next
+  watch-list old [] w f m n e x = x
+  watch-list old (c ∷ cs) w f m n e x =
+      let p = both (not (S.finished geo c w)) (noneFinished geo cs (next geo c w)) n in
+      watch-list old cs (next geo c w) (observe geo c w f) (next-sim geo c w m (clean-first geo c cs w e)) (p .1) e (watch-step old c w f m (not-true _ (p .0)) x)

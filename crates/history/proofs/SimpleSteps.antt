@@ -12,7 +12,8 @@ use Rattle.cells.specs.Entry.{Entry}
 use Rattle.card.specs.Card.{cut, queue}
 use Rattle.card.proofs.All.{All}
 use Rattle.card.proofs.Overlays.{overlay-agree}
-use Rattle.journal.specs.Layout.{slots, isData, mostBlocks}
+use Rattle.journal.specs.Geometry.{Geometry}
+use Rattle.journal.specs.Layout.{isData, mostBlocks}
 use Rattle.crash.proofs.Logs.{entries-disk}
 use Rattle.store.specs.State.{State, Outcome, openMode, withOpened, withGrouped, withQueue, withRecord, withWork}
 use Rattle.store.specs.Lists.{openFrom, groupFrom, listOf, find}
@@ -41,296 +42,298 @@ use Rattle.history.proofs.Steps.{WorldSim, StepOK, sim-step, sim-at, sm
 
 -- ---- a call that is done at once
 
--- it leaves the state `now`, and the plain disk becomes d
-record Serves (c : Call) (w : World) (d : Plain) : Type 0 where
-  now : State
-  call : dispatch c (w .store) ≡ completed now
-  block : (a : ℕ) → c ≡ get a → blockOf a (w .store) ≡ plainGet a (w .plain)
-  sim : Sim now (w .ledger) d
-
-quiet-step : (c : Call) (w : World) (d : Plain) → WorldSim w → entered c (w .store) (w .ledger) ≡ w .ledger
-    → served c (foundWritten c w) (w .plain) ≡ still d → (cause (requestOf c) (w .store) ≡ 0 → Serves c w d) → StepOK c w
-quiet-step c w d m l p s = go (ℕ-discrete (refusal c (w .plain)) 0)
-  where
-    go : Dec (refusal c (w .plain) ≡ 0) → StepOK c w
-    go (no h) = refused-step c w m h
-    go (yes h) =
-        let r = s (same-cause (w .store) (w .ledger) (w .plain) m c ∙ h) in
-        let P : plainStep c (foundWritten c w) (w .plain) ≡ still d = plain-served c (foundWritten c w) (w .plain) h ∙ p in
-        sim-step c w
-        (record {
-          answer = ap (λ (o : Outcome). o .answer) (r .call) ∙ sym (ap (λ (o : Done). o .answer) P);
-          orders = ap (λ (o : Outcome). o .orders) (r .call) ∙ sym (ap (λ (o : Done). o .orders) P);
-          block = λ a q z. r .block a q;
-          sim = sim-at (ap (λ (o : Outcome). o .state) (r .call)) l (ap (λ (o : Done). o .plain) P) (r .sim);
-        })
-
--- ---- power
-
-power-sim : (k : ℕ) (st : State) (l : Ledger) (d : Plain) → Sim st l d → Sim (withRecord (withQueue (st .rec .waiting) k (st .rec)) st) l (withPower k d)
-unfolding wrongSizes wrongCounts wrongWaiting wrongLists cut queue
-power-sim k st l d m =
-    let b = m .basics in
-    let r = b .mirrors in
-    record {
-      basics = record {
-        sizes = b .sizes;
-        counts = b .counts;
-        mirrors = record { mode = r .mode; N = r .N; waiting = r .waiting; T = r .T; G = r .G };
-        power = refl;
-      };
-      phase = go (m .phase);
-    }
-  where
+module _ (geo : Geometry) where
+  -- it leaves the state `now`, and the plain disk becomes d
+  record Serves (c : Call) (w : World) (d : Plain) : Type 0 where
     now : State
-    now = withRecord (withQueue (st .rec .waiting) k (st .rec)) st
+    call : dispatch geo c (w .store) ≡ completed now
+    block : (a : ℕ) → c ≡ get a → blockOf geo a (w .store) ≡ plainGet a (w .plain)
+    sim : Sim geo now (w .ledger) d
 
-    go : OpenSim st l d ⊎ (ClosedSim st l d ⊎ DownSim st l d) → OpenSim now l (withPower k d) ⊎ (ClosedSim now l (withPower k d) ⊎ DownSim now l (withPower k d))
-    go (_⊎_.inl o) = _⊎_.inl (record { mode = o .mode; n = o .n; F = o .F; short = o .short; pending = o .pending; sum = o .sum; card = o .card })
-    go (_⊎_.inr (_⊎_.inl o)) = _⊎_.inr (_⊎_.inl (record { mode = o .mode; T = o .T; G = o .G; short = o .short; pending = o .pending; card = o .card }))
-    go (_⊎_.inr (_⊎_.inr o)) = _⊎_.inr (_⊎_.inr (record { mode = o .mode; cuts = o .cuts }))
+  quiet-step : (c : Call) (w : World) (d : Plain) → WorldSim geo w → entered geo c (w .store) (w .ledger) ≡ w .ledger
+      → served geo c (foundWritten geo c w) (w .plain) ≡ still d → (cause geo (requestOf c) (w .store) ≡ 0 → Serves c w d) → StepOK geo c w
+  quiet-step c w d m l p s = go (ℕ-discrete (refusal geo c (w .plain)) 0)
+    where
+      go : Dec (refusal geo c (w .plain) ≡ 0) → StepOK geo c w
+      go (no h) = refused-step geo c w m h
+      go (yes h) =
+          let r = s (same-cause geo (w .store) (w .ledger) (w .plain) m c ∙ h) in
+          let P : plainStep geo c (foundWritten geo c w) (w .plain) ≡ still d = plain-served geo c (foundWritten geo c w) (w .plain) h ∙ p in
+          sim-step geo c w
+          (record {
+            answer = ap (λ (o : Outcome). o .answer) (r .call) ∙ sym (ap (λ (o : Done). o .answer) P);
+            orders = ap (λ (o : Outcome). o .orders) (r .call) ∙ sym (ap (λ (o : Done). o .orders) P);
+            block = λ a q z. r .block a q;
+            sim = sim-at geo (ap (λ (o : Outcome). o .state) (r .call)) l (ap (λ (o : Done). o .plain) P) (r .sim);
+          })
 
-pub power-step : (k : ℕ) (w : World) → WorldSim w → StepOK (power k) w
-unfolding powerCall entered
-power-step k w m =
-    quiet-step (power k) w (withPower k (w .plain)) m refl refl
-    (λ e. record {
-      now = withRecord (withQueue (w .store .rec .waiting) k (w .store .rec)) (w .store);
-      call = rw (eq-eqb _ 0 e);
-      block = λ a q. let z : _≡_ {A = ℕ} 0 1 = cc in absurd (omega arith);
-      sim = power-sim k (w .store) (w .ledger) (w .plain) m;
-    })
+  -- ---- power
 
--- ---- the calls that need the mode open
+  power-sim : (k : ℕ) (st : State) (l : Ledger) (d : Plain) → Sim geo st l d → Sim geo (withRecord (withQueue (st .rec .waiting) k (st .rec)) st) l (withPower k d)
+  unfolding wrongSizes wrongCounts wrongWaiting wrongLists cut queue
+  power-sim k st l d m =
+      let b = m .basics in
+      let r = b .mirrors in
+      record {
+        basics = record {
+          sizes = b .sizes;
+          counts = b .counts;
+          mirrors = record { mode = r .mode; N = r .N; waiting = r .waiting; T = r .T; G = r .G };
+          power = refl;
+        };
+        phase = go (m .phase);
+      }
+    where
+      now : State
+      now = withRecord (withQueue (st .rec .waiting) k (st .rec)) st
 
--- work memory holds the list l, as check 2 wants it
-record Held (N : ℕ) (work : List ℕ) (from n : ℕ) (l : List Entry) : Type 0 where
-  list : listOf work from n ≡ l
-  count : n ≤ slots
-  all : All (Data N) l
-  distinct : Distinct l
+      go : OpenSim geo st l d ⊎ (ClosedSim geo st l d ⊎ DownSim geo st l d) → OpenSim geo now l (withPower k d) ⊎ (ClosedSim geo now l (withPower k d) ⊎ DownSim geo now l (withPower k d))
+      go (_⊎_.inl o) = _⊎_.inl (record { mode = o .mode; n = o .n; F = o .F; short = o .short; pending = o .pending; sum = o .sum; card = o .card })
+      go (_⊎_.inr (_⊎_.inl o)) = _⊎_.inr (_⊎_.inl (record { mode = o .mode; T = o .T; G = o .G; short = o .short; pending = o .pending; card = o .card }))
+      go (_⊎_.inr (_⊎_.inr o)) = _⊎_.inr (_⊎_.inr (record { mode = o .mode; cuts = o .cuts }))
 
-none-held : (N : ℕ) (work : List ℕ) (from : ℕ) → Held N work from 0 []
-none-held N work from = record { list = refl; count = omega arith; all = tt; distinct = tt }
+  pub power-step : (k : ℕ) (w : World) → WorldSim geo w → StepOK geo (power k) w
+  unfolding powerCall entered
+  power-step k w m =
+      quiet-step (power k) w (withPower k (w .plain)) m refl refl
+      (λ e. record {
+        now = withRecord (withQueue (w .store .rec .waiting) k (w .store .rec)) (w .store);
+        call = rw (eq-eqb _ 0 e);
+        block = λ a q. let z : _≡_ {A = ℕ} 0 1 = cc in absurd (omega arith);
+        sim = power-sim k (w .store) (w .ledger) (w .plain) m;
+      })
 
--- open is T and group is G
-record Lists (N : ℕ) (work : List ℕ) (t g : ℕ) (T G : List Entry) : Type 0 where
-  size : length work ≡ workBytes
-  in-open : Held N work openFrom t T
-  in-group : Held N work groupFrom g G
+  -- ---- the calls that need the mode open
 
-abbrev ListsIn : State → Plain → Type 0
-ListsIn st d = Lists (st .rec .blocks) (st .work) (st .rec .opened) (st .rec .grouped) (d .T) (d .G)
+  -- work memory holds the list l, as check 2 wants it
+  record Held (N : ℕ) (work : List ℕ) (from n : ℕ) (l : List Entry) : Type 0 where
+    list : listOf work from n ≡ l
+    count : n ≤ geo .slots
+    all : All (Data geo N) l
+    distinct : Distinct l
+
+  none-held : (N : ℕ) (work : List ℕ) (from : ℕ) → Held N work from 0 []
+  none-held N work from = record { list = refl; count = omega arith; all = tt; distinct = tt }
+
+  -- open is T and group is G
+  record Lists (N : ℕ) (work : List ℕ) (t g : ℕ) (T G : List Entry) : Type 0 where
+    size : length work ≡ workBytes geo
+    in-open : Held N work openFrom t T
+    in-group : Held N work (groupFrom geo) g G
+
+  abbrev ListsIn : State → Plain → Type 0
+  ListsIn st d = Lists (st .rec .blocks) (st .work) (st .rec .opened) (st .rec .grouped) (d .T) (d .G)
 
 -- other lists, and nothing else
 abbrev listsSet : List ℕ → ℕ → ℕ → State → State
 listsSet work t g st = withRecord (withOpened t (withGrouped g (st .rec))) (withWork work st)
 
-module _ (st : State) (l : Ledger) (d : Plain) (m : Sim st l d) where
-  pub is-open : (q : Request) → needsOpen q ≡ true → Passes q st → OpenSim st l d
-  is-open q n p = go (m .phase)
+module _ (geo : Geometry) where
+  module _ (st : State) (l : Ledger) (d : Plain) (m : Sim geo st l d) where
+    pub is-open : (q : Request) → needsOpen geo q ≡ true → Passes geo q st → OpenSim geo st l d
+    is-open q n p = go (m .phase)
+      where
+        go : OpenSim geo st l d ⊎ (ClosedSim geo st l d ⊎ DownSim geo st l d) → OpenSim geo st l d
+        go (_⊎_.inl o) = o
+        go (_⊎_.inr (_⊎_.inl o)) = absurd (true≢false (rw (n, eq-eqb _ _ (o .mode)) at (p .not-closed)))
+        go (_⊎_.inr (_⊎_.inr o)) = absurd (true≢false (rw (n, eq-eqb _ _ (o .mode)) at (p .not-down)))
+
+    lists-in : st .rec .mode ≡ openMode → ListsIn geo st d
+    lists-in o =
+        let r = record-facts geo st (m .basics .counts) in
+        let f = r .lists o in
+        let T = m .basics .mirrors .T o in
+        let G = m .basics .mirrors .G o in
+        record {
+          size = sizes-facts geo st (m .basics .sizes) .work;
+          in-open = record { list = sym T; count = r .open-count; all = rw T (f .open-data); distinct = rw T (f .open-distinct) };
+          in-group = record { list = sym G; count = r .group-count; all = rw G (f .group-data); distinct = rw G (f .group-distinct) };
+        }
+
+    lists-sim : OpenSim geo st l d → (work : List ℕ) (k i : ℕ) (T G : List Entry) → Lists geo (st .rec .blocks) work k i T G → Sim geo (listsSet work k i st) l (withLists G T d)
+    lists-sim o work k i T G n =
+        let s = sizes-facts geo st (m .basics .sizes) in
+        let r = record-facts geo st (m .basics .counts) in
+        let b = m .basics .mirrors in
+        let t = n .in-open in
+        let g = n .in-group in
+        record {
+          basics = record {
+            sizes = facts-sizes geo (listsSet work k i st) (record { settled = s .settled; least = s .least; most = s .most; waiting = s .waiting; work = n .size });
+            counts = facts-record geo (listsSet work k i st) (record {
+              mode = r .mode;
+              open-count = t .count;
+              group-count = g .count;
+              log-count = r .log-count;
+              waiting-count = r .waiting-count;
+              waiting-down = r .waiting-down;
+              blocks = r .blocks;
+              waiting-below = r .waiting-below;
+              lists = λ h. record {
+                open-data = rw (t .list) (t .all);
+                group-data = rw (g .list) (g .all);
+                log-data = r .lists (o .mode) .log-data;
+                open-distinct = rw (t .list) (t .distinct);
+                group-distinct = rw (g .list) (g .distinct);
+              };
+            });
+            mirrors = record { mode = b .mode; N = b .N; waiting = b .waiting; T = λ h. sym (t .list); G = λ h. sym (g .list) };
+            power = m .basics .power;
+          };
+          phase = _⊎_.inl (record { mode = o .mode; n = o .n; F = o .F; short = o .short; pending = o .pending; sum = o .sum; card = o .card });
+        }
+
+  -- a call that is not refused leaves T and G and changes nothing else
+  record Sets (c : Call) (st : State) (T G : List Entry) : Type 0 where
+    work : List ℕ
+    t : ℕ
+    g : ℕ
+    call : dispatch geo c st ≡ completed (listsSet work t g st)
+    lists : Lists geo (st .rec .blocks) work t g T G
+
+  lists-step : (c : Call) (w : World) (T G : List Entry) → WorldSim geo w → needsOpen geo (requestOf c) ≡ true → ((a : ℕ) → c ≡ get a → ⊥)
+      → entered geo c (w .store) (w .ledger) ≡ w .ledger → served geo c (foundWritten geo c w) (w .plain) ≡ still (withLists G T (w .plain))
+      → (cause geo (requestOf c) (w .store) ≡ 0 → Passes geo (requestOf c) (w .store) → ListsIn geo (w .store) (w .plain) → Sets c (w .store) T G)
+      → StepOK geo c w
+  lists-step c w T G m n k l p f =
+      quiet-step geo c w (withLists G T (w .plain)) m l p
+      (λ e.
+      let q = cause-passes geo (requestOf c) (w .store) e in
+      let o = is-open (w .store) (w .ledger) (w .plain) m (requestOf c) n q in
+      let r = f e q (lists-in (w .store) (w .ledger) (w .plain) m (o .mode)) in
+      record {
+        now = listsSet (r .work) (r .t) (r .g) (w .store);
+        call = r .call;
+        block = λ a z. absurd (k a z);
+        sim = lists-sim (w .store) (w .ledger) (w .plain) m o (r .work) (r .t) (r .g) T G (r .lists);
+      })
+
+  pub abandon-step : (w : World) → WorldSim geo w → StepOK geo abandon w
+  unfolding abandonCall entered
+  abandon-step w m =
+      lists-step abandon w [] (w .plain .G) m refl (λ a q. let z : _≡_ {A = ℕ} 0 1 = cc in omega arith) refl refl
+      (λ e q b. record {
+        work = w .store .work;
+        t = 0;
+        g = w .store .rec .grouped;
+        call = rw (eq-eqb _ 0 e);
+        lists = record { size = b .size; in-open = none-held geo _ _ openFrom; in-group = b .in-group };
+      })
+
+  pub put-step : (a : ℕ) (b : List ℕ) (w : World) → WorldSim geo w → StepOK geo (put a b) w
+  unfolding putCall entered
+  put-step a b w m =
+      lists-step (put a b) w (insert x (w .plain .T)) (w .plain .G) m refl (λ i q. let z : _≡_ {A = ℕ} 0 1 = cc in omega arith) refl refl
+      (λ e q f.
+      let T = f .in-open in
+      let G = f .in-group in
+      let place : isData geo N a ≡ true = not-false _ (q .own .0) in
+      let small : a < 2 ^ 32 = omega (arith, data-lt geo N a place, small-N geo st (w .plain) (m .basics)) in
+      let r = put-open geo x st (f .size) (T .count) (eqb-true _ _ (not-false _ (q .block))) small (rw (T .list) (T .distinct)) (λ h. leb-false _ _ (rw h at (q .own .1 .0))) in
+      record {
+        work = now .work;
+        t = now .rec .opened;
+        g = st .rec .grouped;
+        call = rw (eq-eqb _ 0 e) (ap completed (r .rest));
+        lists = record {
+          size = r .size ∙ f .size;
+          in-open = record {
+            list = r .open-list ∙ ap (insert x) (T .list);
+            count = r .few;
+            all = all-insert (Data geo N) x (w .plain .T) place (T .all);
+            distinct = distinct-insert x (w .plain .T) (T .distinct);
+          };
+          in-group = record { list = r .group-list _ (G .count) ∙ G .list; count = G .count; all = G .all; distinct = G .distinct };
+        };
+      })
     where
-      go : OpenSim st l d ⊎ (ClosedSim st l d ⊎ DownSim st l d) → OpenSim st l d
-      go (_⊎_.inl o) = o
-      go (_⊎_.inr (_⊎_.inl o)) = absurd (true≢false (rw (n, eq-eqb _ _ (o .mode)) at (p .not-closed)))
-      go (_⊎_.inr (_⊎_.inr o)) = absurd (true≢false (rw (n, eq-eqb _ _ (o .mode)) at (p .not-down)))
+      st : State
+      st = w .store
 
-  lists-in : st .rec .mode ≡ openMode → ListsIn st d
-  lists-in o =
-      let r = record-facts st (m .basics .counts) in
-      let f = r .lists o in
-      let T = m .basics .mirrors .T o in
-      let G = m .basics .mirrors .G o in
+      N : ℕ
+      N = st .rec .blocks
+
+      x : Entry
+      x = record { address = a; block = b }
+
+      now : State
+      now = putAt (find (st .work) openFrom (st .rec .opened) a) x st
+
+  pub commit-step : (w : World) → WorldSim geo w → StepOK geo commit w
+  unfolding commitCall entered
+  commit-step w m =
+      lists-step commit w [] (merge (w .plain .T) (w .plain .G)) m refl (λ a q. let z : _≡_ {A = ℕ} 0 1 = cc in omega arith) refl refl
+      (λ e q f.
+      let T = f .in-open in
+      let G = f .in-group in
+      let room = ltb-false _ _ (q .own .0) in
+      let most : N ≤ mostBlocks = omega (arith, sizes-facts geo st (m .basics .sizes) .most, record-facts geo st (m .basics .counts) .blocks) in
+      let apart : Distinct (listOf (st .work) openFrom n) = rw (T .list) (T .distinct) in
+      let r = joined-group geo (st .work) k n (f .size) (T .count) apart (rw (G .list) (G .distinct)) (rw (T .list) (data-short geo N most (w .plain .T) (T .all))) room in
       record {
-        size = sizes-facts st (m .basics .sizes) .work;
-        in-open = record { list = sym T; count = r .open-count; all = rw T (f .open-data); distinct = rw T (f .open-distinct) };
-        in-group = record { list = sym G; count = r .group-count; all = rw G (f .group-data); distinct = rw G (f .group-distinct) };
-      }
+        work = now .work;
+        t = 0;
+        g = now .count;
+        call = rw (eq-eqb _ 0 e);
+        lists = record {
+          size = r .size ∙ f .size;
+          in-open = none-held geo N (now .work) openFrom;
+          in-group = record {
+            list = r .group-list ∙ ap₂ merge (T .list) (G .list);
+            count = omega (arith, r .count, newcomers-merge geo (st .work) k n apart, room);
+            all = all-merge (Data geo N) (w .plain .T) (w .plain .G) (T .all) (G .all);
+            distinct = distinct-merge (w .plain .T) (w .plain .G) (G .distinct);
+          };
+        };
+      })
+    where
+      st : State
+      st = w .store
 
-  lists-sim : OpenSim st l d → (work : List ℕ) (k i : ℕ) (T G : List Entry) → Lists (st .rec .blocks) work k i T G → Sim (listsSet work k i st) l (withLists G T d)
-  lists-sim o work k i T G n =
-      let s = sizes-facts st (m .basics .sizes) in
-      let r = record-facts st (m .basics .counts) in
-      let b = m .basics .mirrors in
-      let t = n .in-open in
-      let g = n .in-group in
+      N : ℕ
+      N = st .rec .blocks
+
+      n : ℕ
+      n = st .rec .opened
+
+      k : ℕ
+      k = st .rec .grouped
+
+      now : Group
+      now = joined geo n (record { work = st .work; count = k })
+
+  -- ---- get
+
+  -- the newest block is the plain disk's
+  newest-plain : (a : ℕ) (st : State) (l : Ledger) (d : Plain) → OpenSim geo st l d → ListsIn geo st d → isData geo (st .rec .blocks) a ≡ true
+      → bytesAt (newest geo a st) st ≡ plainGet a d
+  unfolding plainGet
+  newest-plain a st l d o f h =
+      newest-get geo a st
+      ∙ rw (f .in-open .list, f .in-group .list, entries-disk geo (st .settled) (st .rec .logged))
+      (overlay-agree (d .T) _ _ a (overlay-agree (d .G) _ _ a (sym (o .card .disk a h))))
+
+  pub get-step : (a : ℕ) (w : World) → WorldSim geo w → StepOK geo (get a) w
+  unfolding entered getPlace
+  get-step a w m =
+      quiet-step geo (get a) w d m refl refl
+      (λ e.
+      let q = cause-passes geo (Request.get a) st e in
+      let o = is-open st l d m (Request.get a) refl q in
+      let place : getPlace geo a st ≡ newest geo a st = rw (eq-eqb _ 0 e) in
+      let b : blockOf geo a st ≡ plainGet a d = ap (λ (p : Place). bytesAt p st) place ∙ newest-plain a st l d o (lists-in st l d m (o .mode)) (not-false _ (q .own .0)) in
       record {
-        basics = record {
-          sizes = facts-sizes (listsSet work k i st) (record { settled = s .settled; least = s .least; most = s .most; waiting = s .waiting; work = n .size });
-          counts = facts-record (listsSet work k i st) (record {
-            mode = r .mode;
-            open-count = t .count;
-            group-count = g .count;
-            log-count = r .log-count;
-            waiting-count = r .waiting-count;
-            waiting-down = r .waiting-down;
-            blocks = r .blocks;
-            waiting-below = r .waiting-below;
-            lists = λ h. record {
-              open-data = rw (t .list) (t .all);
-              group-data = rw (g .list) (g .all);
-              log-data = r .lists (o .mode) .log-data;
-              open-distinct = rw (t .list) (t .distinct);
-              group-distinct = rw (g .list) (g .distinct);
-            };
-          });
-          mirrors = record { mode = b .mode; N = b .N; waiting = b .waiting; T = λ h. sym (t .list); G = λ h. sym (g .list) };
-          power = m .basics .power;
-        };
-        phase = _⊎_.inl (record { mode = o .mode; n = o .n; F = o .F; short = o .short; pending = o .pending; sum = o .sum; card = o .card });
-      }
+        now = st;
+        call = ap (λ (k : ℕ). record { answer = k; orders = 0; state = st }) e;
+        block = λ i z. let j : a ≡ i = cc in rw j at b;
+        sim = m;
+      })
+    where
+      st : State
+      st = w .store
 
--- a call that is not refused leaves T and G and changes nothing else
-record Sets (c : Call) (st : State) (T G : List Entry) : Type 0 where
-  work : List ℕ
-  t : ℕ
-  g : ℕ
-  call : dispatch c st ≡ completed (listsSet work t g st)
-  lists : Lists (st .rec .blocks) work t g T G
+      l : Ledger
+      l = w .ledger
 
-lists-step : (c : Call) (w : World) (T G : List Entry) → WorldSim w → needsOpen (requestOf c) ≡ true → ((a : ℕ) → c ≡ get a → ⊥)
-    → entered c (w .store) (w .ledger) ≡ w .ledger → served c (foundWritten c w) (w .plain) ≡ still (withLists G T (w .plain))
-    → (cause (requestOf c) (w .store) ≡ 0 → Passes (requestOf c) (w .store) → ListsIn (w .store) (w .plain) → Sets c (w .store) T G)
-    → StepOK c w
-lists-step c w T G m n k l p f =
-    quiet-step c w (withLists G T (w .plain)) m l p
-    (λ e.
-    let q = cause-passes (requestOf c) (w .store) e in
-    let o = is-open (w .store) (w .ledger) (w .plain) m (requestOf c) n q in
-    let r = f e q (lists-in (w .store) (w .ledger) (w .plain) m (o .mode)) in
-    record {
-      now = listsSet (r .work) (r .t) (r .g) (w .store);
-      call = r .call;
-      block = λ a z. absurd (k a z);
-      sim = lists-sim (w .store) (w .ledger) (w .plain) m o (r .work) (r .t) (r .g) T G (r .lists);
-    })
-
-pub abandon-step : (w : World) → WorldSim w → StepOK abandon w
-unfolding abandonCall entered
-abandon-step w m =
-    lists-step abandon w [] (w .plain .G) m refl (λ a q. let z : _≡_ {A = ℕ} 0 1 = cc in omega arith) refl refl
-    (λ e q b. record {
-      work = w .store .work;
-      t = 0;
-      g = w .store .rec .grouped;
-      call = rw (eq-eqb _ 0 e);
-      lists = record { size = b .size; in-open = none-held _ _ openFrom; in-group = b .in-group };
-    })
-
-pub put-step : (a : ℕ) (b : List ℕ) (w : World) → WorldSim w → StepOK (put a b) w
-unfolding putCall entered
-put-step a b w m =
-    lists-step (put a b) w (insert x (w .plain .T)) (w .plain .G) m refl (λ i q. let z : _≡_ {A = ℕ} 0 1 = cc in omega arith) refl refl
-    (λ e q f.
-    let T = f .in-open in
-    let G = f .in-group in
-    let place : isData N a ≡ true = not-false _ (q .own .0) in
-    let small : a < 2 ^ 32 = omega (arith, data-lt N a place, small-N st (w .plain) (m .basics)) in
-    let r = put-open x st (f .size) (T .count) (eqb-true _ _ (not-false _ (q .block))) small (rw (T .list) (T .distinct)) (λ h. leb-false _ _ (rw h at (q .own .1 .0))) in
-    record {
-      work = now .work;
-      t = now .rec .opened;
-      g = st .rec .grouped;
-      call = rw (eq-eqb _ 0 e) (ap completed (r .rest));
-      lists = record {
-        size = r .size ∙ f .size;
-        in-open = record {
-          list = r .open-list ∙ ap (insert x) (T .list);
-          count = r .few;
-          all = all-insert (Data N) x (w .plain .T) place (T .all);
-          distinct = distinct-insert x (w .plain .T) (T .distinct);
-        };
-        in-group = record { list = r .group-list _ (G .count) ∙ G .list; count = G .count; all = G .all; distinct = G .distinct };
-      };
-    })
-  where
-    st : State
-    st = w .store
-
-    N : ℕ
-    N = st .rec .blocks
-
-    x : Entry
-    x = record { address = a; block = b }
-
-    now : State
-    now = putAt (find (st .work) openFrom (st .rec .opened) a) x st
-
-pub commit-step : (w : World) → WorldSim w → StepOK commit w
-unfolding commitCall entered
-commit-step w m =
-    lists-step commit w [] (merge (w .plain .T) (w .plain .G)) m refl (λ a q. let z : _≡_ {A = ℕ} 0 1 = cc in omega arith) refl refl
-    (λ e q f.
-    let T = f .in-open in
-    let G = f .in-group in
-    let room = ltb-false _ _ (q .own .0) in
-    let most : N ≤ mostBlocks = omega (arith, sizes-facts st (m .basics .sizes) .most, record-facts st (m .basics .counts) .blocks) in
-    let apart : Distinct (listOf (st .work) openFrom n) = rw (T .list) (T .distinct) in
-    let r = joined-group (st .work) k n (f .size) (T .count) apart (rw (G .list) (G .distinct)) (rw (T .list) (data-short N most (w .plain .T) (T .all))) room in
-    record {
-      work = now .work;
-      t = 0;
-      g = now .count;
-      call = rw (eq-eqb _ 0 e);
-      lists = record {
-        size = r .size ∙ f .size;
-        in-open = none-held N (now .work) openFrom;
-        in-group = record {
-          list = r .group-list ∙ ap₂ merge (T .list) (G .list);
-          count = omega (arith, r .count, newcomers-merge (st .work) k n apart, room);
-          all = all-merge (Data N) (w .plain .T) (w .plain .G) (T .all) (G .all);
-          distinct = distinct-merge (w .plain .T) (w .plain .G) (G .distinct);
-        };
-      };
-    })
-  where
-    st : State
-    st = w .store
-
-    N : ℕ
-    N = st .rec .blocks
-
-    n : ℕ
-    n = st .rec .opened
-
-    k : ℕ
-    k = st .rec .grouped
-
-    now : Group
-    now = joined n (record { work = st .work; count = k })
-
--- ---- get
-
--- the newest block is the plain disk's
-newest-plain : (a : ℕ) (st : State) (l : Ledger) (d : Plain) → OpenSim st l d → ListsIn st d → isData (st .rec .blocks) a ≡ true
-    → bytesAt (newest a st) st ≡ plainGet a d
-unfolding plainGet
-newest-plain a st l d o f h =
-    newest-get a st
-    ∙ rw (f .in-open .list, f .in-group .list, entries-disk (st .settled) (st .rec .logged))
-    (overlay-agree (d .T) _ _ a (overlay-agree (d .G) _ _ a (sym (o .card .disk a h))))
-
-pub get-step : (a : ℕ) (w : World) → WorldSim w → StepOK (get a) w
-unfolding entered getPlace
-get-step a w m =
-    quiet-step (get a) w d m refl refl
-    (λ e.
-    let q = cause-passes (Request.get a) st e in
-    let o = is-open st l d m (Request.get a) refl q in
-    let place : getPlace a st ≡ newest a st = rw (eq-eqb _ 0 e) in
-    let b : blockOf a st ≡ plainGet a d = ap (λ (p : Place). bytesAt p st) place ∙ newest-plain a st l d o (lists-in st l d m (o .mode)) (not-false _ (q .own .0)) in
-    record {
-      now = st;
-      call = ap (λ (k : ℕ). record { answer = k; orders = 0; state = st }) e;
-      block = λ i z. let j : a ≡ i = cc in rw j at b;
-      sim = m;
-    })
-  where
-    st : State
-    st = w .store
-
-    l : Ledger
-    l = w .ledger
-
-    d : Plain
-    d = w .plain
+      d : Plain
+      d = w .plain

@@ -13,7 +13,7 @@ use Rattle.fnv.specs.Fnv.{start}
 use Rattle.card.specs.Disk.{Disk}
 use Rattle.card.specs.Card.{Order, blockAt, blocksIn}
 use Rattle.card.proofs.All.{All}
-use Rattle.journal.specs.Layout.{slots}
+use Rattle.journal.specs.Geometry.{Geometry}
 use Rattle.journal.specs.Log.{sumOf}
 use Rattle.journal.specs.Orders.{syncOrders}
 use Rattle.journal.proofs.Logs.{sumOf-nil}
@@ -37,155 +37,156 @@ use Rattle.history.proofs.OpenFacts as Facts
 use Rattle.history.proofs.Worlds.{settledLedger, plainNow, openWorld, Opened}
 use Rattle.history.proofs.Checkpoints.{checkpoint, checkpoint-orders, checkpoint-takes, checkpoint-fits, CheckpointCuts, checkpoint-cuts, size-emptied, emptied-card}
 
-module _ (st : State) (v : List Entry) (S : Disk) (x : Bool) where
-  abbrev w : World
-  w = openWorld st v S x
+module _ (geo : Geometry) where
+  module _ (st : State) (v : List Entry) (S : Disk) (x : Bool) where
+    abbrev w : World
+    w = openWorld geo st v S x
 
-  abbrev N : ℕ
-  N = st .rec .blocks
+    abbrev N : ℕ
+    N = st .rec .blocks
 
-  abbrev G : List Entry
-  G = groupOf st
+    abbrev G : List Entry
+    G = groupOf geo st
 
-  -- behind the batches of the apply inside: n entries with this sum, list the log written
-  pub record Met : Type 0 where
-    pub front : Plan
-    pub n : ℕ
-    pub sum : ℕ
-    pub list : List Entry
-    pub meets : Appends N (settles front (st .settled)) n sum G list S
-    -- the store
-    pub fits : All (Fits N) front
-    pub orders : length G ≢ 0 → syncOrders N (st .settled) (st .rec .logged) (st .rec .sum) G ≡ planned (front ++ (appendWrites N (settles front (st .settled)) n sum G ∷ []))
-    pub record-is : metByAppend st ≡ withLog n sum (st .rec)
-    -- the ledger
-    pub inner-is : inner st ≡ takes front
-    pub standing-is : standing st ≡ logD (blockAt (settles front (st .settled))) n
-    pub notes : (k : ℕ) → takes front ≤ k → noted (syncHeaders st) k (settledLedger v) ≡ noted (ownHeader st ∷ []) k (settledLedger list)
-    -- the plain disk
-    pub inner-plain : innerTakes (st .rec .logged) (length G) ≡ takes front
-    pub n-is : countMet (st .rec .logged) (length G) ≡ n
-    -- cut short inside
-    pub cuts : Throughout (CutsAt w (syncHeaders st) ofSync (syncWaits (st .rec .logged) (length G))) front (st .settled) 0
+    -- behind the batches of the apply inside: n entries with this sum, list the log written
+    pub record Met : Type 0 where
+      pub front : Plan
+      pub n : ℕ
+      pub sum : ℕ
+      pub list : List Entry
+      pub meets : Appends geo N (settles front (st .settled)) n sum G list S
+      -- the store
+      pub fits : All (Fits geo N) front
+      pub orders : length G ≢ 0 → syncOrders geo N (st .settled) (st .rec .logged) (st .rec .sum) G ≡ planned (front ++ (appendWrites geo N (settles front (st .settled)) n sum G ∷ []))
+      pub record-is : metByAppend geo st ≡ withLog n sum (st .rec)
+      -- the ledger
+      pub inner-is : inner geo st ≡ takes front
+      pub standing-is : standing geo st ≡ logD geo (blockAt (settles front (st .settled))) n
+      pub notes : (k : ℕ) → takes front ≤ k → noted (syncHeaders geo st) k (settledLedger v) ≡ noted (ownHeader geo st ∷ []) k (settledLedger list)
+      -- the plain disk
+      pub inner-plain : innerTakes geo (st .rec .logged) (length G) ≡ takes front
+      pub n-is : countMet geo (st .rec .logged) (length G) ≡ n
+      -- cut short inside
+      pub cuts : Throughout (CutsAt geo w (syncHeaders geo st) ofSync (syncWaits geo (st .rec .logged) (length G))) front (st .settled) 0
 
-module _ (st : State) (v : List Entry) (S : Disk) (x : Bool) (f : Opened st v S) (z : st .rec .grouped ≢ 0) where
-  abbrev d : Plain
-  d = plainNow st S
+  module _ (st : State) (v : List Entry) (S : Disk) (x : Bool) (f : Opened geo st v S) (z : st .rec .grouped ≢ 0) where
+    abbrev d : Plain
+    d = plainNow geo st S
 
-  abbrev n : ℕ
-  n = st .rec .logged
+    abbrev n : ℕ
+    n = st .rec .logged
 
-  abbrev m : ℕ
-  m = length (groupOf st)
+    abbrev m : ℕ
+    m = length (groupOf geo st)
 
-  rc : RecordFacts st
-  rc = record-facts st (f .basics .counts)
+    rc : RecordFacts geo st
+    rc = record-facts geo st (f .basics .counts)
 
-  length-G : length (groupOf st) ≡ st .rec .grouped
-  length-G = Facts.length-group st (settledLedger v) d (f .basics) (f .sim)
+    length-G : length (groupOf geo st) ≡ st .rec .grouped
+    length-G = Facts.length-group geo st (settledLedger v) d (f .basics) (f .sim)
 
-  pub appends : (s : List ℕ) (k h : ℕ) (l : List Entry) → st .rec .blocks ≡ blocksIn s → k + length (groupOf st) ≤ slots → h ≡ sumOf start (logD (blockAt s) k) → WholeCard (st .rec .blocks) (blockAt s) l S k
-      → Appends (st .rec .blocks) s k h (groupOf st) l S
-  appends s k h l size room sum card = record {
-    big = Facts.big st (settledLedger v) d (f .basics) (f .sim);
-    small = Facts.small st (settledLedger v) d (f .basics) (f .sim);
-    size = size;
-    room = room;
-    sum = sum;
-    card = card;
-    whole = Facts.group-whole st (settledLedger v) d (f .basics) (f .sim);
-    low = Facts.group-short st (settledLedger v) d (f .basics) (f .sim);
-    all-data = Facts.group-data st (settledLedger v) d (f .basics) (f .sim);
-  }
-
-  -- ---- there is room
-
-  module _ (room : n + length (groupOf st) ≤ slots) where
-    pub single : applies st ≡ false
-    single = rw (ne-eqb (st .rec .grouped) 0 z, le-leb (n + st .rec .grouped) slots (omega (arith, length-G)))
-
-    unfoldable pub met-itself : Met st v S x
-    unfolding syncOrders syncHeaders
-    met-itself = record {
-      front = [];
-      n = n;
-      sum = st .rec .sum;
-      list = v;
-      meets = appends (st .settled) n (st .rec .sum) v (Facts.size st (settledLedger v) d (f .basics) (f .sim)) room (Facts.sum st (settledLedger v) d (f .basics) (f .sim)) (f .sim .card);
-      fits = tt;
-      orders = λ some. rw (ne-eqb m 0 some, le-leb (n + m) slots room) (append-writes (N st v S x) (st .settled) n (st .rec .sum) (groupOf st) ∙ sym (append-nil _));
-      record-is = rw single;
-      inner-is = rw single;
-      standing-is = rw single (Facts.entries-log st (settledLedger v) d (f .basics) (f .sim));
-      notes = λ k h. rw single;
-      inner-plain = rw (no-apply n m room);
-      n-is = rw (no-apply n m room);
-      cuts = tt;
+    pub appends : (s : List ℕ) (k h : ℕ) (l : List Entry) → st .rec .blocks ≡ blocksIn s → k + length (groupOf geo st) ≤ geo .slots → h ≡ sumOf start (logD geo (blockAt s) k) → WholeCard geo (st .rec .blocks) (blockAt s) l S k
+        → Appends geo (st .rec .blocks) s k h (groupOf geo st) l S
+    appends s k h l size room sum card = record {
+      big = Facts.big geo st (settledLedger v) d (f .basics) (f .sim);
+      small = Facts.small geo st (settledLedger v) d (f .basics) (f .sim);
+      size = size;
+      room = room;
+      sum = sum;
+      card = card;
+      whole = Facts.group-whole geo st (settledLedger v) d (f .basics) (f .sim);
+      low = Facts.group-short geo st (settledLedger v) d (f .basics) (f .sim);
+      all-data = Facts.group-data geo st (settledLedger v) d (f .basics) (f .sim);
     }
 
-  -- ---- there is none
+    -- ---- there is room
 
-  module _ (over : slots < n + length (groupOf st)) where
-    applying : applies st ≡ true
-    applying = rw (ne-eqb (st .rec .grouped) 0 z, lt-leb (n + st .rec .grouped) slots (omega (arith, length-G)))
+    module _ (room : n + length (groupOf geo st) ≤ geo .slots) where
+      pub single : applies geo st ≡ false
+      single = rw (ne-eqb (st .rec .grouped) 0 z, le-leb (n + st .rec .grouped) (geo .slots) (omega (arith, length-G)))
 
-    abbrev inside : Plan
-    inside = checkpoint st (settledLedger v) d (f .basics) (f .sim)
+      unfoldable pub met-itself : Met st v S x
+      unfolding syncOrders syncHeaders
+      met-itself = record {
+        front = [];
+        n = n;
+        sum = st .rec .sum;
+        list = v;
+        meets = appends (st .settled) n (st .rec .sum) v (Facts.size st (settledLedger v) d (f .basics) (f .sim)) room (Facts.sum st (settledLedger v) d (f .basics) (f .sim)) (f .sim .card);
+        fits = tt;
+        orders = λ some. rw (ne-eqb m 0 some, le-leb (n + m) (geo .slots) room) (append-writes geo (N st v S x) (st .settled) n (st .rec .sum) (groupOf geo st) ∙ sym (append-nil _));
+        record-is = rw single;
+        inner-is = rw single;
+        standing-is = rw single (Facts.entries-log geo st (settledLedger v) d (f .basics) (f .sim));
+        notes = λ k h. rw single;
+        inner-plain = rw (no-apply geo n m room);
+        n-is = rw (no-apply geo n m room);
+        cuts = tt;
+      }
 
-    count : takes inside ≡ n + 3
-    count = checkpoint-takes st (settledLedger v) d (f .basics) (f .sim)
+    -- ---- there is none
 
-    heads : syncHeaders st ≡ applyHeader st ∷ ownHeader st ∷ []
-    unfolding syncHeaders
-    heads = rw applying
+    module _ (over : geo .slots < n + length (groupOf geo st)) where
+      applying : applies geo st ≡ true
+      applying = rw (ne-eqb (st .rec .grouped) 0 z, lt-leb (n + st .rec .grouped) (geo .slots) (omega (arith, length-G)))
 
-    orders : m ≢ 0 → syncOrders (st .rec .blocks) (st .settled) n (st .rec .sum) (groupOf st)
-        ≡ planned (inside ++ (appendWrites (st .rec .blocks) (settles inside (st .settled)) 0 start (groupOf st) ∷ []))
-    unfolding syncOrders
-    orders some =
-        rw (ne-eqb m 0 some, lt-leb (n + m) slots over)
-        (ap₂ (λ (a b : List Order). a ++ b) (checkpoint-orders st (settledLedger v) d (f .basics) (f .sim))
-        (append-afresh (st .rec .blocks) (st .settled) (settles inside (st .settled)) start (groupOf st)
-        ∙ append-writes (st .rec .blocks) (settles inside (st .settled)) 0 start (groupOf st)
-        ∙ sym (append-nil _))
-        ∙ sym (planned-append inside (appendWrites (st .rec .blocks) (settles inside (st .settled)) 0 start (groupOf st) ∷ [])))
+      abbrev inside : Plan
+      inside = checkpoint geo st (settledLedger v) d (f .basics) (f .sim)
 
-    cuts : Throughout (CutsAt (openWorld st v S x) (syncHeaders st) ofSync (syncWaits n m)) inside (st .settled) 0
-    cuts =
-        throughout-map (CheckpointCuts st (settledLedger v) d (f .basics) (f .sim) (ownHeader st ∷ [])) (CutsAt (openWorld st v S x) (syncHeaders st) ofSync (syncWaits n m)) inside (st .settled) 0
-        (λ s q k h y.
-        let wt : syncWaits n m k ≡ applyWaits n k = sync-waits-apply n m k over (omega (arith, count)) in
-        record {
-          waiting = wt ∙ y .waiting;
-          leads = λ r l ms e.
-              rw heads
-              (leads-still _ _ (applyVerdict k n false (headerKept ms (applyWaits n k)))
-              (choose-sync-apply k n m false _ _ over (λ u. omega (arith, count)) ∙ ap (λ (i : ℕ). applyVerdict k n false (headerKept ms i)) wt)
-              (apply-laid k n false (headerKept ms (applyWaits n k))) (y .leads r l ms e));
-        })
-        (checkpoint-cuts st (settledLedger v) d (f .basics) (f .sim) (ownHeader st ∷ []))
+      count : takes inside ≡ n + 3
+      count = checkpoint-takes geo st (settledLedger v) d (f .basics) (f .sim)
 
-    met-emptied : Met st v S x
-    met-emptied = record {
-      front = inside;
-      n = 0;
-      sum = start;
-      list = [];
-      meets = appends _ 0 start [] (size-emptied st (settledLedger v) d (f .basics) (f .sim)) (omega (arith, length-G, rc .group-count)) (sym (sumOf-nil start)) (emptied-card st (settledLedger v) d (f .basics) (f .sim));
-      fits = checkpoint-fits st (settledLedger v) d (f .basics) (f .sim);
-      orders = orders;
-      record-is = rw applying;
-      inner-is = rw applying (sym count);
-      standing-is = rw applying;
-      notes = λ k h. ap (λ (hs : List PlannedHeader). noted hs k (settledLedger v)) heads ∙ note-past (applyHeader st) (ownHeader st ∷ []) k (settledLedger v) (omega (arith, count));
-      inner-plain = rw (do-apply n m over) (sym count);
-      n-is = rw (do-apply n m over);
-      cuts = cuts;
-    }
+      heads : syncHeaders geo st ≡ applyHeader st ∷ ownHeader geo st ∷ []
+      unfolding syncHeaders
+      heads = rw applying
 
-  pub met : Met st v S x
-  met = go (decLe (n + m) slots)
-    where
-      go : Dec (n + m ≤ slots) → Met st v S x
-      go (yes p) = met-itself p
-      go (no p) = met-emptied (omega arith)
+      orders : m ≢ 0 → syncOrders geo (st .rec .blocks) (st .settled) n (st .rec .sum) (groupOf geo st)
+          ≡ planned (inside ++ (appendWrites geo (st .rec .blocks) (settles inside (st .settled)) 0 start (groupOf geo st) ∷ []))
+      unfolding syncOrders
+      orders some =
+          rw (ne-eqb m 0 some, lt-leb (n + m) (geo .slots) over)
+          (ap₂ (λ (a b : List Order). a ++ b) (checkpoint-orders geo st (settledLedger v) d (f .basics) (f .sim))
+          (append-afresh geo (st .rec .blocks) (st .settled) (settles inside (st .settled)) start (groupOf geo st)
+          ∙ append-writes geo (st .rec .blocks) (settles inside (st .settled)) 0 start (groupOf geo st)
+          ∙ sym (append-nil _))
+          ∙ sym (planned-append inside (appendWrites geo (st .rec .blocks) (settles inside (st .settled)) 0 start (groupOf geo st) ∷ [])))
+
+      cuts : Throughout (CutsAt geo (openWorld geo st v S x) (syncHeaders geo st) ofSync (syncWaits geo n m)) inside (st .settled) 0
+      cuts =
+          throughout-map (CheckpointCuts geo st (settledLedger v) d (f .basics) (f .sim) (ownHeader geo st ∷ [])) (CutsAt geo (openWorld geo st v S x) (syncHeaders geo st) ofSync (syncWaits geo n m)) inside (st .settled) 0
+          (λ s q k h y.
+          let wt : syncWaits geo n m k ≡ applyWaits n k = sync-waits-apply geo n m k over (omega (arith, count)) in
+          record {
+            waiting = wt ∙ y .waiting;
+            leads = λ r l ms e.
+                rw heads
+                (leads-still geo _ _ (applyVerdict k n false (headerKept ms (applyWaits n k)))
+                (choose-sync-apply geo k n m false _ _ over (λ u. omega (arith, count)) ∙ ap (λ (i : ℕ). applyVerdict k n false (headerKept ms i)) wt)
+                (apply-laid k n false (headerKept ms (applyWaits n k))) (y .leads r l ms e));
+          })
+          (checkpoint-cuts geo st (settledLedger v) d (f .basics) (f .sim) (ownHeader geo st ∷ []))
+
+      met-emptied : Met st v S x
+      met-emptied = record {
+        front = inside;
+        n = 0;
+        sum = start;
+        list = [];
+        meets = appends _ 0 start [] (size-emptied geo st (settledLedger v) d (f .basics) (f .sim)) (omega (arith, length-G, rc .group-count)) (sym (sumOf-nil start)) (emptied-card geo st (settledLedger v) d (f .basics) (f .sim));
+        fits = checkpoint-fits geo st (settledLedger v) d (f .basics) (f .sim);
+        orders = orders;
+        record-is = rw applying;
+        inner-is = rw applying (sym count);
+        standing-is = rw applying;
+        notes = λ k h. ap (λ (hs : List PlannedHeader). noted hs k (settledLedger v)) heads ∙ note-past (applyHeader st) (ownHeader geo st ∷ []) k (settledLedger v) (omega (arith, count));
+        inner-plain = rw (do-apply geo n m over) (sym count);
+        n-is = rw (do-apply geo n m over);
+        cuts = cuts;
+      }
+
+    pub met : Met st v S x
+    met = go (decLe (n + m) (geo .slots))
+      where
+        go : Dec (n + m ≤ geo .slots) → Met st v S x
+        go (yes p) = met-itself p
+        go (no p) = met-emptied (omega arith)

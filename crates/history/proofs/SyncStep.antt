@@ -17,6 +17,7 @@ use Rattle.card.specs.Card.{Card, Order, run, cut, settle, blockAt}
 use Rattle.card.proofs.All.{All, all-append, all-at}
 use Rattle.card.proofs.Runs.{run-nil}
 use Rattle.card.specs.Marks.{keptAt, allKept}
+use Rattle.journal.specs.Geometry.{Geometry}
 use Rattle.journal.specs.Layout.{headerAt}
 use Rattle.journal.specs.Log.{entries, sumOf}
 use Rattle.journal.specs.Orders.{syncOrders}
@@ -65,256 +66,257 @@ ones-at (k ∷ ms) h = let q = both (eqb k 1) (allKept ms) h in (eqb-true _ _ (q
 one-at : (ms : List ℕ) (i : ℕ) → i < length ms → All (λ k. k ≡ 1) ms → keptAt ms i ≡ true
 one-at ms i l a = eq-eqb _ _ (all-at (λ k. k ≡ 1) ms i 0 l a)
 
-module _ (st : State) (v : List Entry) (S : Disk) (x : Bool) (f : Opened st v S) where
-  abbrev w : World
-  w = openWorld st v S x
+module _ (geo : Geometry) where
+  module _ (st : State) (v : List Entry) (S : Disk) (x : Bool) (f : Opened geo st v S) where
+    abbrev w : World
+    w = openWorld geo st v S x
 
-  abbrev d : Plain
-  d = plainNow st S
+    abbrev d : Plain
+    d = plainNow geo st S
 
-  abbrev N : ℕ
-  N = st .rec .blocks
+    abbrev N : ℕ
+    N = st .rec .blocks
 
-  abbrev G : List Entry
-  G = groupOf st
+    abbrev G : List Entry
+    G = groupOf geo st
 
-  rc : RecordFacts st
-  rc = record-facts st (f .basics .counts)
+    rc : RecordFacts geo st
+    rc = record-facts geo st (f .basics .counts)
 
-  length-G : length G ≡ st .rec .grouped
-  length-G = Facts.length-group st (settledLedger v) d (f .basics) (f .sim)
+    length-G : length G ≡ st .rec .grouped
+    length-G = Facts.length-group geo st (settledLedger v) d (f .basics) (f .sim)
 
-  none : st .rec .waiting ≡ 0
-  none = Facts.none-waits st (settledLedger v) d (f .basics) (f .sim)
+    none : st .rec .waiting ≡ 0
+    none = Facts.none-waits geo st (settledLedger v) d (f .basics) (f .sim)
 
-  served : refusal sync d ≡ 0
-  unfolding refusal
-  served = refl
+    served : refusal geo sync d ≡ 0
+    unfolding refusal
+    served = refl
 
-  accepted : cause Request.sync st ≡ 0
-  accepted = same-cause st (settledLedger v) d (opened-sim f) sync ∙ served
+    accepted : cause geo Request.sync st ≡ 0
+    accepted = same-cause geo st (settledLedger v) d (opened-sim geo f) sync ∙ served
 
-  abbrev saving : List Order → Record → Outcome
-  saving os r =
-      carried os (withGrouped 0 (withLog (r .logged + st .rec .grouped) (sumOf (r .sum) (groupOf st)) r)) (cond (leb (length (innerOrders st)) (st .rec .power)) r (st .rec)) st
+    abbrev saving : List Order → Record → Outcome
+    saving os r =
+        carried os (withGrouped 0 (withLog (r .logged + st .rec .grouped) (sumOf (r .sum) (groupOf geo st)) r)) (cond (leb (length (innerOrders geo st)) (st .rec .power)) r (st .rec)) st
 
-  call : syncCall st ≡ saving (syncOrders N (st .settled) (st .rec .logged) (st .rec .sum) G) (metByAppend st)
-  unfolding syncCall
-  call = rw (eq-eqb _ 0 accepted)
+    call : syncCall geo st ≡ saving (syncOrders geo N (st .settled) (st .rec .logged) (st .rec .sum) G) (metByAppend geo st)
+    unfolding syncCall
+    call = rw (eq-eqb _ 0 accepted)
 
-  plain : plainStep sync (foundWritten sync w) d ≡ plainSync d
-  plain = plain-served sync (foundWritten sync w) d served
+    plain : plainStep geo sync (foundWritten geo sync w) d ≡ plainSync geo d
+    plain = plain-served geo sync (foundWritten geo sync w) d served
 
-  -- ---- an empty group
+    -- ---- an empty group
 
-  empty : st .rec .grouped ≡ 0 → StepOK sync w
-  unfolding entered syncOrders
-  empty z =
-      let zero-G : length G ≡ 0 = length-G ∙ z in
-      let nil : G ≡ [] = ap (λ (k : ℕ). listOf (st .work) groupFrom k) z in
-      let single : applies st ≡ false = rw (eq-eqb _ 0 z) in
-      let same : withGrouped 0 (withLog (metByAppend st .logged + st .rec .grouped) (sumOf (metByAppend st .sum) G) (metByAppend st)) ≡ st .rec =
-      rw single
-      (λ i. withGrouped (sym z i)
-      (withLog ((ap (λ (k : ℕ). st .rec .logged + k) z ∙ add-zero (st .rec .logged)) i) ((ap (λ (g : List Entry). sumOf (st .rec .sum) g) nil ∙ sumOf-nil (st .rec .sum)) i) (st .rec))) in
-      let D : syncCall st ≡ record { answer = 0; orders = 0; state = st } =
-      call
-      ∙ ap₂ (λ (os : List Order) (r : Record). carried os r (cond (leb (length (innerOrders st)) (st .rec .power)) (metByAppend st) (st .rec)) st) (rw (eq-eqb _ 0 zero-G)) same
-      ∙ carried-done [] (st .rec) _ st (omega arith)
-      ∙ rw (run-nil (cardIn st)) in
-      nothing-step sync w (opened-sim f) D (plain ∙ sync-nothing d zero-G)
-      (ap (λ (o : Outcome). noted (syncHeaders st) (o .orders) (settledLedger v)) D ∙ noted-none (syncHeaders st) (settledLedger v)) sync-no-get
+    empty : st .rec .grouped ≡ 0 → StepOK geo sync w
+    unfolding entered syncOrders
+    empty z =
+        let zero-G : length G ≡ 0 = length-G ∙ z in
+        let nil : G ≡ [] = ap (λ (k : ℕ). listOf (st .work) (groupFrom geo) k) z in
+        let single : applies geo st ≡ false = rw (eq-eqb _ 0 z) in
+        let same : withGrouped 0 (withLog (metByAppend geo st .logged + st .rec .grouped) (sumOf (metByAppend geo st .sum) G) (metByAppend geo st)) ≡ st .rec =
+        rw single
+        (λ i. withGrouped (sym z i)
+        (withLog ((ap (λ (k : ℕ). st .rec .logged + k) z ∙ add-zero (st .rec .logged)) i) ((ap (λ (g : List Entry). sumOf (st .rec .sum) g) nil ∙ sumOf-nil (st .rec .sum)) i) (st .rec))) in
+        let D : syncCall geo st ≡ record { answer = 0; orders = 0; state = st } =
+        call
+        ∙ ap₂ (λ (os : List Order) (r : Record). carried os r (cond (leb (length (innerOrders geo st)) (st .rec .power)) (metByAppend geo st) (st .rec)) st) (rw (eq-eqb _ 0 zero-G)) same
+        ∙ carried-done [] (st .rec) _ st (omega arith)
+        ∙ rw (run-nil (cardIn st)) in
+        nothing-step geo sync w (opened-sim geo f) D (plain ∙ sync-nothing geo d zero-G)
+        (ap (λ (o : Outcome). noted (syncHeaders geo st) (o .orders) (settledLedger v)) D ∙ noted-none (syncHeaders geo st) (settledLedger v)) sync-no-get
 
-  -- ---- a group, by what its append meets
+    -- ---- a group, by what its append meets
 
-  module _ (z : st .rec .grouped ≢ 0) (y : Met st v S x) where
-    some-G : length G ≢ 0
-    some-G q = z (sym length-G ∙ q)
+    module _ (z : st .rec .grouped ≢ 0) (y : Met geo st v S x) where
+      some-G : length G ≢ 0
+      some-G q = z (sym length-G ∙ q)
 
-    -- the settled bytes that it meets, the log there, its writes
-    abbrev s : List ℕ
-    s = settles (y .front) (st .settled)
+      -- the settled bytes that it meets, the log there, its writes
+      abbrev s : List ℕ
+      s = settles (y .front) (st .settled)
 
-    abbrev log : List Entry
-    log = logD (blockAt (settles (y .front) (st .settled))) (y .n)
+      abbrev log : List Entry
+      log = logD geo (blockAt (settles (y .front) (st .settled))) (y .n)
 
-    abbrev W : List Entry
-    W = appendWrites N (settles (y .front) (st .settled)) (y .n) (y .sum) G
+      abbrev W : List Entry
+      W = appendWrites geo N (settles (y .front) (st .settled)) (y .n) (y .sum) G
 
-    abbrev plan : Plan
-    plan = y .front ++ (W ∷ [])
+      abbrev plan : Plan
+      plan = y .front ++ (W ∷ [])
 
-    length-W : length W ≡ length G + 2
-    length-W = length-append-writes N s (y .n) (y .sum) G
+      length-W : length W ≡ length G + 2
+      length-W = length-append-writes geo N s (y .n) (y .sum) G
 
-    count : takes plan ≡ takes (y .front) + (length G + 3)
-    count = takes-append (y .front) (W ∷ []) ∙ (omega (arith, length-W))
+      count : takes plan ≡ takes (y .front) + (length G + 3)
+      count = takes-append (y .front) (W ∷ []) ∙ (omega (arith, length-W))
 
-    waits-own : (k : ℕ) → takes (y .front) ≤ k → syncWaits (st .rec .logged) (length G) k ≡ k - takes (y .front)
-    waits-own k l = sync-waits-own (st .rec .logged) (length G) k (omega (arith, y .inner-plain)) ∙ ap (λ (i : ℕ). k - i) (y .inner-plain)
+      waits-own : (k : ℕ) → takes (y .front) ≤ k → syncWaits geo (st .rec .logged) (length G) k ≡ k - takes (y .front)
+      waits-own k l = sync-waits-own geo (st .rec .logged) (length G) k (omega (arith, y .inner-plain)) ∙ ap (λ (i : ℕ). k - i) (y .inner-plain)
 
-    takes-is : syncTakes (st .rec .logged) (length G) ≡ takes plan
-    takes-is = sync-takes (st .rec .logged) (length G) ∙ (omega (arith, y .inner-plain, count))
+      takes-is : syncTakes geo (st .rec .logged) (length G) ≡ takes plan
+      takes-is = sync-takes geo (st .rec .logged) (length G) ∙ (omega (arith, y .inner-plain, count))
 
-    -- ---- its own header in the ledger
+      -- ---- its own header in the ledger
 
-    note-early : (k : ℕ) → takes (y .front) ≤ k → k < takes (y .front) + (length G + 2) → noted (syncHeaders st) k (settledLedger v) ≡ settledLedger (y .list)
-    note-early k l h = y .notes k l ∙ note-before (ownHeader st) [] k (settledLedger (y .list)) (omega (arith, y .inner-is, length-G))
+      note-early : (k : ℕ) → takes (y .front) ≤ k → k < takes (y .front) + (length G + 2) → noted (syncHeaders geo st) k (settledLedger v) ≡ settledLedger (y .list)
+      note-early k l h = y .notes k l ∙ note-before (ownHeader geo st) [] k (settledLedger (y .list)) (omega (arith, y .inner-is, length-G))
 
-    pub note-top : (k : ℕ) → k ≡ takes (y .front) + (length G + 2) → noted (syncHeaders st) k (settledLedger v) ≡ record { written = y .list; pending = waits (length G + 1) (log ++ G) }
-    note-top k e =
-        y .notes k (omega arith)
-        ∙ note-at (ownHeader st) [] k (settledLedger (y .list)) (omega (arith, y .inner-is, length-G))
-        ∙ (λ i. record { written = y .list; pending = waits (sym length-G i + 1) (y .standing-is i ++ G) })
+      pub note-top : (k : ℕ) → k ≡ takes (y .front) + (length G + 2) → noted (syncHeaders geo st) k (settledLedger v) ≡ record { written = y .list; pending = waits (length G + 1) (log ++ G) }
+      note-top k e =
+          y .notes k (omega arith)
+          ∙ note-at (ownHeader geo st) [] k (settledLedger (y .list)) (omega (arith, y .inner-is, length-G))
+          ∙ (λ i. record { written = y .list; pending = waits (sym length-G i + 1) (y .standing-is i ++ G) })
 
-    note-done : noted (syncHeaders st) (takes plan) (settledLedger v) ≡ settledLedger (log ++ G)
-    note-done =
-        y .notes (takes plan) (omega (arith, count))
-        ∙ note-past (ownHeader st) [] (takes plan) (settledLedger (y .list)) (omega (arith, y .inner-is, length-G, count))
-        ∙ noted-end (takes plan) _
-        ∙ ap (λ (l : List Entry). settledLedger (l ++ G)) (y .standing-is)
+      note-done : noted (syncHeaders geo st) (takes plan) (settledLedger v) ≡ settledLedger (log ++ G)
+      note-done =
+          y .notes (takes plan) (omega (arith, count))
+          ∙ note-past (ownHeader geo st) [] (takes plan) (settledLedger (y .list)) (omega (arith, y .inner-is, length-G, count))
+          ∙ noted-end (takes plan) _
+          ∙ ap (λ (l : List Entry). settledLedger (l ++ G)) (y .standing-is)
 
-    -- ---- cut short in the append, before its header and behind it
+      -- ---- cut short in the append, before its header and behind it
 
-    cuts-before : (j k : ℕ) → j ≤ length G + 1 → k ≡ takes (y .front) + j → CutsAt w (syncHeaders st) ofSync (syncWaits (st .rec .logged) (length G)) s (take j W) k
-    unfolding resolved
-    cuts-before j k h e = record {
-      waiting = waits-own k (omega arith) ∙ sym (length-take j W ∙ (omega (arith, length-W)));
-      leads = λ r l ms q.
-          rw (note-early k (omega arith) (omega arith))
-          (leads-still _ _ (unchanged (y .n) false) (choose-sync-before k (st .rec .logged) (length G) _ _ (omega (arith, y .inner-plain)) (omega (arith, y .inner-plain)) ∙ ap (λ (i : ℕ). unchanged i false) (y .n-is)) refl (short-before (y .meets) (cardIn st) r j l h ms));
-    }
+      cuts-before : (j k : ℕ) → j ≤ length G + 1 → k ≡ takes (y .front) + j → CutsAt geo w (syncHeaders geo st) ofSync (syncWaits geo (st .rec .logged) (length G)) s (take j W) k
+      unfolding resolved
+      cuts-before j k h e = record {
+        waiting = waits-own k (omega arith) ∙ sym (length-take j W ∙ (omega (arith, length-W)));
+        leads = λ r l ms q.
+            rw (note-early k (omega arith) (omega arith))
+            (leads-still geo _ _ (unchanged (y .n) false) (choose-sync-before geo k (st .rec .logged) (length G) _ _ (omega (arith, y .inner-plain)) (omega (arith, y .inner-plain)) ∙ ap (λ (i : ℕ). unchanged i false) (y .n-is)) refl (short-before geo (y .meets) (cardIn st) r j l h ms));
+      }
 
-    cuts-top : (j k : ℕ) → j ≡ length G + 2 → k ≡ takes (y .front) + j → CutsAt w (syncHeaders st) ofSync (syncWaits (st .rec .logged) (length G)) s (take j W) k
-    unfolding resolved
-    cuts-top j k h e =
-        let long : length (take j W) ≡ length G + 2 = length-take j W ∙ (omega (arith, length-W)) in
-        let wt : syncWaits (st .rec .logged) (length G) k ≡ suc (length G + 1) = waits-own k (omega arith) ∙ (omega arith) in
-        record {
-          waiting = wt ∙ (omega (arith, long));
-          leads = λ r l ms q.
-              let t : Bool = keptAt ms (length G + 1) in
-              let u : Bool = sameLog (foundIn (cut ms r .settled)) (cond (keptAt ms (length G + 1)) (log ++ G) (y .list)) in
-              rw (note-top k (omega arith))
-              (leads-laid _ _ _ (ownVerdict (y .n) (length G) t u)
-              (choose-sync-own k (st .rec .logged) (length G) false _ u (omega (arith, y .inner-plain)) ∙ (λ i. ownVerdict (y .n-is i) (length G) (kept-mark ms _ (length G + 1) wt i) u))
-              (short-top (y .meets) (cardIn st) r j l h ms (q ∙ long) t u refl refl));
-        }
+      cuts-top : (j k : ℕ) → j ≡ length G + 2 → k ≡ takes (y .front) + j → CutsAt geo w (syncHeaders geo st) ofSync (syncWaits geo (st .rec .logged) (length G)) s (take j W) k
+      unfolding resolved
+      cuts-top j k h e =
+          let long : length (take j W) ≡ length G + 2 = length-take j W ∙ (omega (arith, length-W)) in
+          let wt : syncWaits geo (st .rec .logged) (length G) k ≡ suc (length G + 1) = waits-own k (omega arith) ∙ (omega arith) in
+          record {
+            waiting = wt ∙ (omega (arith, long));
+            leads = λ r l ms q.
+                let t : Bool = keptAt ms (length G + 1) in
+                let u : Bool = sameLog (foundIn geo (cut ms r .settled)) (cond (keptAt ms (length G + 1)) (log ++ G) (y .list)) in
+                rw (note-top k (omega arith))
+                (leads-laid geo _ _ _ (ownVerdict (y .n) (length G) t u)
+                (choose-sync-own geo k (st .rec .logged) (length G) false _ u (omega (arith, y .inner-plain)) ∙ (λ i. ownVerdict (y .n-is i) (length G) (kept-mark ms _ (length G + 1) wt i) u))
+                (short-top geo (y .meets) (cardIn st) r j l h ms (q ∙ long) t u refl refl));
+          }
 
-    cuts : Throughout (CutsAt w (syncHeaders st) ofSync (syncWaits (st .rec .logged) (length G))) plan (st .settled) 0
-    cuts = throughout-append _ (y .front) (W ∷ []) (st .settled) 0 (takes (y .front)) (omega arith) (y .cuts) (λ j k h e. go j k h e (decLe j (length G + 1)), tt)
+      cuts : Throughout (CutsAt geo w (syncHeaders geo st) ofSync (syncWaits geo (st .rec .logged) (length G))) plan (st .settled) 0
+      cuts = throughout-append _ (y .front) (W ∷ []) (st .settled) 0 (takes (y .front)) (omega arith) (y .cuts) (λ j k h e. go j k h e (decLe j (length G + 1)), tt)
+        where
+          go : (j k : ℕ) → j ≤ length W → k ≡ takes (y .front) + j → Dec (j ≤ length G + 1) → CutsAt geo w (syncHeaders geo st) ofSync (syncWaits geo (st .rec .logged) (length G)) s (take j W) k
+          go j k h e (yes p) = cuts-before j k p e
+          go j k h e (no p) = cuts-top j k (omega (arith, length-W)) e
+
+      -- ---- the call
+
+      gone-counts : (t : Bool) → Countable geo N (cond t (withLog (y .n) (y .sum) (st .rec)) (st .rec))
+      gone-counts true = countable geo st rc (y .n) (y .sum) (omega (arith, y .meets .room))
+      gone-counts false = countable geo st rc (st .rec .logged) (st .rec .sum) (rc .log-count)
+
+      sum-is : sumOf (y .sum) G ≡ sumOf start (logD geo (blockAt (settles plan (st .settled))) (y .n + st .rec .grouped))
+      sum-is = done-sum geo (y .meets) ∙ (λ i. sumOf start (logD geo (blockAt (sym (settles-append (y .front) (W ∷ []) (st .settled)) i)) (y .n + length-G i)))
+
+      card-is : WholeCard geo N (blockAt (settles plan (st .settled))) (log ++ G) (overlay G S) (y .n + st .rec .grouped)
+      card-is =
+          let e : y .n + length G ≡ y .n + st .rec .grouped = ap (λ (k : ℕ). y .n + k) length-G in
+          rw (settles-append (y .front) (W ∷ []) (st .settled)) (subst (WholeCard geo N (blockAt (settle W s)) (log ++ G) (overlay G S)) e (done-card geo (y .meets)))
+
+      pub gives : Gives geo sync w plan
+      unfolding entered
+      gives = record {
+        done = withGrouped 0 (withLog (y .n + st .rec .grouped) (sumOf (y .sum) G) (st .rec));
+        gone = cond (leb (length (innerOrders geo st)) (st .rec .power)) (withLog (y .n) (y .sum) (st .rec)) (st .rec);
+        call = call ∙ ap₂ saving (y .orders some-G) (y .record-is);
+        none-waits = none;
+        fits = all-append (Fits geo N) (y .front) (W ∷ []) (y .fits) (writes-fit geo (y .meets), tt);
+        counts = gone-counts (leb (length (innerOrders geo st)) (st .rec .power));
+        headers = syncHeaders geo st;
+        notes = refl;
+        short = ofSync;
+        waits = syncWaits geo (st .rec .logged) (length G);
+        S = overlay G S;
+        plain-done = λ p.
+            plain ∙ sync-finished geo d some-G (omega (arith, takes-is))
+            ∙ ap₂ (λ (k c : ℕ). record { answer = 0; orders = k; plain = openPlain geo st (withGrouped 0 (withLog c (sumOf (y .sum) G) (st .rec))) (overlay G S) (st .rec .power - k) })
+            takes-is (ap₂ (λ (a b : ℕ). a + b) (y .n-is) length-G);
+        plain-short = λ p. plain ∙ sync-short geo d some-G (omega (arith, takes-is));
+        cuts = cuts;
+        list = log ++ G;
+        noted-all = note-done;
+        mode = f .sim .mode;
+        blocks = refl;
+        opened = open-listed geo st rc (f .sim .mode);
+        grouped = none-listed geo _ _ _;
+        sum = sum-is;
+        card = card-is;
+        no-get = sync-no-get;
+      }
+
+      -- ---- what it leaves done
+
+      own-logged : syncCall geo st .answer ≡ 0 → Logged geo st (syncCall geo st .state)
+      own-logged e =
+          let q = done-logged geo (y .meets) (standing geo st) (y .standing-is) in
+          let t : syncCall geo st .state .settled ≡ settle W s = gives-settled geo sync w plan (f .basics) gives (gives-enough geo sync w plan (f .basics) gives e) ∙ settles-append (y .front) (W ∷ []) (st .settled) in
+          record { head = ap (λ (i : List ℕ). blockAt i headerAt) t ∙ q .0; list = ap (λ (i : List ℕ). entries geo i (length (standing geo st ++ G))) t ∙ q .1 }
+
+      -- ---- cut short behind its own header, with every write kept: the log found is the log written
+
+      abbrev Whole : Asked
+      Whole t q k =
+          k ≡ takes (y .front) + (length G + 2) → (r : Card) → Left (cardIn st) r t q 0 → (ms : List ℕ) → length ms ≡ length G + 2 → All (λ i. i ≡ 1) ms
+          → sameLog (foundIn geo (cut ms r .settled)) (log ++ G) ≡ true
+
+      wholes : Throughout Whole plan (st .settled) 0
+      wholes =
+          throughout-append Whole (y .front) (W ∷ []) (st .settled) 0 (takes (y .front)) (omega arith)
+          (throughout-all Whole (y .front) (st .settled) 0 (λ t q k h e. absurd (omega arith)))
+          (λ j k h e u r l ms. whole-found geo (y .meets) (cardIn st) r j l (omega arith) ms, tt)
+
+      own-whole : syncCall geo st .answer ≡ 4 → syncCall geo st .orders ≡ inner geo st + (st .rec .grouped + 2) → (ms : List ℕ) → length ms ≡ st .rec .grouped + 2 → allKept ms ≡ true
+          → sameLog (foundIn geo (cutSettled ms (syncCall geo st .state))) (cutWritten ms (ledgerNext geo sync w)) ≡ true
+      unfolding entered resolved
+      own-whole a q ms l o =
+          let less = gives-less geo sync w plan (f .basics) gives a in
+          let D = short-call geo sync w plan (f .basics) gives less in
+          let end = stopped geo sync w plan (f .basics) gives Whole (st .rec .power) refl less wholes in
+          let k : st .rec .power ≡ takes (y .front) + (length G + 2) = sym (ap (λ (i : Outcome). i .orders) D) ∙ q ∙ (omega (arith, y .inner-is, length-G)) in
+          let L : ledgerNext geo sync w ≡ record { written = y .list; pending = waits (length G + 1) (log ++ G) } =
+          ap (λ (i : Outcome). noted (syncHeaders geo st) (i .orders) (settledLedger v)) D ∙ note-top (st .rec .power) k in
+          let ones = ones-at ms o in
+          let long : length ms ≡ length G + 2 = l ∙ ap (λ (i : ℕ). i + 2) (sym length-G) in
+          ap₂ (λ (i : Outcome) (j : Ledger). sameLog (foundIn geo (cutSettled ms (i .state))) (cutWritten ms j)) D L
+          ∙ ap (λ (t : Bool). sameLog (foundIn geo (cut ms (run (planned plan) (cardIn st)) .settled)) (cond t (log ++ G) (y .list))) (one-at ms (length G + 1) (omega arith) ones)
+          ∙ end .met k (run (planned plan) (cardIn st)) (end .left) ms long ones
+
+    sync-open : StepOK geo sync w
+    sync-open = go (ℕ-discrete (st .rec .grouped) 0)
       where
-        go : (j k : ℕ) → j ≤ length W → k ≡ takes (y .front) + j → Dec (j ≤ length G + 1) → CutsAt w (syncHeaders st) ofSync (syncWaits (st .rec .logged) (length G)) s (take j W) k
-        go j k h e (yes p) = cuts-before j k p e
-        go j k h e (no p) = cuts-top j k (omega (arith, length-W)) e
+        go : Dec (st .rec .grouped ≡ 0) → StepOK geo sync w
+        go (yes z) = empty z
+        go (no z) = gives-step geo sync w _ (f .basics) (gives z (met geo st v S x f z))
 
-    -- ---- the call
+  pub sync-step : (w : World) → WorldSim geo w → StepOK geo sync w
+  sync-step = open-step geo sync refl sync-open
 
-    gone-counts : (t : Bool) → Countable N (cond t (withLog (y .n) (y .sum) (st .rec)) (st .rec))
-    gone-counts true = countable st rc (y .n) (y .sum) (omega (arith, y .meets .room))
-    gone-counts false = countable st rc (st .rec .logged) (st .rec .sum) (rc .log-count)
+  -- ---- of any open world
 
-    sum-is : sumOf (y .sum) G ≡ sumOf start (logD (blockAt (settles plan (st .settled))) (y .n + st .rec .grouped))
-    sum-is = done-sum (y .meets) ∙ (λ i. sumOf start (logD (blockAt (sym (settles-append (y .front) (W ∷ []) (st .settled)) i)) (y .n + length-G i)))
+  module _ (w : World) (m : WorldSim geo w) (h : refusal geo sync (w .plain) ≡ 0) (o : OpenSim geo (w .store) (w .ledger) (w .plain)) (z : w .store .rec .grouped ≢ 0) where
+    f : Opened geo (w .store) (w .ledger .written) (w .plain .S)
+    f = opened geo w (m .basics) o
 
-    card-is : WholeCard N (blockAt (settles plan (st .settled))) (log ++ G) (overlay G S) (y .n + st .rec .grouped)
-    card-is =
-        let e : y .n + length G ≡ y .n + st .rec .grouped = ap (λ (k : ℕ). y .n + k) length-G in
-        rw (settles-append (y .front) (W ∷ []) (st .settled)) (subst (WholeCard N (blockAt (settle W s)) (log ++ G) (overlay G S)) e (done-card (y .meets)))
+    meets : Met geo (w .store) (w .ledger .written) (w .plain .S) (w .excepted)
+    meets = met geo (w .store) (w .ledger .written) (w .plain .S) (w .excepted) f z
 
-    pub gives : Gives sync w plan
-    unfolding entered
-    gives = record {
-      done = withGrouped 0 (withLog (y .n + st .rec .grouped) (sumOf (y .sum) G) (st .rec));
-      gone = cond (leb (length (innerOrders st)) (st .rec .power)) (withLog (y .n) (y .sum) (st .rec)) (st .rec);
-      call = call ∙ ap₂ saving (y .orders some-G) (y .record-is);
-      none-waits = none;
-      fits = all-append (Fits N) (y .front) (W ∷ []) (y .fits) (writes-fit (y .meets), tt);
-      counts = gone-counts (leb (length (innerOrders st)) (st .rec .power));
-      headers = syncHeaders st;
-      notes = refl;
-      short = ofSync;
-      waits = syncWaits (st .rec .logged) (length G);
-      S = overlay G S;
-      plain-done = λ p.
-          plain ∙ sync-finished d some-G (omega (arith, takes-is))
-          ∙ ap₂ (λ (k c : ℕ). record { answer = 0; orders = k; plain = openPlain st (withGrouped 0 (withLog c (sumOf (y .sum) G) (st .rec))) (overlay G S) (st .rec .power - k) })
-          takes-is (ap₂ (λ (a b : ℕ). a + b) (y .n-is) length-G);
-      plain-short = λ p. plain ∙ sync-short d some-G (omega (arith, takes-is));
-      cuts = cuts;
-      list = log ++ G;
-      noted-all = note-done;
-      mode = f .sim .mode;
-      blocks = refl;
-      opened = open-listed st rc (f .sim .mode);
-      grouped = none-listed _ _ _;
-      sum = sum-is;
-      card = card-is;
-      no-get = sync-no-get;
-    }
+    pub logged : syncCall geo (w .store) .answer ≡ 0 → Logged geo (w .store) (syncCall geo (w .store) .state)
+    logged = own-logged (w .store) (w .ledger .written) (w .plain .S) (w .excepted) f z meets
 
-    -- ---- what it leaves done
-
-    own-logged : syncCall st .answer ≡ 0 → Logged st (syncCall st .state)
-    own-logged e =
-        let q = done-logged (y .meets) (standing st) (y .standing-is) in
-        let t : syncCall st .state .settled ≡ settle W s = gives-settled sync w plan (f .basics) gives (gives-enough sync w plan (f .basics) gives e) ∙ settles-append (y .front) (W ∷ []) (st .settled) in
-        record { head = ap (λ (i : List ℕ). blockAt i headerAt) t ∙ q .0; list = ap (λ (i : List ℕ). entries i (length (standing st ++ G))) t ∙ q .1 }
-
-    -- ---- cut short behind its own header, with every write kept: the log found is the log written
-
-    abbrev Whole : Asked
-    Whole t q k =
-        k ≡ takes (y .front) + (length G + 2) → (r : Card) → Left (cardIn st) r t q 0 → (ms : List ℕ) → length ms ≡ length G + 2 → All (λ i. i ≡ 1) ms
-        → sameLog (foundIn (cut ms r .settled)) (log ++ G) ≡ true
-
-    wholes : Throughout Whole plan (st .settled) 0
-    wholes =
-        throughout-append Whole (y .front) (W ∷ []) (st .settled) 0 (takes (y .front)) (omega arith)
-        (throughout-all Whole (y .front) (st .settled) 0 (λ t q k h e. absurd (omega arith)))
-        (λ j k h e u r l ms. whole-found (y .meets) (cardIn st) r j l (omega arith) ms, tt)
-
-    own-whole : syncCall st .answer ≡ 4 → syncCall st .orders ≡ inner st + (st .rec .grouped + 2) → (ms : List ℕ) → length ms ≡ st .rec .grouped + 2 → allKept ms ≡ true
-        → sameLog (foundIn (cutSettled ms (syncCall st .state))) (cutWritten ms (ledgerNext sync w)) ≡ true
-    unfolding entered resolved
-    own-whole a q ms l o =
-        let less = gives-less sync w plan (f .basics) gives a in
-        let D = short-call sync w plan (f .basics) gives less in
-        let end = stopped sync w plan (f .basics) gives Whole (st .rec .power) refl less wholes in
-        let k : st .rec .power ≡ takes (y .front) + (length G + 2) = sym (ap (λ (i : Outcome). i .orders) D) ∙ q ∙ (omega (arith, y .inner-is, length-G)) in
-        let L : ledgerNext sync w ≡ record { written = y .list; pending = waits (length G + 1) (log ++ G) } =
-        ap (λ (i : Outcome). noted (syncHeaders st) (i .orders) (settledLedger v)) D ∙ note-top (st .rec .power) k in
-        let ones = ones-at ms o in
-        let long : length ms ≡ length G + 2 = l ∙ ap (λ (i : ℕ). i + 2) (sym length-G) in
-        ap₂ (λ (i : Outcome) (j : Ledger). sameLog (foundIn (cutSettled ms (i .state))) (cutWritten ms j)) D L
-        ∙ ap (λ (t : Bool). sameLog (foundIn (cut ms (run (planned plan) (cardIn st)) .settled)) (cond t (log ++ G) (y .list))) (one-at ms (length G + 1) (omega arith) ones)
-        ∙ end .met k (run (planned plan) (cardIn st)) (end .left) ms long ones
-
-  sync-open : StepOK sync w
-  sync-open = go (ℕ-discrete (st .rec .grouped) 0)
-    where
-      go : Dec (st .rec .grouped ≡ 0) → StepOK sync w
-      go (yes z) = empty z
-      go (no z) = gives-step sync w _ (f .basics) (gives z (met st v S x f z))
-
-pub sync-step : (w : World) → WorldSim w → StepOK sync w
-sync-step = open-step sync refl sync-open
-
--- ---- of any open world
-
-module _ (w : World) (m : WorldSim w) (h : refusal sync (w .plain) ≡ 0) (o : OpenSim (w .store) (w .ledger) (w .plain)) (z : w .store .rec .grouped ≢ 0) where
-  f : Opened (w .store) (w .ledger .written) (w .plain .S)
-  f = opened w (m .basics) o
-
-  meets : Met (w .store) (w .ledger .written) (w .plain .S) (w .excepted)
-  meets = met (w .store) (w .ledger .written) (w .plain .S) (w .excepted) f z
-
-  pub logged : syncCall (w .store) .answer ≡ 0 → Logged (w .store) (syncCall (w .store) .state)
-  logged = own-logged (w .store) (w .ledger .written) (w .plain .S) (w .excepted) f z meets
-
-  pub short-whole : syncCall (w .store) .answer ≡ 4 → syncCall (w .store) .orders ≡ inner (w .store) + (w .store .rec .grouped + 2)
-      → (ms : List ℕ) → length ms ≡ w .store .rec .grouped + 2 → allKept ms ≡ true
-      → sameLog (foundIn (cutSettled ms (syncCall (w .store) .state))) (cutWritten ms (ledgerNext sync w)) ≡ true
-  short-whole a q ms l ones =
-      subst (λ (i : World). sameLog (foundIn (cutSettled ms (syncCall (i .store) .state))) (cutWritten ms (ledgerNext sync i)) ≡ true) (sym (open-world w (m .basics) o))
-      (own-whole (w .store) (w .ledger .written) (w .plain .S) (w .excepted) f z meets a q ms l ones)
+    pub short-whole : syncCall geo (w .store) .answer ≡ 4 → syncCall geo (w .store) .orders ≡ inner geo (w .store) + (w .store .rec .grouped + 2)
+        → (ms : List ℕ) → length ms ≡ w .store .rec .grouped + 2 → allKept ms ≡ true
+        → sameLog (foundIn geo (cutSettled ms (syncCall geo (w .store) .state))) (cutWritten ms (ledgerNext geo sync w)) ≡ true
+    short-whole a q ms l ones =
+        subst (λ (i : World). sameLog (foundIn geo (cutSettled ms (syncCall geo (i .store) .state))) (cutWritten ms (ledgerNext geo sync i)) ≡ true) (sym (open-world geo w (m .basics) o))
+        (own-whole (w .store) (w .ledger .written) (w .plain .S) (w .excepted) f z meets a q ms l ones)

@@ -10,6 +10,7 @@ use lib.Dec.{eqb}
 use Rattle.store.specs.Request as Request
 use Rattle.store.specs.State.{State, Outcome}
 use Rattle.store.specs.Causes.{cause}
+use Rattle.journal.specs.Geometry.{Geometry}
 use Rattle.history.specs.Call.{Call, requestOf, recover, sync}
 use Rattle.history.specs.Plain.{Done, refusal, served}
 use Rattle.history.specs.Dispatch.{dispatch}
@@ -35,111 +36,112 @@ use Rattle.history.proofs.ScriptsProof as ScriptsProof
 
 -- ---- Safety
 
-module _ (st : State) (l : Ledger) (s : Safe st l) where
-  world : World
-  world = record { store = st; ledger = s .ledger; plain = s .plain; excepted = false }
+module _ (geo : Geometry) where
+  module _ (st : State) (l : Ledger) (s : Safe geo st l) where
+    world : World
+    world = record { store = st; ledger = s .ledger; plain = s .plain; excepted = false }
 
-  -- the answer is the cause, or 0 or 4
-  answers : (c : Call) → ((cause (requestOf c) st ≢ 0) × (dispatch c st .answer ≡ cause (requestOf c) st)) ⊎ Either (dispatch c st .answer)
-  unfolding world
-  answers c = go (ℕ-discrete (cause (requestOf c) st) 0)
+    -- the answer is the cause, or 0 or 4
+    answers : (c : Call) → ((cause geo (requestOf c) st ≢ 0) × (dispatch geo c st .answer ≡ cause geo (requestOf c) st)) ⊎ Either (dispatch geo c st .answer)
+    unfolding world
+    answers c = go (ℕ-discrete (cause geo (requestOf c) st) 0)
+      where
+        go : Dec (cause geo (requestOf c) st ≡ 0) → ((cause geo (requestOf c) st ≢ 0) × (dispatch geo c st .answer ≡ cause geo (requestOf c) st)) ⊎ Either (dispatch geo c st .answer)
+        go (no h) = _⊎_.inl (h, ap (λ (o : Outcome). o .answer) (dispatch-refused geo c st h))
+        go (yes h) =
+            let k : refusal geo c (s .plain) ≡ 0 = sym (same-cause geo st (s .ledger) (s .plain) (s .sim) c) ∙ h in
+            let e : dispatch geo c st .answer ≡ served geo c (foundWritten geo c world) (s .plain) .answer =
+            step geo c world (s .sim) .agrees .answer ∙ ap (λ (o : Done). o .answer) (plain-served geo c (foundWritten geo c world) (s .plain) k) in
+            _⊎_.inr (either e (served-answer geo c (foundWritten geo c world) (s .plain)))
+          where
+            either : {a b : ℕ} → a ≡ b → Either b → Either a
+            either e (_⊎_.inl q) = _⊎_.inl (e ∙ q)
+            either e (_⊎_.inr q) = _⊎_.inr (e ∙ q)
+
+    -- a number that is neither is the cause
+    by-cause : (c : Call) (k : ℕ) → k ≢ 0 → k ≢ 4 → dispatch geo c st .answer ≡ k → cause geo (requestOf c) st ≡ k
+    by-cause c k a b h = go (answers c)
+      where
+        go : ((cause geo (requestOf c) st ≢ 0) × (dispatch geo c st .answer ≡ cause geo (requestOf c) st)) ⊎ Either (dispatch geo c st .answer) → cause geo (requestOf c) st ≡ k
+        go (_⊎_.inl q) = sym (q .1) ∙ h
+        go (_⊎_.inr (_⊎_.inl q)) = absurd (a (sym h ∙ q))
+        go (_⊎_.inr (_⊎_.inr q)) = absurd (b (sym h ∙ q))
+
+    recover-refusals : (k : ℕ) → k ≢ 0 → k ≢ 4 → k ≢ 5 → refusal geo recover (s .plain) ≢ k
+    unfolding refusal
+    recover-refusals k a b c = go (eqb (s .plain .mode) 2) (eqb (s .plain .mode) 1)
+      where
+        go : (x y : Bool) → cond x 4 (cond y 5 0) ≢ k
+        go true y e = b (sym e)
+        go false true e = c (sym e)
+        go false false e = a (sym e)
+
+    pub sound : Sound geo st
+    sound = record {
+      sizes = s .sim .basics .sizes;
+      counts = s .sim .basics .counts;
+      own = λ c h. cause-one geo (requestOf c) st (s .sim .basics .sizes) (by-cause c 1 (λ e. omega arith) (λ e. omega arith) h);
+      never-two = λ c h. cause-two geo (requestOf c) st (s .sim .basics .counts) (by-cause c 2 (λ e. omega arith) (λ e. omega arith) h);
+      never-eight = λ h.
+          recover-refusals 8 (λ e. omega arith) (λ e. omega arith) (λ e. omega arith)
+          (sym (same-cause geo st (s .ledger) (s .plain) (s .sim) recover) ∙ by-cause recover 8 (λ e. omega arith) (λ e. omega arith) h);
+      never-nine = λ h.
+          recover-refusals 9 (λ e. omega arith) (λ e. omega arith) (λ e. omega arith)
+          (sym (same-cause geo st (s .ledger) (s .plain) (s .sim) recover) ∙ by-cause recover 9 (λ e. omega arith) (λ e. omega arith) h);
+    }
+
+  pub safety : Safety geo
+  safety st h cs = sound (after geo cs (begun geo st) .store) (after geo cs (begun geo st) .ledger) (after-safe geo cs (begun geo st) (begun-safe geo st h))
+
+  -- ---- Refinement
+
+  pub refinement : Refinement geo
+  refinement st h cs c e = step geo c (after geo cs (begun geo st)) (after-sim geo cs (begun geo st) (begun-sim geo st h) e) .agrees
+
+  -- ---- Log read back
+
+  pub read-back : ReadBack geo
+  read-back = ReadsBack.read-back geo
+
+  pub written-summed : WrittenSummed geo
+  written-summed = ReadsBack.written-summed geo
+
+  sync-logged : (st : State) (l : Ledger) → Safe geo st l → st .rec .grouped ≢ 0 → dispatch geo sync st .answer ≡ 0 → Logged geo st (dispatch geo sync st .state)
+  sync-logged st l s z h = go (ℕ-discrete (cause geo Request.sync st) 0)
     where
-      go : Dec (cause (requestOf c) st ≡ 0) → ((cause (requestOf c) st ≢ 0) × (dispatch c st .answer ≡ cause (requestOf c) st)) ⊎ Either (dispatch c st .answer)
-      go (no h) = _⊎_.inl (h, ap (λ (o : Outcome). o .answer) (dispatch-refused c st h))
-      go (yes h) =
-          let k : refusal c (s .plain) ≡ 0 = sym (same-cause st (s .ledger) (s .plain) (s .sim) c) ∙ h in
-          let e : dispatch c st .answer ≡ served c (foundWritten c world) (s .plain) .answer =
-          step c world (s .sim) .agrees .answer ∙ ap (λ (o : Done). o .answer) (plain-served c (foundWritten c world) (s .plain) k) in
-          _⊎_.inr (either e (served-answer c (foundWritten c world) (s .plain)))
-        where
-          either : {a b : ℕ} → a ≡ b → Either b → Either a
-          either e (_⊎_.inl q) = _⊎_.inl (e ∙ q)
-          either e (_⊎_.inr q) = _⊎_.inr (e ∙ q)
+      w : World
+      w = record { store = st; ledger = s .ledger; plain = s .plain; excepted = false }
 
-  -- a number that is neither is the cause
-  by-cause : (c : Call) (k : ℕ) → k ≢ 0 → k ≢ 4 → dispatch c st .answer ≡ k → cause (requestOf c) st ≡ k
-  by-cause c k a b h = go (answers c)
-    where
-      go : ((cause (requestOf c) st ≢ 0) × (dispatch c st .answer ≡ cause (requestOf c) st)) ⊎ Either (dispatch c st .answer) → cause (requestOf c) st ≡ k
-      go (_⊎_.inl q) = sym (q .1) ∙ h
-      go (_⊎_.inr (_⊎_.inl q)) = absurd (a (sym h ∙ q))
-      go (_⊎_.inr (_⊎_.inr q)) = absurd (b (sym h ∙ q))
+      go : Dec (cause geo Request.sync st ≡ 0) → Logged geo st (dispatch geo sync st .state)
+      go (no k) = absurd (k (sym (ap (λ (o : Outcome). o .answer) (dispatch-refused geo sync st k)) ∙ h))
+      go (yes k) =
+          logged geo w (s .sim) (sym (same-cause geo st (s .ledger) (s .plain) (s .sim) sync) ∙ k)
+          (is-open geo st (s .ledger) (s .plain) (s .sim) Request.sync refl (cause-passes geo Request.sync st k)) z h
 
-  recover-refusals : (k : ℕ) → k ≢ 0 → k ≢ 4 → k ≢ 5 → refusal recover (s .plain) ≢ k
-  unfolding refusal
-  recover-refusals k a b c = go (eqb (s .plain .mode) 2) (eqb (s .plain .mode) 1)
-    where
-      go : (x y : Bool) → cond x 4 (cond y 5 0) ≢ k
-      go true y e = b (sym e)
-      go false true e = c (sym e)
-      go false false e = a (sym e)
+  pub written : Written geo
+  written st f cs z h = sync-logged (after geo cs (begun geo st) .store) (after geo cs (begun geo st) .ledger) (after-safe geo cs (begun geo st) (begun-safe geo st f)) z h
 
-  pub sound : Sound st
-  sound = record {
-    sizes = s .sim .basics .sizes;
-    counts = s .sim .basics .counts;
-    own = λ c h. cause-one (requestOf c) st (s .sim .basics .sizes) (by-cause c 1 (λ e. omega arith) (λ e. omega arith) h);
-    never-two = λ c h. cause-two (requestOf c) st (s .sim .basics .counts) (by-cause c 2 (λ e. omega arith) (λ e. omega arith) h);
-    never-eight = λ h.
-        recover-refusals 8 (λ e. omega arith) (λ e. omega arith) (λ e. omega arith)
-        (sym (same-cause st (s .ledger) (s .plain) (s .sim) recover) ∙ by-cause recover 8 (λ e. omega arith) (λ e. omega arith) h);
-    never-nine = λ h.
-        recover-refusals 9 (λ e. omega arith) (λ e. omega arith) (λ e. omega arith)
-        (sym (same-cause st (s .ledger) (s .plain) (s .sim) recover) ∙ by-cause recover 9 (λ e. omega arith) (λ e. omega arith) h);
+  -- ---- Crash atomicity
+
+  pub crash-atomicity : CrashAtomicity geo
+  crash-atomicity = Atomicity.crash-atomicity geo
+
+  -- ---- Refusals
+
+  pub refusals : Refusals geo
+  refusals = record {
+    calls = RefusalsProof.calls geo;
+    parts = FaceRefusals.parts geo;
+    lines = ScriptsProof.by-call;
+    reads = FaceRefusals.reads geo;
+    faces = FaceRefusals.faces geo (RefusalsProof.calls geo);
+    gets = FaceRefusals.gets geo;
   }
 
-pub safety : Safety
-safety st h cs = sound (after cs (begun st) .store) (after cs (begun st) .ledger) (after-safe cs (begun st) (begun-safe st h))
+  -- ---- Through C
 
--- ---- Refinement
-
-pub refinement : Refinement
-refinement st h cs c e = step c (after cs (begun st)) (after-sim cs (begun st) (begun-sim st h) e) .agrees
-
--- ---- Log read back
-
-pub read-back : ReadBack
-read-back = ReadsBack.read-back
-
-pub written-summed : WrittenSummed
-written-summed = ReadsBack.written-summed
-
-sync-logged : (st : State) (l : Ledger) → Safe st l → st .rec .grouped ≢ 0 → dispatch sync st .answer ≡ 0 → Logged st (dispatch sync st .state)
-sync-logged st l s z h = go (ℕ-discrete (cause Request.sync st) 0)
-  where
-    w : World
-    w = record { store = st; ledger = s .ledger; plain = s .plain; excepted = false }
-
-    go : Dec (cause Request.sync st ≡ 0) → Logged st (dispatch sync st .state)
-    go (no k) = absurd (k (sym (ap (λ (o : Outcome). o .answer) (dispatch-refused sync st k)) ∙ h))
-    go (yes k) =
-        logged w (s .sim) (sym (same-cause st (s .ledger) (s .plain) (s .sim) sync) ∙ k)
-        (is-open st (s .ledger) (s .plain) (s .sim) Request.sync refl (cause-passes Request.sync st k)) z h
-
-pub written : Written
-written st f cs z h = sync-logged (after cs (begun st) .store) (after cs (begun st) .ledger) (after-safe cs (begun st) (begun-safe st f)) z h
-
--- ---- Crash atomicity
-
-pub crash-atomicity : CrashAtomicity
-crash-atomicity = Atomicity.crash-atomicity
-
--- ---- Refusals
-
-pub refusals : Refusals
-refusals = record {
-  calls = RefusalsProof.calls;
-  parts = FaceRefusals.parts;
-  lines = ScriptsProof.by-call;
-  reads = FaceRefusals.reads;
-  faces = FaceRefusals.faces RefusalsProof.calls;
-  gets = FaceRefusals.gets;
-}
-
--- ---- Through C
-
-pub linked : Linked
-linked = Links.linked
+  pub linked : Linked geo
+  linked = Links.linked geo
 
 -- ---- Through the script
 

@@ -19,9 +19,10 @@ use Rattle.card.specs.Disk.{Disk, overlay}
 use Rattle.card.specs.Card.{blockAt}
 use Rattle.card.proofs.All.{All, all-left, all-right, all-map}
 use Rattle.card.proofs.Runs.{Whole, NarrowAddress}
+use Rattle.journal.specs.Geometry.{Geometry}
 use Rattle.journal.specs.declared.lookup.Found.{Found}
 use Rattle.journal.specs.declared.lookup.Found.the-variants.{At, Absent}
-use Rattle.journal.specs.Layout.{slots, slotAt, mostBlocks}
+use Rattle.journal.specs.Layout.{slotAt, mostBlocks}
 use Rattle.journal.specs.Log.{slotEntry, entries}
 use Rattle.journal.specs.Lookup.{lastOf, lastSlot}
 use Rattle.journal.proofs.Lookups.{foundIn, overlay-found}
@@ -38,9 +39,10 @@ use Rattle.history.proofs.Lists.{Data, Distinct, distinct-front, distin
 
 -- ---- an entry set in work memory
 
--- addresses of data blocks fit four bytes
-pub data-short : (N : ℕ) → N ≤ mostBlocks → (l : List Entry) → All (Data N) l → All NarrowAddress l
-data-short N h l p = all-map (Data N) NarrowAddress (λ e d. let q : e .address < N = data-lt N (e .address) d in omega arith) l p
+module _ (geo : Geometry) where
+  -- addresses of data blocks fit four bytes
+  pub data-short : (N : ℕ) → N ≤ mostBlocks → (l : List Entry) → All (Data geo N) l → All NarrowAddress l
+  data-short N h l p = all-map (Data geo N) NarrowAddress (λ e d. let q : e .address < N = data-lt geo N (e .address) d in omega arith) l p
 
 -- the j-th entry, once the i-th is e
 pub listed-set : (work : List ℕ) (from i : ℕ) (e : Entry) → entryBytes * (from + i) + entryBytes ≤ length work → Whole e → NarrowAddress e
@@ -75,148 +77,149 @@ module _ (work : List ℕ) (from n : ℕ) (e : Entry) (whole : Whole e) (short :
 
 -- ---- put
 
--- what a put leaves: e in the open list, all else as it was
-pub record PutOpen (e : Entry) (st now : State) : Type 0 where
-  pub open-list : listOf (now .work) openFrom (now .rec .opened) ≡ insert e (listOf (st .work) openFrom (st .rec .opened))
-  pub group-list : (g : ℕ) → g ≤ slots → listOf (now .work) groupFrom g ≡ listOf (st .work) groupFrom g
-  pub size : length (now .work) ≡ length (st .work)
-  pub few : now .rec .opened ≤ slots
-  pub rest : now ≡ withRecord (withOpened (now .rec .opened) (st .rec)) (withWork (now .work) st)
+module _ (geo : Geometry) where
+  -- what a put leaves: e in the open list, all else as it was
+  pub record PutOpen (e : Entry) (st now : State) : Type 0 where
+    pub open-list : listOf (now .work) openFrom (now .rec .opened) ≡ insert e (listOf (st .work) openFrom (st .rec .opened))
+    pub group-list : (g : ℕ) → g ≤ geo .slots → listOf (now .work) (groupFrom geo) g ≡ listOf (st .work) (groupFrom geo) g
+    pub size : length (now .work) ≡ length (st .work)
+    pub few : now .rec .opened ≤ geo .slots
+    pub rest : now ≡ withRecord (withOpened (now .rec .opened) (st .rec)) (withWork (now .work) st)
 
-pub put-open : (e : Entry) (st : State) → length (st .work) ≡ workBytes → st .rec .opened ≤ slots → Whole e → NarrowAddress e
-    → Distinct (listOf (st .work) openFrom (st .rec .opened))
-    → (find (st .work) openFrom (st .rec .opened) (e .address) ≡ Absent → st .rec .opened < slots)
-    → PutOpen e st (putAt (find (st .work) openFrom (st .rec .opened) (e .address)) e st)
-put-open e st size few whole short d room = go (find (st .work) openFrom (st .rec .opened) (e .address)) refl
-  where
-    go : (f : Found) → find (st .work) openFrom (st .rec .opened) (e .address) ≡ f → PutOpen e st (putAt f e st)
-    go (At i) h =
-        let below : i < st .rec .opened = last-at (λ j. listed (st .work) openFrom j .address) (e .address) (st .rec .opened) i h .0 in
-        record {
-          open-list = rw (zero-add) at (listOf-replaced (st .work) openFrom (st .rec .opened) e whole short i h d (omega arith));
-          group-list = λ g p. listOf-apart (st .work) i e groupFrom g (λ j q c. omega arith);
-          size = length-setEntry (st .work) i e;
-          few = few;
-          rest = refl;
-        }
-    go Absent h =
-        let free : st .rec .opened < slots = room h in
-        record {
-          open-list = rw (zero-add) at (listOf-joined (st .work) openFrom (st .rec .opened) e whole short h (omega arith));
-          group-list = λ g p. listOf-apart (st .work) (st .rec .opened) e groupFrom g (λ j q c. omega arith);
-          size = length-setEntry (st .work) (st .rec .opened) e;
-          few = omega arith;
-          rest = refl;
-        }
+  pub put-open : (e : Entry) (st : State) → length (st .work) ≡ workBytes geo → st .rec .opened ≤ geo .slots → Whole e → NarrowAddress e
+      → Distinct (listOf (st .work) openFrom (st .rec .opened))
+      → (find (st .work) openFrom (st .rec .opened) (e .address) ≡ Absent → st .rec .opened < geo .slots)
+      → PutOpen e st (putAt (find (st .work) openFrom (st .rec .opened) (e .address)) e st)
+  put-open e st size few whole short d room = go (find (st .work) openFrom (st .rec .opened) (e .address)) refl
+    where
+      go : (f : Found) → find (st .work) openFrom (st .rec .opened) (e .address) ≡ f → PutOpen e st (putAt f e st)
+      go (At i) h =
+          let below : i < st .rec .opened = last-at (λ j. listed (st .work) openFrom j .address) (e .address) (st .rec .opened) i h .0 in
+          record {
+            open-list = rw (zero-add) at (listOf-replaced (st .work) openFrom (st .rec .opened) e whole short i h d (omega arith));
+            group-list = λ g p. listOf-apart (st .work) i e (groupFrom geo) g (λ j q c. omega arith);
+            size = length-setEntry (st .work) i e;
+            few = few;
+            rest = refl;
+          }
+      go Absent h =
+          let free : st .rec .opened < geo .slots = room h in
+          record {
+            open-list = rw (zero-add) at (listOf-joined (st .work) openFrom (st .rec .opened) e whole short h (omega arith));
+            group-list = λ g p. listOf-apart (st .work) (st .rec .opened) e (groupFrom geo) g (λ j q c. omega arith);
+            size = length-setEntry (st .work) (st .rec .opened) e;
+            few = omega arith;
+            rest = refl;
+          }
 
--- ---- commit
+  -- ---- commit
 
--- how a list grows: an open entry joins unless the group has its address
-pub newcomers-merge : (work : List ℕ) (g n : ℕ) → Distinct (listOf work openFrom n)
-    → g + newcomers work g n ≡ length (merge (listOf work openFrom n) (listOf work groupFrom g))
-unfolding newcomers merge
-newcomers-merge work g zero d = rw (add-zero) (sym (length-upTo (listed work groupFrom) g))
-newcomers-merge work g (suc n) d =
-    sym (add-assoc g (newcomers work g n) (cond (isFound (find work groupFrom g a)) 0 1))
-    ∙ ap₂ (λ (k : ℕ) (t : Bool). k + cond t 0 1) (newcomers-merge work g n (distinct-front T (e ∷ []) d)) (find-has work groupFrom g a ∙ sym known)
-    ∙ sym (length-insert e (merge T G))
-    ∙ ap length (sym (merge-snoc T e G))
-  where
-    e : Entry
-    e = listed work openFrom n
+  -- how a list grows: an open entry joins unless the group has its address
+  pub newcomers-merge : (work : List ℕ) (g n : ℕ) → Distinct (listOf work openFrom n)
+      → g + newcomers geo work g n ≡ length (merge (listOf work openFrom n) (listOf work (groupFrom geo) g))
+  unfolding newcomers merge
+  newcomers-merge work g zero d = rw (add-zero) (sym (length-upTo (listed work (groupFrom geo)) g))
+  newcomers-merge work g (suc n) d =
+      sym (add-assoc g (newcomers geo work g n) (cond (isFound (find work (groupFrom geo) g a)) 0 1))
+      ∙ ap₂ (λ (k : ℕ) (t : Bool). k + cond t 0 1) (newcomers-merge work g n (distinct-front T (e ∷ []) d)) (find-has work (groupFrom geo) g a ∙ sym known)
+      ∙ sym (length-insert e (merge T G))
+      ∙ ap length (sym (merge-snoc T e G))
+    where
+      e : Entry
+      e = listed work openFrom n
 
-    a : ℕ
-    a = e .address
+      a : ℕ
+      a = e .address
 
-    T : List Entry
-    T = listOf work openFrom n
+      T : List Entry
+      T = listOf work openFrom n
 
-    G : List Entry
-    G = listOf work groupFrom g
+      G : List Entry
+      G = listOf work (groupFrom geo) g
 
-    known : has a (merge T G) ≡ has a G
-    known = has-merge a T G ∙ ap (λ (t : Bool). t || has a G) (distinct-last T e d)
+      known : has a (merge T G) ≡ has a G
+      known = has-merge a T G ∙ ap (λ (t : Bool). t || has a G) (distinct-last T e d)
 
--- e in the group, open as it was
-pub record JoinGroup (e : Entry) (g now : Group) : Type 0 where
-  pub group-list : listOf (now .work) groupFrom (now .count) ≡ insert e (listOf (g .work) groupFrom (g .count))
-  pub open-list : (k : ℕ) → k ≤ slots → listOf (now .work) openFrom k ≡ listOf (g .work) openFrom k
-  pub size : length (now .work) ≡ length (g .work)
+  -- e in the group, open as it was
+  pub record JoinGroup (e : Entry) (g now : Group) : Type 0 where
+    pub group-list : listOf (now .work) (groupFrom geo) (now .count) ≡ insert e (listOf (g .work) (groupFrom geo) (g .count))
+    pub open-list : (k : ℕ) → k ≤ geo .slots → listOf (now .work) openFrom k ≡ listOf (g .work) openFrom k
+    pub size : length (now .work) ≡ length (g .work)
 
-pub join-group : (e : Entry) (g : Group) → length (g .work) ≡ workBytes → g .count ≤ slots → Whole e → NarrowAddress e
-    → Distinct (listOf (g .work) groupFrom (g .count))
-    → (find (g .work) groupFrom (g .count) (e .address) ≡ Absent → g .count < slots)
-    → JoinGroup e g (join e g)
-unfolding join
-join-group e g size few whole short d room = go (find (g .work) groupFrom (g .count) (e .address)) refl
-  where
-    go : (f : Found) → find (g .work) groupFrom (g .count) (e .address) ≡ f → JoinGroup e g (joinAt f e g)
-    go (At i) h = record {
-      group-list = listOf-replaced (g .work) groupFrom (g .count) e whole short i h d (omega arith);
-      open-list = λ k p. listOf-apart (g .work) (groupFrom + i) e openFrom k (λ j q c. omega arith);
-      size = length-setEntry (g .work) (groupFrom + i) e;
-    }
-    go Absent h =
-        let free : g .count < slots = room h in
-        record {
-          group-list = listOf-joined (g .work) groupFrom (g .count) e whole short h (omega arith);
-          open-list = λ k p. listOf-apart (g .work) (groupFrom + g .count) e openFrom k (λ j q c. omega arith);
-          size = length-setEntry (g .work) (groupFrom + g .count) e;
-        }
+  pub join-group : (e : Entry) (g : Group) → length (g .work) ≡ workBytes geo → g .count ≤ geo .slots → Whole e → NarrowAddress e
+      → Distinct (listOf (g .work) (groupFrom geo) (g .count))
+      → (find (g .work) (groupFrom geo) (g .count) (e .address) ≡ Absent → g .count < geo .slots)
+      → JoinGroup e g (join geo e g)
+  unfolding join
+  join-group e g size few whole short d room = go (find (g .work) (groupFrom geo) (g .count) (e .address)) refl
+    where
+      go : (f : Found) → find (g .work) (groupFrom geo) (g .count) (e .address) ≡ f → JoinGroup e g (joinAt geo f e g)
+      go (At i) h = record {
+        group-list = listOf-replaced (g .work) (groupFrom geo) (g .count) e whole short i h d (omega arith);
+        open-list = λ k p. listOf-apart (g .work) (groupFrom geo + i) e openFrom k (λ j q c. omega arith);
+        size = length-setEntry (g .work) (groupFrom geo + i) e;
+      }
+      go Absent h =
+          let free : g .count < geo .slots = room h in
+          record {
+            group-list = listOf-joined (g .work) (groupFrom geo) (g .count) e whole short h (omega arith);
+            open-list = λ k p. listOf-apart (g .work) (groupFrom geo + g .count) e openFrom k (λ j q c. omega arith);
+            size = length-setEntry (g .work) (groupFrom geo + g .count) e;
+          }
 
--- what joining the first n open entries leaves
-pub record Merged (work : List ℕ) (g n : ℕ) (now : Group) : Type 0 where
-  pub group-list : listOf (now .work) groupFrom (now .count) ≡ merge (listOf work openFrom n) (listOf work groupFrom g)
-  pub count : now .count ≡ length (merge (listOf work openFrom n) (listOf work groupFrom g))
-  pub open-list : (k : ℕ) → k ≤ slots → listOf (now .work) openFrom k ≡ listOf work openFrom k
-  pub size : length (now .work) ≡ length work
+  -- what joining the first n open entries leaves
+  pub record Merged (work : List ℕ) (g n : ℕ) (now : Group) : Type 0 where
+    pub group-list : listOf (now .work) (groupFrom geo) (now .count) ≡ merge (listOf work openFrom n) (listOf work (groupFrom geo) g)
+    pub count : now .count ≡ length (merge (listOf work openFrom n) (listOf work (groupFrom geo) g))
+    pub open-list : (k : ℕ) → k ≤ geo .slots → listOf (now .work) openFrom k ≡ listOf work openFrom k
+    pub size : length (now .work) ≡ length work
 
-pub joined-merge : (work : List ℕ) (g n : ℕ) → length work ≡ workBytes → n ≤ slots → Distinct (listOf work groupFrom g)
-    → All NarrowAddress (listOf work openFrom n) → length (merge (listOf work openFrom n) (listOf work groupFrom g)) ≤ slots
-    → Merged work g n (joined n (record { work = work; count = g }))
-unfolding joined merge
-joined-merge work g zero size few d short room =
-    record { group-list = refl; count = sym (length-upTo (listed work groupFrom) g); open-list = λ k p. refl; size = refl }
-joined-merge work g (suc n) size few d short room =
-    let before : length (merge T G) ≤ slots = omega (arith, grown) in
-    step (joined n (record { work = work; count = g })) (joined-merge work g n size (omega arith) d (all-left NarrowAddress T (e ∷ []) short) before)
-  where
-    e : Entry
-    e = listed work openFrom n
+  pub joined-merge : (work : List ℕ) (g n : ℕ) → length work ≡ workBytes geo → n ≤ geo .slots → Distinct (listOf work (groupFrom geo) g)
+      → All NarrowAddress (listOf work openFrom n) → length (merge (listOf work openFrom n) (listOf work (groupFrom geo) g)) ≤ geo .slots
+      → Merged work g n (joined geo n (record { work = work; count = g }))
+  unfolding joined merge
+  joined-merge work g zero size few d short room =
+      record { group-list = refl; count = sym (length-upTo (listed work (groupFrom geo)) g); open-list = λ k p. refl; size = refl }
+  joined-merge work g (suc n) size few d short room =
+      let before : length (merge T G) ≤ geo .slots = omega (arith, grown) in
+      step (joined geo n (record { work = work; count = g })) (joined-merge work g n size (omega arith) d (all-left NarrowAddress T (e ∷ []) short) before)
+    where
+      e : Entry
+      e = listed work openFrom n
 
-    T : List Entry
-    T = listOf work openFrom n
+      T : List Entry
+      T = listOf work openFrom n
 
-    G : List Entry
-    G = listOf work groupFrom g
+      G : List Entry
+      G = listOf work (groupFrom geo) g
 
-    grown : length (merge T G) + cond (has (e .address) (merge T G)) 0 1 ≤ slots
-    grown = rw (merge-snoc T e G, length-insert e (merge T G)) at room
+      grown : length (merge T G) + cond (has (e .address) (merge T G)) 0 1 ≤ geo .slots
+      grown = rw (merge-snoc T e G, length-insert e (merge T G)) at room
 
-    free : (r : Group) → Merged work g n r → find (r .work) groupFrom (r .count) (e .address) ≡ Absent → r .count < slots
-    free r m h =
-        let same = find-has (r .work) groupFrom (r .count) (e .address) ∙ ap (has (e .address)) (m .group-list) in
-        let new : has (e .address) (merge T G) ≡ false = sym same ∙ ap isFound h in
-        let one : length (merge T G) + 1 ≤ slots = rw new at grown in
-        omega arith
+      free : (r : Group) → Merged work g n r → find (r .work) (groupFrom geo) (r .count) (e .address) ≡ Absent → r .count < geo .slots
+      free r m h =
+          let same = find-has (r .work) (groupFrom geo) (r .count) (e .address) ∙ ap (has (e .address)) (m .group-list) in
+          let new : has (e .address) (merge T G) ≡ false = sym same ∙ ap isFound h in
+          let one : length (merge T G) + 1 ≤ geo .slots = rw new at grown in
+          omega arith
 
-    step : (r : Group) → Merged work g n r → Merged work g (suc n) (join e r)
-    step r m =
-        let whole : Whole e = length-block work (openFrom + n) (omega arith) in
-        let d′ : Distinct (listOf (r .work) groupFrom (r .count)) = rw (m .group-list) (distinct-merge T G d) in
-        let j = join-group e r (m .size ∙ size) (omega (arith, grown)) whole (all-right NarrowAddress T (e ∷ []) short .0) d′ (free r m) in
-        let list = j .group-list ∙ ap (insert e) (m .group-list) ∙ sym (merge-snoc T e G) in
-        record {
-          group-list = list;
-          count = sym (length-upTo (listed (join e r .work) groupFrom) (join e r .count)) ∙ ap length list;
-          open-list = λ k p. j .open-list k p ∙ m .open-list k p;
-          size = j .size ∙ m .size;
-        }
+      step : (r : Group) → Merged work g n r → Merged work g (suc n) (join geo e r)
+      step r m =
+          let whole : Whole e = length-block work (openFrom + n) (omega arith) in
+          let d′ : Distinct (listOf (r .work) (groupFrom geo) (r .count)) = rw (m .group-list) (distinct-merge T G d) in
+          let j = join-group e r (m .size ∙ size) (omega (arith, grown)) whole (all-right NarrowAddress T (e ∷ []) short .0) d′ (free r m) in
+          let list = j .group-list ∙ ap (insert e) (m .group-list) ∙ sym (merge-snoc T e G) in
+          record {
+            group-list = list;
+            count = sym (length-upTo (listed (join geo e r .work) (groupFrom geo)) (join geo e r .count)) ∙ ap length list;
+            open-list = λ k p. j .open-list k p ∙ m .open-list k p;
+            size = j .size ∙ m .size;
+          }
 
--- the room that a commit asks for
-pub joined-group : (work : List ℕ) (g n : ℕ) → length work ≡ workBytes → n ≤ slots → Distinct (listOf work openFrom n) → Distinct (listOf work groupFrom g)
-    → All NarrowAddress (listOf work openFrom n) → g + newcomers work g n ≤ slots → Merged work g n (joined n (record { work = work; count = g }))
-joined-group work g n size few t d short room = joined-merge work g n size few d short (rw (newcomers-merge work g n t) at room)
+  -- the room that a commit asks for
+  pub joined-group : (work : List ℕ) (g n : ℕ) → length work ≡ workBytes geo → n ≤ geo .slots → Distinct (listOf work openFrom n) → Distinct (listOf work (groupFrom geo) g)
+      → All NarrowAddress (listOf work openFrom n) → g + newcomers geo work g n ≤ geo .slots → Merged work g n (joined geo n (record { work = work; count = g }))
+  joined-group work g n size few t d short room = joined-merge work g n size few d short (rw (newcomers-merge work g n t) at room)
 
 -- ---- get: the newest of open, group, log, home
 
@@ -226,32 +229,33 @@ overlay-at f d a n i h = overlay-found f n d a ∙ ap (λ (w : Found). foundIn w
 pub overlay-absent : (f : ℕ → Entry) (d : Disk) (a n : ℕ) → lastOf (λ j. f j .address) a n ≡ Absent → overlay (upTo f n) d a ≡ d a
 overlay-absent f d a n h = overlay-found f n d a ∙ ap (λ (w : Found). foundIn w (λ k. f k .block) (d a)) h
 
-pub newest-get : (a : ℕ) (st : State)
-    → bytesAt (newest a st) st
-    ≡ overlay (listOf (st .work) openFrom (st .rec .opened))
-    (overlay (listOf (st .work) groupFrom (st .rec .grouped)) (overlay (entries (st .settled) (st .rec .logged)) (blockAt (st .settled)))) a
-unfolding newest slotEntry
-newest-get a st = in-open (find (st .work) openFrom (st .rec .opened) a) refl
-  where
-    log : Disk
-    log = overlay (entries (st .settled) (st .rec .logged)) (blockAt (st .settled))
+module _ (geo : Geometry) where
+  pub newest-get : (a : ℕ) (st : State)
+      → bytesAt (newest geo a st) st
+      ≡ overlay (listOf (st .work) openFrom (st .rec .opened))
+      (overlay (listOf (st .work) (groupFrom geo) (st .rec .grouped)) (overlay (entries geo (st .settled) (st .rec .logged)) (blockAt (st .settled)))) a
+  unfolding newest slotEntry
+  newest-get a st = in-open (find (st .work) openFrom (st .rec .opened) a) refl
+    where
+      log : Disk
+      log = overlay (entries geo (st .settled) (st .rec .logged)) (blockAt (st .settled))
 
-    group : Disk
-    group = overlay (listOf (st .work) groupFrom (st .rec .grouped)) log
+      group : Disk
+      group = overlay (listOf (st .work) (groupFrom geo) (st .rec .grouped)) log
 
-    in-log : (f : Found) → lastSlot (st .settled) a (st .rec .logged) ≡ f → bytesAt (logPlace a f) st ≡ log a
-    in-log (At i) h = sym (overlay-at (slotEntry (st .settled)) (blockAt (st .settled)) a (st .rec .logged) i h ∙ cell-part blockBytes (st .settled) (slotAt i))
-    in-log Absent h = sym (overlay-absent (slotEntry (st .settled)) (blockAt (st .settled)) a (st .rec .logged) h ∙ cell-part blockBytes (st .settled) a)
+      in-log : (f : Found) → lastSlot (st .settled) a (st .rec .logged) ≡ f → bytesAt (logPlace geo a f) st ≡ log a
+      in-log (At i) h = sym (overlay-at (slotEntry geo (st .settled)) (blockAt (st .settled)) a (st .rec .logged) i h ∙ cell-part blockBytes (st .settled) (slotAt geo i))
+      in-log Absent h = sym (overlay-absent (slotEntry geo (st .settled)) (blockAt (st .settled)) a (st .rec .logged) h ∙ cell-part blockBytes (st .settled) a)
 
-    in-group : (f : Found) → find (st .work) groupFrom (st .rec .grouped) a ≡ f
-        → bytesAt (groupPlace f (logPlace a (lastSlot (st .settled) a (st .rec .logged)))) st ≡ group a
-    in-group (At i) h = sym (overlay-at (listed (st .work) groupFrom) log a (st .rec .grouped) i h ∙ block-part (st .work) (groupFrom + i))
-    in-group Absent h =
-        in-log (lastSlot (st .settled) a (st .rec .logged)) refl ∙ sym (overlay-absent (listed (st .work) groupFrom) log a (st .rec .grouped) h)
+      in-group : (f : Found) → find (st .work) (groupFrom geo) (st .rec .grouped) a ≡ f
+          → bytesAt (groupPlace geo f (logPlace geo a (lastSlot (st .settled) a (st .rec .logged)))) st ≡ group a
+      in-group (At i) h = sym (overlay-at (listed (st .work) (groupFrom geo)) log a (st .rec .grouped) i h ∙ block-part (st .work) (groupFrom geo + i))
+      in-group Absent h =
+          in-log (lastSlot (st .settled) a (st .rec .logged)) refl ∙ sym (overlay-absent (listed (st .work) (groupFrom geo)) log a (st .rec .grouped) h)
 
-    in-open : (f : Found) → find (st .work) openFrom (st .rec .opened) a ≡ f
-        → bytesAt (openPlace f (groupPlace (find (st .work) groupFrom (st .rec .grouped) a) (logPlace a (lastSlot (st .settled) a (st .rec .logged))))) st
-        ≡ overlay (listOf (st .work) openFrom (st .rec .opened)) group a
-    in-open (At i) h = sym (overlay-at (listed (st .work) openFrom) group a (st .rec .opened) i h ∙ block-part (st .work) (openFrom + i))
-    in-open Absent h =
-        in-group (find (st .work) groupFrom (st .rec .grouped) a) refl ∙ sym (overlay-absent (listed (st .work) openFrom) group a (st .rec .opened) h)
+      in-open : (f : Found) → find (st .work) openFrom (st .rec .opened) a ≡ f
+          → bytesAt (openPlace f (groupPlace geo (find (st .work) (groupFrom geo) (st .rec .grouped) a) (logPlace geo a (lastSlot (st .settled) a (st .rec .logged))))) st
+          ≡ overlay (listOf (st .work) openFrom (st .rec .opened)) group a
+      in-open (At i) h = sym (overlay-at (listed (st .work) openFrom) group a (st .rec .opened) i h ∙ block-part (st .work) (openFrom + i))
+      in-open Absent h =
+          in-group (find (st .work) (groupFrom geo) (st .rec .grouped) a) refl ∙ sym (overlay-absent (listed (st .work) openFrom) group a (st .rec .opened) h)

@@ -15,6 +15,7 @@ use Rattle.card.specs.Disk.{Disk, lay, overlay}
 use Rattle.card.specs.Card.{Card, kept, cut, settle, blockAt}
 use Rattle.card.proofs.All.{all-take}
 use Rattle.card.proofs.Runs.{Whole}
+use Rattle.journal.specs.Geometry.{trap}
 use Rattle.journal.specs.Layout.{descriptorAt}
 use Rattle.journal.specs.Orders.{addressBytes, describe}
 use Rattle.journal.proofs.Descriptors.{length-addressBytes}
@@ -24,6 +25,7 @@ use Rattle.crash.proofs.Batches.{Left}
 use Rattle.crash.proofs.Leads.{foundIn, found-log}
 use Rattle.crash.proofs.Logs.{slotE}
 use Rattle.history.proofs.AppendEnds.{Appends, wide, writes-whole}
+
 
 -- "a sync writes the slots from its new count on […] as zero"
 describe-beyond : (old : List ℕ) (n : ℕ) (es : List Entry) (i : ℕ) → 4 * n ≤ length old → n + length es ≤ i → 4 * i + 4 ≤ blockBytes
@@ -47,27 +49,27 @@ no-number : num (replicate 4 0) ≡ 0
 no-number = rw (num-cons, num-cons, num-cons, num-cons, num-nil)
 
 -- after a first append of one entry the descriptor has 0 in its second place
-pub second-zero : {N : ℕ} {s : List ℕ} {h : ℕ} {e : Entry} {v : List Entry} {S : Disk} → Appends N s 0 h (e ∷ []) v S
-    → num (cell 4 (blockAt (settle (appendWrites N s 0 h (e ∷ [])) s) descriptorAt) 1) ≡ 0
+pub second-zero : {N : ℕ} {s : List ℕ} {h : ℕ} {e : Entry} {v : List Entry} {S : Disk} → Appends trap N s 0 h (e ∷ []) v S
+    → num (cell 4 (blockAt (settle (appendWrites trap N s 0 h (e ∷ [])) s) descriptorAt) 1) ≡ 0
 unfolding overlay lay slotBlocks
 second-zero {N} {s} {h} {e} x =
-    let now : blockAt (settle (appendWrites N s 0 h (e ∷ [])) s) descriptorAt ≡ describe (blockAt s descriptorAt) 0 (e ∷ []) =
-    settled-laid (appendWrites N s 0 h (e ∷ [])) s (settle (appendWrites N s 0 h (e ∷ [])) s) descriptorAt refl (omega (arith, x .big, x .size)) (writes-whole x) in
+    let now : blockAt (settle (appendWrites trap N s 0 h (e ∷ [])) s) descriptorAt ≡ describe (blockAt s descriptorAt) 0 (e ∷ []) =
+    settled-laid (appendWrites trap N s 0 h (e ∷ [])) s (settle (appendWrites trap N s 0 h (e ∷ [])) s) descriptorAt refl (omega (arith, x .big, x .size)) (writes-whole trap x) in
     ap (λ (b : List ℕ). num (cell 4 b 1)) now
     ∙ ap num (describe-beyond (blockAt s descriptorAt) 0 (e ∷ []) 1 (omega arith) (omega arith) (omega arith))
     ∙ no-number
 
 -- a second one, whose descriptor alone is lost: the new block is found under the address that stood there
-pub torn-found : {N : ℕ} {s : List ℕ} {h : ℕ} {e : Entry} {v : List Entry} {S : Disk} → Appends N s 1 h (e ∷ []) v S
-    → (c r : Card) → Left c r s (take 3 (appendWrites N s 1 h (e ∷ []))) 0
-    → foundIn (cut (1 ∷ 0 ∷ 1 ∷ []) r .settled) ≡ slotE (blockAt s) 0 ∷ record { address = num (cell 4 (blockAt s descriptorAt) 1); block = e .block } ∷ []
+pub torn-found : {N : ℕ} {s : List ℕ} {h : ℕ} {e : Entry} {v : List Entry} {S : Disk} → Appends trap N s 1 h (e ∷ []) v S
+    → (c r : Card) → Left c r s (take 3 (appendWrites trap N s 1 h (e ∷ []))) 0
+    → foundIn trap (cut (1 ∷ 0 ∷ 1 ∷ []) r .settled) ≡ slotE trap (blockAt s) 0 ∷ record { address = num (cell 4 (blockAt s descriptorAt) 1); block = e .block } ∷ []
 unfolding overlay lay slotBlocks kept slotE
 torn-found {N} {s} {h} {e} {v} {S} x c r f =
     let ms : List ℕ = 1 ∷ 0 ∷ 1 ∷ [] in
-    let laid : (a : ℕ) → a < N → blockAt (cut ms r .settled) a ≡ overlay (kept ms (appendWrites N s 1 h (e ∷ []))) (blockAt s) a =
-    λ a l. cut-laid c r s (take 3 (appendWrites N s 1 h (e ∷ []))) 0 ms a f (omega (arith, x .size)) (all-take Whole 3 (appendWrites N s 1 h (e ∷ [])) (writes-whole x)) in
-    found-log N s 1 h (e ∷ []) v S (x .big) (x .small) (x .size) (x .room) (x .sum) (x .card) (cut ms r .settled) (kept ms (appendWrites N s 1 h (e ∷ []))) laid
-    (header-kept N s 1 h (e ∷ []) (x .room) (wide x) ms refl refl (x .sum))
+    let laid : (a : ℕ) → a < N → blockAt (cut ms r .settled) a ≡ overlay (kept ms (appendWrites trap N s 1 h (e ∷ []))) (blockAt s) a =
+    λ a l. cut-laid c r s (take 3 (appendWrites trap N s 1 h (e ∷ []))) 0 ms a f (omega (arith, x .size)) (all-take Whole 3 (appendWrites trap N s 1 h (e ∷ [])) (writes-whole trap x)) in
+    found-log trap N s 1 h (e ∷ []) v S (x .big) (x .small) (x .size) (x .room) (x .sum) (x .card) (cut ms r .settled) (kept ms (appendWrites trap N s 1 h (e ∷ []))) laid
+    (header-kept trap N s 1 h (e ∷ []) (x .room) (wide trap x) ms refl refl (x .sum))
     ∙ ap₂ (λ (a b : Entry). a ∷ b ∷ [])
     (entry-eq (ap (λ (b : List ℕ). num (cell 4 b 0)) (laid 1 (omega (arith, x .big)))) (laid 2 (omega (arith, x .big))))
     (entry-eq (ap (λ (b : List ℕ). num (cell 4 b 1)) (laid 1 (omega (arith, x .big)))) (laid 3 (omega (arith, x .big))))

@@ -14,6 +14,7 @@ use Rattle.cells.specs.Same.Laws.{same-self}
 use Rattle.card.specs.Disk.{Disk, lay, overlay}
 use Rattle.card.specs.Card.{blockAt, blocksIn}
 use Rattle.card.specs.Marks.{overOne, marksFit, keptAt, allKept}
+use Rattle.journal.specs.Geometry.{trap}
 use Rattle.journal.specs.declared.lookup.Found.{Found}
 use Rattle.journal.specs.declared.lookup.Found.the-variants.{At, Absent}
 use Rattle.journal.specs.Layout.{descriptorAt, isData, wrongSize}
@@ -48,6 +49,7 @@ use Rattle.history.proofs.WorkedSums.{other-sum}
 use Rattle.history.proofs.WorkedPlain.{openAt, downAt, closedAt, plain-put, plain-commit, plain-filed, plain-power, plain-halted, plain-torn, plain-whole, plain-again, plain-fallback, plain-found, Went, went}
 use Rattle.history.proofs.WorkedSync.{group-is, grouped-is, no-inner, filed-log, filed-next, halted-written, halted-torn, halted-whole}
 
+
 -- what is known is one
 known-same : {e f : Fate} → known e ≡ known f → e ≡ f
 known-same p = cc
@@ -61,9 +63,9 @@ unless-settled k st s e = go (eqb k 0)
     go true = e
     go false = refl
 
-put-settled : (a : ℕ) (b : List ℕ) (st : State) → putCall a b st .state .settled ≡ st .settled
+put-settled : (a : ℕ) (b : List ℕ) (st : State) → putCall trap a b st .state .settled ≡ st .settled
 unfolding putCall
-put-settled a b st = unless-settled (cause (Request.put a b) st) st (putAt (find (st .work) openFrom (st .rec .opened) a) e st) (go (find (st .work) openFrom (st .rec .opened) a))
+put-settled a b st = unless-settled (cause trap (Request.put a b) st) st (putAt (find (st .work) openFrom (st .rec .opened) a) e st) (go (find (st .work) openFrom (st .rec .opened) a))
   where
     e : Entry
     e = record { address = a; block = b }
@@ -72,9 +74,9 @@ put-settled a b st = unless-settled (cause (Request.put a b) st) st (putAt (find
     go (At i) = refl
     go Absent = refl
 
-commit-settled : (st : State) → commitCall st .state .settled ≡ st .settled
+commit-settled : (st : State) → commitCall trap st .state .settled ≡ st .settled
 unfolding commitCall
-commit-settled st = unless-settled (cause Request.commit st) st _ refl
+commit-settled st = unless-settled (cause trap Request.commit st) st _ refl
 
 length-sevens : length sevens ≡ blockBytes
 unfolding sevens
@@ -115,23 +117,23 @@ old = overlay (at40 sevens ∷ []) zeros
 
 -- what the first part of the script leaves
 record Filed (w : World) : Type 0 where
-  sim : WorldSim w
+  sim : WorldSim trap w
   clean : w .excepted ≡ false
   plain : w .plain ≡ openAt old [] [] 1 999996
-  log : logD (blockAt (w .store .settled)) 1 ≡ at40 sevens ∷ []
+  log : logD trap (blockAt (w .store .settled)) 1 ≡ at40 sevens ∷ []
   free : num (cell 4 (blockAt (w .store .settled) descriptorAt) 1) ≡ 0
 
 abbrev v₁ : World → World
-v₁ w = next (put 40 nines) w
+v₁ w = next trap (put 40 nines) w
 
 abbrev v₂ : World → World
-v₂ w = next commit (v₁ w)
+v₂ w = next trap commit (v₁ w)
 
 abbrev v₃ : World → World
-v₃ w = next (power 3) (v₂ w)
+v₃ w = next trap (power 3) (v₂ w)
 
 abbrev v₄ : World → World
-v₄ w = next sync (v₃ w)
+v₄ w = next trap sync (v₃ w)
 
 module _ (w : World) (m : Filed w) where
   t₁ : Went (put 40 nines) w (still (openAt old [] (at40 nines ∷ []) 1 999996))
@@ -153,22 +155,22 @@ module _ (w : World) (m : Filed w) where
   same-settled : v₃ w .store .settled ≡ w .store .settled
   unfolding next
   same-settled =
-      ap (λ (x : Outcome). x .state .settled) (power-served 3 (v₂ w) (t₂ .sim))
+      ap (λ (x : Outcome). x .state .settled) (power-served trap 3 (v₂ w) (t₂ .sim))
       ∙ commit-settled (v₁ w .store)
       ∙ put-settled 40 nines (w .store)
 
   -- ---- the logs
 
-  first-slot : slotE (blockAt (v₃ w .store .settled)) 0 ≡ at40 sevens
-  first-slot = ap (λ (l : List Entry). getD l 0 (at40 sevens)) (ap (λ (s : List ℕ). logD (blockAt s) 1) same-settled ∙ m .log)
+  first-slot : slotE trap (blockAt (v₃ w .store .settled)) 0 ≡ at40 sevens
+  first-slot = ap (λ (l : List Entry). getD l 0 (at40 sevens)) (ap (λ (s : List ℕ). logD trap (blockAt s) 1) same-settled ∙ m .log)
 
-  torn-log : foundIn (cutSettled (1 ∷ 0 ∷ 1 ∷ []) (storeNext sync (v₃ w))) ≡ log-found
+  torn-log : foundIn trap (cutSettled (1 ∷ 0 ∷ 1 ∷ []) (storeNext trap sync (v₃ w))) ≡ log-found
   torn-log =
       halted-torn (v₃ w) (t₃ .sim) old nines (t₃ .plain)
       ∙ ap₂ (λ (e : Entry) (a : ℕ). e ∷ record { address = a; block = nines } ∷ []) first-slot
       (ap (λ (s : List ℕ). num (cell 4 (blockAt s descriptorAt) 1)) same-settled ∙ m .free)
 
-  own-log : (ms : List ℕ) → headerKept ms 3 ≡ true → cutWritten ms (ledgerNext sync (v₃ w)) ≡ log-written
+  own-log : (ms : List ℕ) → headerKept ms 3 ≡ true → cutWritten ms (ledgerNext trap sync (v₃ w)) ≡ log-written
   own-log ms k = halted-written (v₃ w) (t₃ .sim) old nines (t₃ .plain) ms k ∙ ap (λ (e : Entry). e ∷ at40 nines ∷ []) first-slot
 
   -- ---- the sync that is cut short
@@ -176,7 +178,7 @@ module _ (w : World) (m : Filed w) where
   open-then : v₃ w .store .rec .mode ≡ openMode
   open-then = sym (t₃ .sim .basics .mirrors .mode) ∙ ap (λ (x : Plain). x .mode) (t₃ .plain)
 
-  observed : observe sync (v₃ w) (known quiet) ≡ undecided (at40 nines ∷ []) 2 true
+  observed : observe trap sync (v₃ w) (known quiet) ≡ undecided (at40 nines ∷ []) 2 true
   unfolding observe shortSync
   observed =
       let g = group-is (v₃ w) (t₃ .sim) old nines 1 3 (omega arith) (t₃ .plain) in
@@ -187,32 +189,32 @@ module _ (w : World) (m : Filed w) where
 
   -- ---- a cut that is accepted
 
-  module _ (ms : List ℕ) (fit : refusal (cut ms) (downAt old (at40 nines ∷ [])) ≡ 0) where
-    fits : refusal (cut ms) (v₄ w .plain) ≡ 0
-    fits = ap (refusal (cut ms)) (t₄ .plain) ∙ fit
+  module _ (ms : List ℕ) (fit : refusal trap (cut ms) (downAt old (at40 nines ∷ [])) ≡ 0) where
+    fits : refusal trap (cut ms) (v₄ w .plain) ≡ 0
+    fits = ap (refusal trap (cut ms)) (t₄ .plain) ∙ fit
 
-    found-is : foundWritten (cut ms) (v₄ w) ≡ sameLog (foundIn (cutSettled ms (storeNext sync (v₃ w)))) (cutWritten ms (ledgerNext sync (v₃ w)))
+    found-is : foundWritten trap (cut ms) (v₄ w) ≡ sameLog (foundIn trap (cutSettled ms (storeNext trap sync (v₃ w)))) (cutWritten ms (ledgerNext trap sync (v₃ w)))
     unfolding next
-    found-is = found-cut ms (v₄ w) (t₄ .sim) fits
+    found-is = found-cut trap ms (v₄ w) (t₄ .sim) fits
 
-    exception-is : exception (cut ms) (v₄ w) ≡ collides (foundIn (cutSettled ms (storeNext sync (v₃ w)))) (cutWritten ms (ledgerNext sync (v₃ w)))
+    exception-is : exception trap (cut ms) (v₄ w) ≡ collides (foundIn trap (cutSettled ms (storeNext trap sync (v₃ w)))) (cutWritten ms (ledgerNext trap sync (v₃ w)))
     unfolding next
-    exception-is = exception-cut ms (v₄ w) (t₄ .sim) fits
+    exception-is = exception-cut trap ms (v₄ w) (t₄ .sim) fits
 
-    accepted : acceptedCut (cut ms) (v₄ w) ≡ true
-    accepted = cut-accepted ms (v₄ w) (t₄ .sim) fits
+    accepted : acceptedCut trap (cut ms) (v₄ w) ≡ true
+    accepted = cut-accepted trap ms (v₄ w) (t₄ .sim) fits
 
 -- what it is to the plain disk, and the recovery after it
 record Cuts (w : World) (ms : List ℕ) (same : Bool) (k : ℕ) : Type 0 where
-  fit : refusal (cut ms) (downAt old (at40 nines ∷ [])) ≡ 0
-  found : foundWritten (cut ms) (v₄ w) ≡ same
-  usual : exception (cut ms) (v₄ w) ≡ false
+  fit : refusal trap (cut ms) (downAt old (at40 nines ∷ [])) ≡ 0
+  found : foundWritten trap (cut ms) (v₄ w) ≡ same
+  usual : exception trap (cut ms) (v₄ w) ≡ false
   S : Disk
   n : ℕ
   F : Bool
   left : ℕ
-  cuts : plainStep (cut ms) same (downAt old (at40 nines ∷ [])) ≡ still (closedAt S n 0 F)
-  recovers : (t : Bool) → plainStep recover t (closedAt S n 100 F) ≡ record { answer = 0; orders = k; plain = openAt S [] [] n left }
+  cuts : plainStep trap (cut ms) same (downAt old (at40 nines ∷ [])) ≡ still (closedAt S n 0 F)
+  recovers : (t : Bool) → plainStep trap recover t (closedAt S n 100 F) ≡ record { answer = 0; orders = k; plain = openAt S [] [] n left }
 
 torn-cuts : (w : World) → Filed w → Cuts w (1 ∷ 0 ∷ 1 ∷ []) false 2
 unfolding refusal marksFit overOne headerKept keptAt
@@ -246,15 +248,15 @@ whole-cuts w m =
 
 module _ (w : World) (m : Filed w) (ms : List ℕ) (same : Bool) (k : ℕ) (c : Cuts w ms same k) where
   abbrev v₅ : World
-  v₅ = next (cut ms) (v₄ w)
+  v₅ = next trap (cut ms) (v₄ w)
 
   abbrev v₆ : World
-  v₆ = next (power 100) v₅
+  v₆ = next trap (power 100) v₅
 
   t₅ : Went (cut ms) (v₄ w) (still (closedAt (c .S) (c .n) 0 (c .F)))
   t₅ =
       went (cut ms) (v₄ w) _ _ (t₄ w m .sim) (c .usual) (t₄ w m .plain)
-      (ap (λ (t : Bool). plainStep (cut ms) t (downAt old (at40 nines ∷ []))) (c .found) ∙ c .cuts)
+      (ap (λ (t : Bool). plainStep trap (cut ms) t (downAt old (at40 nines ∷ []))) (c .found) ∙ c .cuts)
 
   t₆ : Went (power 100) v₅ (still (closedAt (c .S) (c .n) 100 (c .F)))
   unfolding exception acceptedCut
@@ -264,23 +266,23 @@ module _ (w : World) (m : Filed w) (ms : List ℕ) (same : Bool) (k : ℕ) (c : 
   unfolding exception acceptedCut
   t₇ = went recover v₆ _ _ (t₆ .sim) refl (t₆ .plain) (c .recovers _)
 
-  all-clean : after (crashed ms) w .excepted ≡ false
+  all-clean : after trap (crashed ms) w .excepted ≡ false
   unfolding after
   all-clean = t₆ .clean ∙ t₅ .clean ∙ t₄ w m .clean ∙ t₃ w m .clean ∙ t₂ w m .clean ∙ t₁ w m .clean ∙ m .clean
 
-  none-done : noneFinished (crashed ms) w ≡ true
+  none-done : noneFinished trap (crashed ms) w ≡ true
   unfolding noneFinished S.finished
   none-done = ap (λ (a : ℕ). not (eqb a 0) && true) (t₄ w m .answer)
 
-  fated : fate (crashed ms) w (known quiet) ≡ known (decided (at40 nines ∷ []) (keptAt ms 2 && same) (allKept ms))
+  fated : fate trap (crashed ms) w (known quiet) ≡ known (decided (at40 nines ∷ []) (keptAt ms 2 && same) (allKept ms))
   unfolding fate observe shortSync
   fated =
-      ap (λ (x : Progress). fate (cut ms ∷ power 100 ∷ []) (v₄ w) x) (observed w m)
+      ap (λ (x : Progress). fate trap (cut ms ∷ power 100 ∷ []) (v₄ w) x) (observed w m)
       ∙ (λ j.
-      fate (power 100 ∷ []) v₅
+      fate trap (power 100 ∷ []) v₅
       (cond (accepted w m ms (c .fit) j) (known (decided (at40 nines ∷ []) (keptAt ms 2 && c .found j) (allKept ms))) (undecided (at40 nines ∷ []) 2 true)))
 
-  later-lines : dispatch (get 40) (storeNext recover v₆) .answer ≡ 0
+  later-lines : dispatch trap (get 40) (storeNext trap recover v₆) .answer ≡ 0
       → answers (crashed ms ++ (recover ∷ get 40 ∷ [])) w ≡ (0, 0) ∷ (0, 0) ∷ (0, 0) ∷ (4, 3) ∷ (0, 0) ∷ (0, 0) ∷ (0, k) ∷ (0, 0) ∷ []
   unfolding answers next
   later-lines g =
@@ -290,23 +292,23 @@ module _ (w : World) (m : Filed w) (ms : List ℕ) (same : Bool) (k : ℕ) (c : 
 
 -- ---- the whole scripts
 
-module _ (st : State) (f : formatCall st .answer ≡ 0) (size : blocksIn (st .settled) ≡ 64) where
-  plain₀ : begun st .plain ≡ openAt zeros [] [] 0 1000000
+module _ (st : State) (f : formatCall trap st .answer ≡ 0) (size : blocksIn (st .settled) ≡ 64) where
+  plain₀ : begun trap st .plain ≡ openAt zeros [] [] 0 1000000
   unfolding begun fresh
   plain₀ = ap blankPlain size
 
   abbrev w₁ : World
-  w₁ = next (put 40 sevens) (begun st)
+  w₁ = next trap (put 40 sevens) (begun trap st)
 
   abbrev w₂ : World
-  w₂ = next commit w₁
+  w₂ = next trap commit w₁
 
   abbrev w₃ : World
-  w₃ = next sync w₂
+  w₃ = next trap sync w₂
 
-  s₁ : Went (put 40 sevens) (begun st) (still (openAt zeros [] (at40 sevens ∷ []) 0 1000000))
+  s₁ : Went (put 40 sevens) (begun trap st) (still (openAt zeros [] (at40 sevens ∷ []) 0 1000000))
   unfolding exception acceptedCut
-  s₁ = went (put 40 sevens) (begun st) _ _ (begun-sim st f) refl plain₀ (plain-put _ zeros 0 1000000 sevens length-sevens)
+  s₁ = went (put 40 sevens) (begun trap st) _ _ (begun-sim trap st f) refl plain₀ (plain-put _ zeros 0 1000000 sevens length-sevens)
 
   s₂ : Went commit w₁ (still (openAt zeros (at40 sevens ∷ []) [] 0 1000000))
   unfolding exception acceptedCut
@@ -326,25 +328,25 @@ module _ (st : State) (f : formatCall st .answer ≡ 0) (size : blocksIn (st .se
     free = filed-next w₂ (s₂ .sim) zeros sevens (s₂ .plain);
   }
 
-  ends : EndsFinished filed (begun st)
+  ends : EndsFinished trap filed (begun trap st)
   unfolding after S.finished
   ends = _⊎_.inr (put 40 sevens ∷ commit ∷ [], sync, refl, ap (λ (a : ℕ). eqb a 0) (s₃ .answer))
 
   module _ (ms : List ℕ) (same : Bool) (k : ℕ) (c : Cuts w₃ ms same k) where
     -- the disk found, by crash atomicity
-    read : SplitReading st filed (crashed ms)
+    read : SplitReading trap st filed (crashed ms)
     unfolding after
-    read = split-reading st f filed (crashed ms) ends (none-done w₃ all-filed ms same k c) (t₇ w₃ all-filed ms same k c .answer) (all-clean w₃ all-filed ms same k c)
+    read = split-reading trap st f filed (crashed ms) ends (none-done w₃ all-filed ms same k c) (t₇ w₃ all-filed ms same k c .answer) (all-clean w₃ all-filed ms same k c)
 
-    is-40 : isData (blocksIn (st .settled)) 40 ≡ true
-    is-40 = ap (λ (N : ℕ). isData N 40) size
+    is-40 : isData trap (blocksIn (st .settled)) 40 ≡ true
+    is-40 = ap (λ (N : ℕ). isData trap N 40) size
 
     passable : AllPassable (filed ++ crashed ms)
     passable =
         let none : (k : ℕ) → _≡_ {A = ℕ} 0 1 → k < 2 ^ 32 = λ k z. omega arith in
         (λ k e. none k cc, (λ k e. none k cc, (λ k e. none k cc, (λ k e. none k cc, (λ k e. none k cc, (λ k e. let z : 3 ≡ k = cc in omega arith, (λ k e. none k cc, (λ k e. none k cc, (λ k e. let z : 100 ≡ k = cc in omega arith, tt)))))))))
 
-    last-cut : noCut (power 100 ∷ []) (next (cut ms) (after halted w₃)) ≡ true
+    last-cut : noCut trap (power 100 ∷ []) (next trap (cut ms) (after trap halted w₃)) ≡ true
     unfolding noCut acceptedCut
     last-cut = refl
 
@@ -352,7 +354,7 @@ module _ (st : State) (f : formatCall st .answer ≡ 0) (size : blocksIn (st .se
     unfolding after answers next
     script new all b p q e =
         let x = read .found 40 is-40 in
-        let y : fate (crashed ms) w₃ (known quiet) ≡ known (decided (at40 nines ∷ []) new all) = fated w₃ all-filed ms same k c ∙ (λ j. known (decided (at40 nines ∷ []) (p j) (q j))) in
+        let y : fate trap (crashed ms) w₃ (known quiet) ≡ known (decided (at40 nines ∷ []) new all) = fated w₃ all-filed ms same k c ∙ (λ j. known (decided (at40 nines ∷ []) (p j) (q j))) in
         let z : read .end ≡ decided (at40 nines ∷ []) new all = known-same (sym (read .fated) ∙ y) in
         record {
           lines = λ j. (s₁ .answer j, s₁ .orders j) ∷ (s₂ .answer j, s₂ .orders j) ∷ (s₃ .answer j, s₃ .orders j) ∷ later-lines w₃ all-filed ms same k c (x .0) j;
@@ -381,7 +383,7 @@ module _ (st : State) (f : formatCall st .answer ≡ 0) (size : blocksIn (st .se
 -- ---- a card of 64 blocks that format takes
 
 sized : (r : Record) (s q k : List ℕ) → length s ≡ 32768 → length q ≡ 17544 → length k ≡ 33024
-    → (formatCall (stateOf r s q k) .answer ≡ 0) × (blocksIn s ≡ 64)
+    → (formatCall trap (stateOf r s q k) .answer ≡ 0) × (blocksIn s ≡ 64)
 unfolding formatCall wrongSizes wrongSize
 sized r s q k a b c = (rw (a, b, c), ap (λ (x : ℕ). x / blockBytes) a)
 
@@ -392,7 +394,7 @@ length-naughts : (n : ℕ) → length (naughts n) ≡ n
 unfolding naughts
 length-naughts n = length-replicate n 0
 
-blank : (st : State) × (formatCall st .answer ≡ 0) × (blocksIn (st .settled) ≡ 64)
+blank : (st : State) × (formatCall trap st .answer ≡ 0) × (blocksIn (st .settled) ≡ 64)
 blank =
     let p = sized (Record·fresh 64) (naughts 32768) (naughts 17544) (naughts 33024) (length-naughts 32768) (length-naughts 17544) (length-naughts 33024) in
     (stateOf (Record·fresh 64) (naughts 32768) (naughts 17544) (naughts 33024), p .0, p .1)

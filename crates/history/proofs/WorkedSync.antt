@@ -12,7 +12,8 @@ use Rattle.cells.specs.Entry.{Entry}
 use Rattle.card.specs.Disk.{Disk}
 use Rattle.card.specs.Card.{Card, run, cut, settle, blockAt}
 use Rattle.card.specs.Marks.{allKept}
-use Rattle.journal.specs.Layout.{descriptorAt, slots}
+use Rattle.journal.specs.Geometry.{trap}
+use Rattle.journal.specs.Layout.{descriptorAt}
 use Rattle.journal.specs.Log.{entries}
 use Rattle.journal.proofs.OrderLists.{appendWrites}
 use Rattle.crash.proofs.Batches.{Left}
@@ -41,22 +42,23 @@ use Rattle.history.proofs.ShortSyncs.{open-now}
 use Rattle.history.proofs.WorkedCard.{second-zero, torn-found}
 use Rattle.history.proofs.WorkedPlain.{openAt}
 
-base-at : {N : ℕ} {s : List ℕ} {n n′ h : ℕ} {G G′ v : List Entry} {S : Disk} → n ≡ n′ → G ≡ G′ → Appends N s n h G v S → Appends N s n′ h G′ v S
+
+base-at : {N : ℕ} {s : List ℕ} {n n′ h : ℕ} {G G′ v : List Entry} {S : Disk} → n ≡ n′ → G ≡ G′ → Appends trap N s n h G v S → Appends trap N s n′ h G′ v S
 base-at a b x = rw (← a, ← b) x
 
-module _ (w : World) (m : WorldSim w) (S : Disk) (b : List ℕ) (n p : ℕ) (few : n ≤ 1) (d : w .plain ≡ openAt S (at40 b ∷ []) [] n p) where
-  served : refusal sync (w .plain) ≡ 0
+module _ (w : World) (m : WorldSim trap w) (S : Disk) (b : List ℕ) (n p : ℕ) (few : n ≤ 1) (d : w .plain ≡ openAt S (at40 b ∷ []) [] n p) where
+  served : refusal trap sync (w .plain) ≡ 0
   unfolding refusal
-  served = ap (refusal sync) d
+  served = ap (refusal trap sync) d
 
-  o : OpenSim (w .store) (w .ledger) (w .plain)
-  o = open-now sync w m refl served
+  o : OpenSim trap (w .store) (w .ledger) (w .plain)
+  o = open-now trap sync w m refl served
 
-  pub group-is : groupOf (w .store) ≡ at40 b ∷ []
-  group-is = sym (Facts.plain-group (w .store) (w .ledger) (w .plain) (m .basics) o) ∙ ap (λ (x : Plain). x .G) d
+  pub group-is : groupOf trap (w .store) ≡ at40 b ∷ []
+  group-is = sym (Facts.plain-group trap (w .store) (w .ledger) (w .plain) (m .basics) o) ∙ ap (λ (x : Plain). x .G) d
 
   pub grouped-is : w .store .rec .grouped ≡ 1
-  grouped-is = sym (Facts.length-group (w .store) (w .ledger) (w .plain) (m .basics) o) ∙ ap length group-is
+  grouped-is = sym (Facts.length-group trap (w .store) (w .ledger) (w .plain) (m .basics) o) ∙ ap length group-is
 
   logged-is : w .store .rec .logged ≡ n
   logged-is = sym (o .n) ∙ ap (λ (x : Plain). x .n) d
@@ -67,19 +69,19 @@ module _ (w : World) (m : WorldSim w) (S : Disk) (b : List ℕ) (n p : ℕ) (few
   some : w .store .rec .grouped ≢ 0
   some z = omega (arith, grouped-is)
 
-  size : length (groupOf (w .store)) ≡ 1
+  size : length (groupOf trap (w .store)) ≡ 1
   size = ap length group-is
 
-  fits : w .store .rec .logged + length (groupOf (w .store)) ≤ slots
+  fits : w .store .rec .logged + length (groupOf trap (w .store)) ≤ trap .slots
   fits = omega (arith, logged-is, size)
 
-  opening : Opened (w .store) (w .ledger .written) (w .plain .S)
-  opening = opened w (m .basics) o
+  opening : Opened trap (w .store) (w .ledger .written) (w .plain .S)
+  opening = opened trap w (m .basics) o
 
-  alone : applies (w .store) ≡ false
-  alone = single (w .store) (w .ledger .written) (w .plain .S) (w .excepted) opening some fits
+  alone : applies trap (w .store) ≡ false
+  alone = single trap (w .store) (w .ledger .written) (w .plain .S) (w .excepted) opening some fits
 
-  pub no-inner : inner (w .store) ≡ 0
+  pub no-inner : inner trap (w .store) ≡ 0
   no-inner = ap (λ (t : Bool). cond t (w .store .rec .logged + 3) 0) alone
 
   abbrev N : ℕ
@@ -92,27 +94,27 @@ module _ (w : World) (m : WorldSim w) (S : Disk) (b : List ℕ) (n p : ℕ) (few
   h = w .store .rec .sum
 
   abbrev W : List Entry
-  W = appendWrites N s (w .store .rec .logged) h (groupOf (w .store))
+  W = appendWrites trap N s (w .store .rec .logged) h (groupOf trap (w .store))
 
-  length-W : length W ≡ length (groupOf (w .store)) + 2
-  length-W = length-append-writes N s (w .store .rec .logged) h (groupOf (w .store))
+  length-W : length W ≡ length (groupOf trap (w .store)) + 2
+  length-W = length-append-writes trap N s (w .store .rec .logged) h (groupOf trap (w .store))
 
   abbrev there : World
-  there = openWorld (w .store) (w .ledger .written) (w .plain .S) (w .excepted)
+  there = openWorld trap (w .store) (w .ledger .written) (w .plain .S) (w .excepted)
 
-  order : Gives sync there (W ∷ [])
+  order : Gives trap sync there (W ∷ [])
   unfolding met-itself
-  order = gives (w .store) (w .ledger .written) (w .plain .S) (w .excepted) opening some (met-itself (w .store) (w .ledger .written) (w .plain .S) (w .excepted) opening some fits)
+  order = gives trap (w .store) (w .ledger .written) (w .plain .S) (w .excepted) opening some (met-itself trap (w .store) (w .ledger .written) (w .plain .S) (w .excepted) opening some fits)
 
-  base-now : Appends N s n h (at40 b ∷ []) (w .ledger .written) (w .plain .S)
+  base-now : Appends trap N s n h (at40 b ∷ []) (w .ledger .written) (w .plain .S)
   unfolding met-itself
-  base-now = base-at logged-is group-is (met-itself (w .store) (w .ledger .written) (w .plain .S) (w .excepted) opening some fits .meets)
+  base-now = base-at logged-is group-is (met-itself trap (w .store) (w .ledger .written) (w .plain .S) (w .excepted) opening some fits .meets)
 
   -- done
-  filed-settled : 4 ≤ p → storeNext sync w .settled ≡ settle (appendWrites N s n h (at40 b ∷ [])) s
+  filed-settled : 4 ≤ p → storeNext trap sync w .settled ≡ settle (appendWrites trap N s n h (at40 b ∷ [])) s
   filed-settled l =
-      gives-settled sync there (W ∷ []) (opening .basics) order (omega (arith, length-W, size, power-is))
-      ∙ ap₂ (λ (k : ℕ) (G : List Entry). settle (appendWrites N s k h G) s) logged-is group-is
+      gives-settled trap sync there (W ∷ []) (opening .basics) order (omega (arith, length-W, size, power-is))
+      ∙ ap₂ (λ (k : ℕ) (G : List Entry). settle (appendWrites trap N s k h G) s) logged-is group-is
 
   -- cut short behind its header
   abbrev r : Card
@@ -121,71 +123,71 @@ module _ (w : World) (m : WorldSim w) (S : Disk) (b : List ℕ) (n p : ℕ) (few
   gone : p ≡ 3 → w .store .rec .power < takes (W ∷ [])
   gone e = omega (arith, length-W, size, power-is)
 
-  halted-left : p ≡ 3 → Left (cardIn (w .store)) r s (take p (appendWrites N s n h (at40 b ∷ []))) 0
+  halted-left : p ≡ 3 → Left (cardIn (w .store)) r s (take p (appendWrites trap N s n h (at40 b ∷ []))) 0
   halted-left e =
-      let x = stopped sync there (W ∷ []) (opening .basics) order (λ t q k. (t ≡ s) × (q ≡ take k W)) (w .store .rec .power) refl (gone e) (λ j i l z. (refl, ap (λ (k : ℕ). take k W) (let y : j ≡ i = omega arith in y)), tt) in
-      left-at (x .met .0) (x .met .1 ∙ (λ i. take (power-is i) (appendWrites N s (logged-is i) h (group-is i)))) (x .left)
+      let x = stopped trap sync there (W ∷ []) (opening .basics) order (λ t q k. (t ≡ s) × (q ≡ take k W)) (w .store .rec .power) refl (gone e) (λ j i l z. (refl, ap (λ (k : ℕ). take k W) (let y : j ≡ i = omega arith in y)), tt) in
+      left-at (x .met .0) (x .met .1 ∙ (λ i. take (power-is i) (appendWrites trap N s (logged-is i) h (group-is i)))) (x .left)
     where
       left-at : {c₀ c : Card} {t t′ : List ℕ} {x y : List Entry} {k : ℕ} → t ≡ t′ → x ≡ y → Left c₀ c t x k → Left c₀ c t′ y k
       left-at a b l = rw (a, b) at l
 
-  halted-call : p ≡ 3 → dispatch sync (w .store) ≡ record { answer = 4; orders = w .store .rec .power; state = withCard r (withRecord (withMode down (order .gone)) (w .store)) }
-  halted-call e = short-call sync there (W ∷ []) (opening .basics) order (gone e)
+  halted-call : p ≡ 3 → dispatch trap sync (w .store) ≡ record { answer = 4; orders = w .store .rec .power; state = withCard r (withRecord (withMode down (order .gone)) (w .store)) }
+  halted-call e = short-call trap sync there (W ∷ []) (opening .basics) order (gone e)
 
-  halted-settled : p ≡ 3 → (ms : List ℕ) → cutSettled ms (storeNext sync w) ≡ cut ms r .settled
+  halted-settled : p ≡ 3 → (ms : List ℕ) → cutSettled ms (storeNext trap sync w) ≡ cut ms r .settled
   halted-settled e ms = ap (λ (x : Outcome). cutSettled ms (x .state)) (halted-call e)
 
-  standing-is : standing (w .store) ≡ logD (blockAt s) n
+  standing-is : standing trap (w .store) ≡ logD trap (blockAt s) n
   standing-is =
-      ap (λ (t : Bool). cond t [] (entries s (w .store .rec .logged))) alone
-      ∙ Facts.entries-log (w .store) (w .ledger) (w .plain) (m .basics) o
-      ∙ ap (logD (blockAt s)) logged-is
+      ap (λ (t : Bool). cond t [] (entries trap s (w .store .rec .logged))) alone
+      ∙ Facts.entries-log trap (w .store) (w .ledger) (w .plain) (m .basics) o
+      ∙ ap (logD trap (blockAt s)) logged-is
 
-  halted-ledger : p ≡ 3 → ledgerNext sync w ≡ waitsBehind 2 (logD (blockAt s) n ++ (at40 b ∷ [])) (w .ledger)
+  halted-ledger : p ≡ 3 → ledgerNext trap sync w ≡ waitsBehind 2 (logD trap (blockAt s) n ++ (at40 b ∷ [])) (w .ledger)
   unfolding entered syncHeaders
   halted-ledger e =
-      ap (λ (x : Outcome). noted (syncHeaders (w .store)) (x .orders) (w .ledger)) (halted-call e)
-      ∙ ap (λ (t : Bool). noted (cond t (applyHeader (w .store) ∷ ownHeader (w .store) ∷ []) (ownHeader (w .store) ∷ [])) (w .store .rec .power) (w .ledger))
+      ap (λ (x : Outcome). noted (syncHeaders trap (w .store)) (x .orders) (w .ledger)) (halted-call e)
+      ∙ ap (λ (t : Bool). noted (cond t (applyHeader (w .store) ∷ ownHeader trap (w .store) ∷ []) (ownHeader trap (w .store) ∷ [])) (w .store .rec .power) (w .ledger))
       alone
-      ∙ note-at (ownHeader (w .store)) [] (w .store .rec .power) (w .ledger) (omega (arith, power-is, no-inner, grouped-is))
+      ∙ note-at (ownHeader trap (w .store)) [] (w .store .rec .power) (w .ledger) (omega (arith, power-is, no-inner, grouped-is))
       ∙ (λ i. waitsBehind (grouped-is i + 1) (standing-is i ++ group-is i) (w .ledger))
 
-  halted-same : p ≡ 3 → (ms : List ℕ) → length ms ≡ 3 → allKept ms ≡ true → sameLog (foundIn (cutSettled ms (storeNext sync w))) (cutWritten ms (ledgerNext sync w)) ≡ true
+  halted-same : p ≡ 3 → (ms : List ℕ) → length ms ≡ 3 → allKept ms ≡ true → sameLog (foundIn trap (cutSettled ms (storeNext trap sync w))) (cutWritten ms (ledgerNext trap sync w)) ≡ true
   halted-same e ms l a =
       let D = halted-call e in
-      short-whole w m served o some (ap (λ (x : Outcome). x .answer) D) (ap (λ (x : Outcome). x .orders) D ∙ (omega (arith, power-is, no-inner, grouped-is))) ms (omega (arith, grouped-is)) a
+      short-whole trap w m served o some (ap (λ (x : Outcome). x .answer) D) (ap (λ (x : Outcome). x .orders) D ∙ (omega (arith, power-is, no-inner, grouped-is))) ms (omega (arith, grouped-is)) a
 
 -- ---- the first sync
 
-module _ (w : World) (m : WorldSim w) (S : Disk) (b : List ℕ) (d : w .plain ≡ openAt S (at40 b ∷ []) [] 0 1000000) where
-  now : Appends (w .store .rec .blocks) (w .store .settled) 0 (w .store .rec .sum) (at40 b ∷ []) (w .ledger .written) (w .plain .S)
+module _ (w : World) (m : WorldSim trap w) (S : Disk) (b : List ℕ) (d : w .plain ≡ openAt S (at40 b ∷ []) [] 0 1000000) where
+  now : Appends trap (w .store .rec .blocks) (w .store .settled) 0 (w .store .rec .sum) (at40 b ∷ []) (w .ledger .written) (w .plain .S)
   now = base-now w m S b 0 1000000 (omega arith) d
 
-  settled-now : storeNext sync w .settled ≡ settle (appendWrites (w .store .rec .blocks) (w .store .settled) 0 (w .store .rec .sum) (at40 b ∷ [])) (w .store .settled)
+  settled-now : storeNext trap sync w .settled ≡ settle (appendWrites trap (w .store .rec .blocks) (w .store .settled) 0 (w .store .rec .sum) (at40 b ∷ [])) (w .store .settled)
   settled-now = filed-settled w m S b 0 1000000 (omega arith) d (lib.Dec.lit≤ tt)
 
   -- the log is that entry, and the next place in the descriptor has 0
-  pub filed-log : logD (blockAt (storeNext sync w .settled)) 1 ≡ at40 b ∷ []
-  filed-log = ap (λ (x : List ℕ). logD (blockAt x) 1) settled-now ∙ sym (done-card now .same)
+  pub filed-log : logD trap (blockAt (storeNext trap sync w .settled)) 1 ≡ at40 b ∷ []
+  filed-log = ap (λ (x : List ℕ). logD trap (blockAt x) 1) settled-now ∙ sym (done-card trap now .same)
 
-  pub filed-next : num (cell 4 (blockAt (storeNext sync w .settled) descriptorAt) 1) ≡ 0
+  pub filed-next : num (cell 4 (blockAt (storeNext trap sync w .settled) descriptorAt) 1) ≡ 0
   filed-next = ap (λ (x : List ℕ). num (cell 4 (blockAt x descriptorAt) 1)) settled-now ∙ second-zero now
 
 -- ---- the second
 
-module _ (w : World) (m : WorldSim w) (S : Disk) (b : List ℕ) (d : w .plain ≡ openAt S (at40 b ∷ []) [] 1 3) where
+module _ (w : World) (m : WorldSim trap w) (S : Disk) (b : List ℕ) (d : w .plain ≡ openAt S (at40 b ∷ []) [] 1 3) where
   -- the log written, by a header that is kept
-  pub halted-written : (ms : List ℕ) → headerKept ms 3 ≡ true → cutWritten ms (ledgerNext sync w) ≡ logD (blockAt (w .store .settled)) 1 ++ (at40 b ∷ [])
+  pub halted-written : (ms : List ℕ) → headerKept ms 3 ≡ true → cutWritten ms (ledgerNext trap sync w) ≡ logD trap (blockAt (w .store .settled)) 1 ++ (at40 b ∷ [])
   unfolding resolved headerKept
   halted-written ms k =
       ap (cutWritten ms) (halted-ledger w m S b 1 3 (omega arith) d refl)
-      ∙ ap (λ (t : Bool). cond t (logD (blockAt (w .store .settled)) 1 ++ (at40 b ∷ [])) (w .ledger .written)) k
+      ∙ ap (λ (t : Bool). cond t (logD trap (blockAt (w .store .settled)) 1 ++ (at40 b ∷ [])) (w .ledger .written)) k
 
-  pub halted-torn : foundIn (cutSettled (1 ∷ 0 ∷ 1 ∷ []) (storeNext sync w))
-      ≡ slotE (blockAt (w .store .settled)) 0 ∷ record { address = num (cell 4 (blockAt (w .store .settled) descriptorAt) 1); block = b } ∷ []
+  pub halted-torn : foundIn trap (cutSettled (1 ∷ 0 ∷ 1 ∷ []) (storeNext trap sync w))
+      ≡ slotE trap (blockAt (w .store .settled)) 0 ∷ record { address = num (cell 4 (blockAt (w .store .settled) descriptorAt) 1); block = b } ∷ []
   halted-torn =
-      ap foundIn (halted-settled w m S b 1 3 (omega arith) d refl (1 ∷ 0 ∷ 1 ∷ []))
+      ap (foundIn trap) (halted-settled w m S b 1 3 (omega arith) d refl (1 ∷ 0 ∷ 1 ∷ []))
       ∙ torn-found (base-now w m S b 1 3 (omega arith) d) (cardIn (w .store)) (r w m S b 1 3 (omega arith) d) (halted-left w m S b 1 3 (omega arith) d refl)
 
-  pub halted-whole : (ms : List ℕ) → length ms ≡ 3 → allKept ms ≡ true → sameLog (foundIn (cutSettled ms (storeNext sync w))) (cutWritten ms (ledgerNext sync w)) ≡ true
+  pub halted-whole : (ms : List ℕ) → length ms ≡ 3 → allKept ms ≡ true → sameLog (foundIn trap (cutSettled ms (storeNext trap sync w))) (cutWritten ms (ledgerNext trap sync w)) ≡ true
   halted-whole ms l a = halted-same w m S b 1 3 (omega arith) d refl ms l a

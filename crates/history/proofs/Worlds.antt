@@ -9,7 +9,8 @@ use native.Mathlib.Decide.{ℕ-discrete}
 use Rattle.cells.specs.Entry.{Entry}
 use Rattle.card.specs.Disk.{Disk}
 use Rattle.store.specs.State.{State, closed}
-use Rattle.store.specs.Causes.{needsOpen}
+use Rattle.store.proofs.Causes.{needsOpen}
+use Rattle.journal.specs.Geometry.{Geometry}
 use Rattle.history.specs.Call.{Call, requestOf}
 use Rattle.history.specs.Plain.{Plain, none, refusal}
 use Rattle.history.specs.Ledger.{Ledger, nothing}
@@ -25,57 +26,58 @@ use Rattle.history.proofs.OpenFacts as Facts
 abbrev pub settledLedger : List Entry → Ledger
 settledLedger v = record { written = v; pending = nothing }
 
-abbrev pub plainNow : State → Disk → Plain
-plainNow st S = openPlain st (st .rec) S (st .rec .power)
+module _ (geo : Geometry) where
+  abbrev pub plainNow : State → Disk → Plain
+  plainNow st S = openPlain geo st (st .rec) S (st .rec .power)
 
-abbrev pub openWorld : State → List Entry → Disk → Bool → World
-openWorld st v S x = record { store = st; ledger = settledLedger v; plain = plainNow st S; excepted = x }
+  abbrev pub openWorld : State → List Entry → Disk → Bool → World
+  openWorld st v S x = record { store = st; ledger = settledLedger v; plain = plainNow st S; excepted = x }
 
-pub record Opened (st : State) (v : List Entry) (S : Disk) : Type 0 where
-  pub basics : Basics st (plainNow st S)
-  pub sim : OpenSim st (settledLedger v) (plainNow st S)
+  pub record Opened (st : State) (v : List Entry) (S : Disk) : Type 0 where
+    pub basics : Basics geo st (plainNow st S)
+    pub sim : OpenSim geo st (settledLedger v) (plainNow st S)
 
-pub opened-sim : {st : State} {v : List Entry} {S : Disk} → Opened st v S → Sim st (settledLedger v) (plainNow st S)
-opened-sim f = record { basics = f .basics; phase = _⊎_.inl (f .sim) }
+  pub opened-sim : {st : State} {v : List Entry} {S : Disk} → Opened st v S → Sim geo st (settledLedger v) (plainNow st S)
+  opened-sim f = record { basics = f .basics; phase = _⊎_.inl (f .sim) }
 
-module _ (w : World) (b : Basics (w .store) (w .plain)) (o : OpenSim (w .store) (w .ledger) (w .plain)) where
-  idle-open : w .store .rec .waiting ≡ 0
-  idle-open = Facts.none-waits (w .store) (w .ledger) (w .plain) b o
+  module _ (w : World) (b : Basics geo (w .store) (w .plain)) (o : OpenSim geo (w .store) (w .ledger) (w .plain)) where
+    idle-open : w .store .rec .waiting ≡ 0
+    idle-open = Facts.none-waits geo (w .store) (w .ledger) (w .plain) b o
 
-  pub open-world : w ≡ openWorld (w .store) (w .ledger .written) (w .plain .S) (w .excepted)
-  open-world = λ i. record {
-    store = w .store;
-    ledger = record { written = w .ledger .written; pending = o .pending i };
-    plain = record {
-      N = b .mirrors .N i;
-      S = w .plain .S;
-      G = b .mirrors .G (o .mode) i;
-      T = b .mirrors .T (o .mode) i;
-      n = o .n i;
-      mode = (b .mirrors .mode ∙ o .mode) i;
-      power = b .power i;
-      waiting = (b .mirrors .waiting ∙ idle-open) i;
-      short = o .short i;
-      F = o .F i;
-    };
-    excepted = w .excepted;
-  }
+    pub open-world : w ≡ openWorld (w .store) (w .ledger .written) (w .plain .S) (w .excepted)
+    open-world = λ i. record {
+      store = w .store;
+      ledger = record { written = w .ledger .written; pending = o .pending i };
+      plain = record {
+        N = b .mirrors .N i;
+        S = w .plain .S;
+        G = b .mirrors .G (o .mode) i;
+        T = b .mirrors .T (o .mode) i;
+        n = o .n i;
+        mode = (b .mirrors .mode ∙ o .mode) i;
+        power = b .power i;
+        waiting = (b .mirrors .waiting ∙ idle-open) i;
+        short = o .short i;
+        F = o .F i;
+      };
+      excepted = w .excepted;
+    }
 
-  pub opened : Opened (w .store) (w .ledger .written) (w .plain .S)
-  opened = record {
-    basics = record { sizes = b .sizes; counts = b .counts; mirrors = record { mode = sym (o .mode); N = refl; waiting = sym idle-open; T = λ z. refl; G = λ z. refl }; power = refl };
-    sim = record { mode = o .mode; n = refl; F = refl; short = refl; pending = refl; sum = o .sum; card = o .card };
-  }
+    pub opened : Opened (w .store) (w .ledger .written) (w .plain .S)
+    opened = record {
+      basics = record { sizes = b .sizes; counts = b .counts; mirrors = record { mode = sym (o .mode); N = refl; waiting = sym idle-open; T = λ z. refl; G = λ z. refl }; power = refl };
+      sim = record { mode = o .mode; n = refl; F = refl; short = refl; pending = refl; sum = o .sum; card = o .card };
+    }
 
--- a call that needs an open record: its step in such a world is its step
-pub open-step : (c : Call) → needsOpen (requestOf c) ≡ true → ((st : State) (v : List Entry) (S : Disk) (x : Bool) → Opened st v S → StepOK c (openWorld st v S x)) → (w : World) → WorldSim w → StepOK c w
-open-step c n f w m = go (ℕ-discrete (refusal c (w .plain)) 0)
-  where
-    go : Dec (refusal c (w .plain) ≡ 0) → StepOK c w
-    go (no h) = refused-step c w m h
-    go (yes h) =
-        let o : OpenSim (w .store) (w .ledger) (w .plain) = is-open (w .store) (w .ledger) (w .plain) m (requestOf c) n (cause-passes (requestOf c) (w .store) (same-cause (w .store) (w .ledger) (w .plain) m c ∙ h)) in
-        subst (StepOK c) (sym (open-world w (m .basics) o)) (f (w .store) (w .ledger .written) (w .plain .S) (w .excepted) (opened w (m .basics) o))
+  -- a call that needs an open record: its step in such a world is its step
+  pub open-step : (c : Call) → needsOpen geo (requestOf c) ≡ true → ((st : State) (v : List Entry) (S : Disk) (x : Bool) → Opened st v S → StepOK geo c (openWorld st v S x)) → (w : World) → WorldSim geo w → StepOK geo c w
+  open-step c n f w m = go (ℕ-discrete (refusal geo c (w .plain)) 0)
+    where
+      go : Dec (refusal geo c (w .plain) ≡ 0) → StepOK geo c w
+      go (no h) = refused-step geo c w m h
+      go (yes h) =
+          let o : OpenSim geo (w .store) (w .ledger) (w .plain) = is-open geo (w .store) (w .ledger) (w .plain) m (requestOf c) n (cause-passes geo (requestOf c) (w .store) (same-cause geo (w .store) (w .ledger) (w .plain) m c ∙ h)) in
+          subst (StepOK geo c) (sym (open-world w (m .basics) o)) (f (w .store) (w .ledger .written) (w .plain .S) (w .excepted) (opened w (m .basics) o))
 
 -- ---- closed
 
@@ -85,43 +87,44 @@ plainShut st S n F = record { N = st .rec .blocks; S = S; G = []; T = []; n = n;
 abbrev pub closedWorld : State → List Entry → Disk → ℕ → Bool → Bool → World
 closedWorld st v S n F x = record { store = st; ledger = settledLedger v; plain = plainShut st S n F; excepted = x }
 
-pub record Closed (st : State) (v : List Entry) (S : Disk) (n : ℕ) (F : Bool) : Type 0 where
-  pub basics : Basics st (plainShut st S n F)
-  pub sim : ClosedSim st (settledLedger v) (plainShut st S n F)
+module _ (geo : Geometry) where
+  pub record Closed (st : State) (v : List Entry) (S : Disk) (n : ℕ) (F : Bool) : Type 0 where
+    pub basics : Basics geo st (plainShut st S n F)
+    pub sim : ClosedSim geo st (settledLedger v) (plainShut st S n F)
 
-pub closed-sim : {st : State} {v : List Entry} {S : Disk} {n : ℕ} {F : Bool} → Closed st v S n F → Sim st (settledLedger v) (plainShut st S n F)
-closed-sim f = record { basics = f .basics; phase = _⊎_.inr (_⊎_.inl (f .sim)) }
+  pub closed-sim : {st : State} {v : List Entry} {S : Disk} {n : ℕ} {F : Bool} → Closed st v S n F → Sim geo st (settledLedger v) (plainShut st S n F)
+  closed-sim f = record { basics = f .basics; phase = _⊎_.inr (_⊎_.inl (f .sim)) }
 
-module _ (w : World) (b : Basics (w .store) (w .plain)) (o : ClosedSim (w .store) (w .ledger) (w .plain)) where
-  pub idle-closed : w .store .rec .waiting ≡ 0
-  idle-closed = idle (w .store) (record-facts (w .store) (b .counts)) (λ z. omega (arith, o .mode))
+  module _ (w : World) (b : Basics geo (w .store) (w .plain)) (o : ClosedSim geo (w .store) (w .ledger) (w .plain)) where
+    pub idle-closed : w .store .rec .waiting ≡ 0
+    idle-closed = idle geo (w .store) (record-facts geo (w .store) (b .counts)) (λ z. omega (arith, o .mode))
 
-  pub closed-world : w ≡ closedWorld (w .store) (w .ledger .written) (w .plain .S) (w .plain .n) (w .plain .F) (w .excepted)
-  closed-world = λ i. record {
-    store = w .store;
-    ledger = record { written = w .ledger .written; pending = o .pending i };
-    plain = record {
-      N = b .mirrors .N i;
-      S = w .plain .S;
-      G = o .G i;
-      T = o .T i;
-      n = w .plain .n;
-      mode = (b .mirrors .mode ∙ o .mode) i;
-      power = b .power i;
-      waiting = (b .mirrors .waiting ∙ idle-closed) i;
-      short = o .short i;
-      F = w .plain .F;
-    };
-    excepted = w .excepted;
-  }
+    pub closed-world : w ≡ closedWorld (w .store) (w .ledger .written) (w .plain .S) (w .plain .n) (w .plain .F) (w .excepted)
+    closed-world = λ i. record {
+      store = w .store;
+      ledger = record { written = w .ledger .written; pending = o .pending i };
+      plain = record {
+        N = b .mirrors .N i;
+        S = w .plain .S;
+        G = o .G i;
+        T = o .T i;
+        n = w .plain .n;
+        mode = (b .mirrors .mode ∙ o .mode) i;
+        power = b .power i;
+        waiting = (b .mirrors .waiting ∙ idle-closed) i;
+        short = o .short i;
+        F = w .plain .F;
+      };
+      excepted = w .excepted;
+    }
 
-  pub shut : Closed (w .store) (w .ledger .written) (w .plain .S) (w .plain .n) (w .plain .F)
-  shut = record {
-    basics = record {
-      sizes = b .sizes;
-      counts = b .counts;
-      mirrors = record { mode = sym (o .mode); N = refl; waiting = sym idle-closed; T = λ z. absurd (omega (arith, o .mode)); G = λ z. absurd (omega (arith, o .mode)) };
-      power = refl;
-    };
-    sim = record { mode = o .mode; T = refl; G = refl; short = refl; pending = refl; card = o .card };
-  }
+    pub shut : Closed (w .store) (w .ledger .written) (w .plain .S) (w .plain .n) (w .plain .F)
+    shut = record {
+      basics = record {
+        sizes = b .sizes;
+        counts = b .counts;
+        mirrors = record { mode = sym (o .mode); N = refl; waiting = sym idle-closed; T = λ z. absurd (omega (arith, o .mode)); G = λ z. absurd (omega (arith, o .mode)) };
+        power = refl;
+      };
+      sim = record { mode = o .mode; T = refl; G = refl; short = refl; pending = refl; card = o .card };
+    }

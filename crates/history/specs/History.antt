@@ -5,6 +5,7 @@ use lib.Dec.{eqb}
 use Rattle.card.specs.Card.{blocksIn}
 use Rattle.store.specs.State.{State}
 use Rattle.store.specs.Format.{formatCall}
+use Rattle.journal.specs.Geometry.{Geometry}
 use Rattle.history.specs.Call.{Call, local, save, cut}
 use Rattle.history.specs.Plain.{Plain, fresh, plainStep}
 use Rattle.history.specs.Dispatch.{dispatch}
@@ -16,39 +17,40 @@ pub record World : Type 0 where
   pub plain : Plain
   pub excepted : Bool
 
--- "It starts from a fresh card, as a format answering 0 left it"
-unfoldable pub begun : State → World
-begun st = record { store = formatCall st .state; ledger = freshLedger; plain = fresh (blocksIn (st .settled)); excepted = false }
+module _ (geo : Geometry) where
+  -- "It starts from a fresh card, as a format answering 0 left it"
+  unfoldable pub begun : State → World
+  begun st = record { store = formatCall geo st .state; ledger = freshLedger; plain = fresh (blocksIn (st .settled)); excepted = false }
 
--- "Each call gets the record and the settled, waiting and work bytes that the last one returned or left"
-abbrev pub storeNext : Call → World → State
-storeNext c w = dispatch c (w .store) .state
+  -- "Each call gets the record and the settled, waiting and work bytes that the last one returned or left"
+  abbrev pub storeNext : Call → World → State
+  storeNext c w = dispatch geo c (w .store) .state
 
-abbrev pub ledgerNext : Call → World → Ledger
-ledgerNext c w = entered c (w .store) (w .ledger)
+  abbrev pub ledgerNext : Call → World → Ledger
+  ledgerNext c w = entered geo c (w .store) (w .ledger)
 
--- "whether the log found is the log written", after the call
-unfoldable pub foundWritten : Call → World → Bool
-foundWritten c w = sameLog (logFound (storeNext c w)) (ledgerNext c w .written)
+  -- "whether the log found is the log written", after the call
+  unfoldable pub foundWritten : Call → World → Bool
+  foundWritten c w = sameLog (logFound geo (storeNext c w)) (ledgerNext c w .written)
 
--- a cut that is accepted
-unfoldable pub acceptedCut : Call → World → Bool
-acceptedCut (local c) w = false
-acceptedCut (save c) w = false
-acceptedCut (cut ms) w = eqb (dispatch (cut ms) (w .store) .answer) 0
+  -- a cut that is accepted
+  unfoldable pub acceptedCut : Call → World → Bool
+  acceptedCut (local c) w = false
+  acceptedCut (save c) w = false
+  acceptedCut (cut ms) w = eqb (dispatch geo (cut ms) (w .store) .answer) 0
 
--- the exception: a collision at an accepted cut
-unfoldable pub exception : Call → World → Bool
-exception c w = acceptedCut c w && collides (logFound (storeNext c w)) (ledgerNext c w .written)
+  -- the exception: a collision at an accepted cut
+  unfoldable pub exception : Call → World → Bool
+  exception c w = acceptedCut c w && collides (logFound geo (storeNext c w)) (ledgerNext c w .written)
 
-unfoldable pub next : Call → World → World
-next c w = record {
-  store = storeNext c w;
-  ledger = ledgerNext c w;
-  plain = plainStep c (foundWritten c w) (w .plain) .plain;
-  excepted = w .excepted || exception c w;
-}
+  unfoldable pub next : Call → World → World
+  next c w = record {
+    store = storeNext c w;
+    ledger = ledgerNext c w;
+    plain = plainStep geo c (foundWritten c w) (w .plain) .plain;
+    excepted = w .excepted || exception c w;
+  }
 
-unfoldable pub after : List Call → World → World
-after [] w = w
-after (c ∷ cs) w = after cs (next c w)
+  unfoldable pub after : List Call → World → World
+  after [] w = w
+  after (c ∷ cs) w = after cs (next c w)

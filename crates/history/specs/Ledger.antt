@@ -7,6 +7,7 @@ use mathlib.Core.List.{List, [], _∷_, _++_}
 use lib.Dec.{eqb, leb}
 use Rattle.cells.specs.Entry.{Entry}
 use Rattle.card.specs.Marks.{keptAt}
+use Rattle.journal.specs.Geometry.{Geometry}
 use Rattle.journal.specs.Log.{headerOf, entries}
 -- equal logs, and a checksum collision: another list than the one written, as long, with the same sum
 unfoldable pub use Rattle.crash.specs.Found.{sameLog, collides}
@@ -25,39 +26,42 @@ pub record PlannedHeader : Type 0 where
   pub place : ℕ
   pub list : List Entry
 
--- the log as a sync's own part meets it: the first n entries, none after its apply
-abbrev pub standing : State → List Entry
-standing st = cond (applies st) [] (entries (st .settled) (st .rec .logged))
+module _ (geo : Geometry) where
+  -- the log as a sync's own part meets it: the first n entries, none after its apply
+  abbrev pub standing : State → List Entry
+  standing st = cond (applies geo st) [] (entries geo (st .settled) (st .rec .logged))
 
--- the orders of the apply inside
-abbrev pub inner : State → ℕ
-inner st = cond (applies st) (st .rec .logged + 3) 0
+  -- the orders of the apply inside
+  abbrev pub inner : State → ℕ
+  inner st = cond (applies geo st) (st .rec .logged + 3) 0
 
 abbrev pub applyHeader : State → PlannedHeader
 applyHeader st = record { at = st .rec .logged + 1; place = 0; list = [] }
 
-abbrev pub ownHeader : State → PlannedHeader
-ownHeader st = record { at = inner st + (st .rec .grouped + 1); place = st .rec .grouped + 1; list = standing st ++ groupOf st }
+module _ (geo : Geometry) where
+  abbrev pub ownHeader : State → PlannedHeader
+  ownHeader st = record { at = inner geo st + (st .rec .grouped + 1); place = st .rec .grouped + 1; list = standing geo st ++ groupOf geo st }
 
--- the list that a recovery takes
-abbrev pub taken : State → List Entry
-taken st = entries (st .settled) (takenCount (choose (st .rec .blocks) (st .settled)))
+  -- the list that a recovery takes
+  abbrev pub taken : State → List Entry
+  taken st = entries geo (st .settled) (takenCount (choose geo (st .rec .blocks) (st .settled)))
 
--- the headers that a sync, an apply and a recover write if all their orders happen, in turn
-unfoldable pub syncHeaders : State → List PlannedHeader
-syncHeaders st = cond (applies st) (applyHeader st ∷ ownHeader st ∷ []) (ownHeader st ∷ [])
+  -- the headers that a sync, an apply and a recover write if all their orders happen, in turn
+  unfoldable pub syncHeaders : State → List PlannedHeader
+  syncHeaders st = cond (applies geo st) (applyHeader st ∷ ownHeader st ∷ []) (ownHeader st ∷ [])
 
 unfoldable pub applyHeaders : State → List PlannedHeader
 applyHeaders st = applyHeader st ∷ []
 
-unfoldable pub recoverHeaders : State → List PlannedHeader
-recoverHeaders st = record { at = 0; place = 0; list = taken st } ∷ []
+module _ (geo : Geometry) where
+  unfoldable pub recoverHeaders : State → List PlannedHeader
+  recoverHeaders st = record { at = 0; place = 0; list = taken geo st } ∷ []
 
--- those of a save
-abbrev pub headersOf : Save → State → List PlannedHeader
-headersOf Save.sync st = syncHeaders st
-headersOf Save.apply st = applyHeaders st
-headersOf Save.recover st = recoverHeaders st
+  -- those of a save
+  abbrev pub headersOf : Save → State → List PlannedHeader
+  headersOf Save.sync st = syncHeaders geo st
+  headersOf Save.apply st = applyHeaders st
+  headersOf Save.recover st = recoverHeaders st
 
 -- a header that waits: its place and its list
 pub data Pending : Type 0 where
@@ -94,15 +98,16 @@ unfoldable pub resolved : List ℕ → Pending → List Entry → List Entry
 resolved ms nothing written = written
 resolved ms (waits place list) written = cond (keptAt ms place) list written
 
--- a call of the list, with what it came to
-unfoldable pub entered : Call → State → Ledger → Ledger
-entered (local c) st l = l
-entered (save c) st l = noted (headersOf c st) (dispatch (save c) st .orders) l
-entered (cut ms) st l =
-    cond (eqb (dispatch (cut ms) st .answer) 0) (settledBy (resolved ms (l .pending) (l .written))) l
+module _ (geo : Geometry) where
+  -- a call of the list, with what it came to
+  unfoldable pub entered : Call → State → Ledger → Ledger
+  entered (local c) st l = l
+  entered (save c) st l = noted (headersOf geo c st) (dispatch geo (save c) st .orders) l
+  entered (cut ms) st l =
+      cond (eqb (dispatch geo (cut ms) st .answer) 0) (settledBy (resolved ms (l .pending) (l .written))) l
 
--- ---- the log found, and the exception
+  -- ---- the log found, and the exception
 
--- the first n entries, by the header on the card
-unfoldable pub logFound : State → List Entry
-logFound st = entries (st .settled) (headerOf (st .settled) .count)
+  -- the first n entries, by the header on the card
+  unfoldable pub logFound : State → List Entry
+  logFound st = entries geo (st .settled) (headerOf (st .settled) .count)

@@ -8,27 +8,29 @@ use Rattle.store.specs.State.{State}
 use Rattle.store.specs.CodeState.{stateOf}
 use Rattle.store.specs.Format.{formatCall}
 use Rattle.firmware.specs.Face.{encodeRecord, decodeRecord, Face, faceOf, faced, gotIn, got}
+use Rattle.journal.specs.Geometry.{Geometry}
 use Rattle.history.specs.Call.{Call, local, save, cut, power, put, commit, abandon}
 use Rattle.history.specs.Dispatch.{dispatch}
 use Rattle.history.specs.History.{begun, after}
 
--- "Each call gets the record and the settled, waiting and work bytes that the last one returned or left", the record as 36 bytes. A
--- get has no lent byte to change
-abbrev pub faceLocal : Local → Face → Face
-faceLocal (Local.power k) f = faced (dispatch (power k)) (f .rec) (f .settled) (f .waiting) (f .work)
-faceLocal (Local.put a b) f = faced (dispatch (put a b)) (f .rec) (f .settled) (f .waiting) (f .work)
-faceLocal (Local.get a) f = faceOf (got a (f .rec) (f .settled) (f .waiting) (f .work) .number) 0 (f .rec) (f .settled) (f .waiting) (f .work)
-faceLocal Local.commit f = faced (dispatch commit) (f .rec) (f .settled) (f .waiting) (f .work)
-faceLocal Local.abandon f = faced (dispatch abandon) (f .rec) (f .settled) (f .waiting) (f .work)
+module _ (geo : Geometry) where
+  -- "Each call gets the record and the settled, waiting and work bytes that the last one returned or left", the record as 36 bytes. A
+  -- get has no lent byte to change
+  abbrev pub faceLocal : Local → Face → Face
+  faceLocal (Local.power k) f = faced (dispatch geo (power k)) (f .rec) (f .settled) (f .waiting) (f .work)
+  faceLocal (Local.put a b) f = faced (dispatch geo (put a b)) (f .rec) (f .settled) (f .waiting) (f .work)
+  faceLocal (Local.get a) f = faceOf (got geo a (f .rec) (f .settled) (f .waiting) (f .work) .number) 0 (f .rec) (f .settled) (f .waiting) (f .work)
+  faceLocal Local.commit f = faced (dispatch geo commit) (f .rec) (f .settled) (f .waiting) (f .work)
+  faceLocal Local.abandon f = faced (dispatch geo abandon) (f .rec) (f .settled) (f .waiting) (f .work)
 
-abbrev pub faceNext : Call → Face → Face
-faceNext (local c) f = faceLocal c f
-faceNext (save c) f = faced (dispatch (save c)) (f .rec) (f .settled) (f .waiting) (f .work)
-faceNext (cut ms) f = faced (dispatch (cut ms)) (f .rec) (f .settled) (f .waiting) (f .work)
+  abbrev pub faceNext : Call → Face → Face
+  faceNext (local c) f = faceLocal c f
+  faceNext (save c) f = faced (dispatch geo (save c)) (f .rec) (f .settled) (f .waiting) (f .work)
+  faceNext (cut ms) f = faced (dispatch geo (cut ms)) (f .rec) (f .settled) (f .waiting) (f .work)
 
-unfoldable pub faceAfter : List Call → Face → Face
-faceAfter [] f = f
-faceAfter (c ∷ cs) f = faceAfter cs (faceNext c f)
+  unfoldable pub faceAfter : List Call → Face → Face
+  faceAfter [] f = f
+  faceAfter (c ∷ cs) f = faceAfter cs (faceNext c f)
 
 -- a count that C can pass is a 4-byte number
 abbrev pub Passable : Call → Type 0
@@ -45,15 +47,16 @@ pub record BytesOf (f : Face) (st : State) : Type 0 where
   pub waiting : f .waiting ≡ st .waiting
   pub work : f .work ≡ st .work
 
--- a call through C: the store's number, its orders, the place of a get, and the bytes of what it leaves
-pub record Links (c : Call) (f : Face) (st : State) : Type 0 where
-  pub number : faceNext c f .number ≡ dispatch c st .answer
-  pub orders : faceNext c f .orders ≡ dispatch c st .orders
-  pub place : (a : ℕ) → got a (f .rec) (f .settled) (f .waiting) (f .work) ≡ gotIn a st
-  pub left : BytesOf (faceNext c f) (dispatch c st .state)
+module _ (geo : Geometry) where
+  -- a call through C: the store's number, its orders, the place of a get, and the bytes of what it leaves
+  pub record Links (c : Call) (f : Face) (st : State) : Type 0 where
+    pub number : faceNext geo c f .number ≡ dispatch geo c st .answer
+    pub orders : faceNext geo c f .orders ≡ dispatch geo c st .orders
+    pub place : (a : ℕ) → got geo a (f .rec) (f .settled) (f .waiting) (f .work) ≡ gotIn geo a st
+    pub left : BytesOf (faceNext geo c f) (dispatch geo c st .state)
 
--- at every call of every list, from what a format through C that answers 0 left
-abbrev pub Linked : Type 0
-Linked =
-    (r s w k : List ℕ) → faced formatCall r s w k .number ≡ 0 → (cs : List Call) (c : Call) → AllPassable cs
-    → Links c (faceAfter cs (faced formatCall r s w k)) (after cs (begun (stateOf (decodeRecord r) s w k)) .store)
+  -- at every call of every list, from what a format through C that answers 0 left
+  abbrev pub Linked : Type 0
+  Linked =
+      (r s w k : List ℕ) → faced (formatCall geo) r s w k .number ≡ 0 → (cs : List Call) (c : Call) → AllPassable cs
+      → Links c (faceAfter geo cs (faced (formatCall geo) r s w k)) (after geo cs (begun geo (stateOf (decodeRecord r) s w k)) .store)

@@ -8,7 +8,8 @@ use lib.ListN.{length, replicate}
 use Rattle.cells.specs.Entry.{blockBytes, Entry}
 use Rattle.card.specs.Disk.{Disk, overlay}
 use Rattle.card.specs.Marks.{marksFit, keptAt}
-use Rattle.journal.specs.Layout.{slots, isData}
+use Rattle.journal.specs.Geometry.{Geometry}
+use Rattle.journal.specs.Layout.{isData}
 use Rattle.store.specs.Local as Local
 use Rattle.store.specs.Local.{Local}
 use Rattle.store.specs.Save as Save
@@ -92,39 +93,42 @@ merge (e ∷ es) g = merge es (insert e g)
 abbrev pub whenOpen : Plain → ℕ → ℕ
 whenOpen d rest = cond (eqb (d .mode) 0) 3 (cond (eqb (d .mode) 2) 4 rest)
 
-unfoldable pub refusal : Call → Plain → ℕ
-refusal (local (Local.power k)) d = 0
-refusal (local (Local.put a b)) d =
-    cond (not (eqb (length b) blockBytes)) 1
-    (whenOpen d (cond (not (isData (d .N) a)) 6 (cond (not (has a (d .T)) && leb slots (length (d .T))) 7 0)))
-refusal (local (Local.get a)) d = whenOpen d (cond (not (isData (d .N) a)) 6 0)
-refusal (local Local.commit) d = whenOpen d (cond (ltb slots (length (merge (d .T) (d .G)))) 7 0)
-refusal (local Local.abandon) d = whenOpen d 0
-refusal (save Save.sync) d = whenOpen d 0
-refusal (save Save.apply) d = whenOpen d 0
-refusal (save Save.recover) d = cond (eqb (d .mode) 2) 4 (cond (eqb (d .mode) 1) 5 0)
-refusal (cut ms) d = cond (not (marksFit ms (d .waiting))) 10 0
+module _ (geo : Geometry) where
+  unfoldable pub refusal : Call → Plain → ℕ
+  refusal (local (Local.power k)) d = 0
+  refusal (local (Local.put a b)) d =
+      cond (not (eqb (length b) blockBytes)) 1
+      (whenOpen d (cond (not (isData geo (d .N) a)) 6 (cond (not (has a (d .T)) && leb (geo .slots) (length (d .T))) 7 0)))
+  refusal (local (Local.get a)) d = whenOpen d (cond (not (isData geo (d .N) a)) 6 0)
+  refusal (local Local.commit) d = whenOpen d (cond (ltb (geo .slots) (length (merge (d .T) (d .G)))) 7 0)
+  refusal (local Local.abandon) d = whenOpen d 0
+  refusal (save Save.sync) d = whenOpen d 0
+  refusal (save Save.apply) d = whenOpen d 0
+  refusal (save Save.recover) d = cond (eqb (d .mode) 2) 4 (cond (eqb (d .mode) 1) 5 0)
+  refusal (cut ms) d = cond (not (marksFit ms (d .waiting))) 10 0
 
--- ---- orders
+  -- ---- orders
 
--- "If n+m > 32, apply runs first"
-abbrev pub applies : ℕ → ℕ → Bool
-applies n m = not (leb (n + m) slots)
+  -- "If n+m > 32, apply runs first"
+  abbrev pub applies : ℕ → ℕ → Bool
+  applies n m = not (leb (n + m) (geo .slots))
 
 -- "n+3 orders", "m+3 orders"
 abbrev pub applyTakes : ℕ → ℕ
 applyTakes n = n + 3
 
-abbrev pub syncTakes : ℕ → ℕ → ℕ
-syncTakes n m = cond (applies n m) (applyTakes n + (m + 3)) (m + 3)
+module _ (geo : Geometry) where
+  abbrev pub syncTakes : ℕ → ℕ → ℕ
+  syncTakes n m = cond (applies geo n m) (applyTakes n + (m + 3)) (m + 3)
 
 -- the waiting writes after k orders of an apply: n home blocks, flush, header, flush
 abbrev pub applyWaits : ℕ → ℕ → ℕ
 applyWaits n k = cond (leb k n) k (cond (eqb k (n + 2)) 1 0)
 
--- after k orders of a sync that is cut short: m log blocks, the descriptor, the header
-abbrev pub syncWaits : ℕ → ℕ → ℕ → ℕ
-syncWaits n m k = cond (applies n m) (cond (ltb k (applyTakes n)) (applyWaits n k) (k - applyTakes n)) k
+module _ (geo : Geometry) where
+  -- after k orders of a sync that is cut short: m log blocks, the descriptor, the header
+  abbrev pub syncWaits : ℕ → ℕ → ℕ → ℕ
+  syncWaits n m k = cond (applies geo n m) (cond (ltb k (applyTakes n)) (applyWaits n k) (k - applyTakes n)) k
 
 -- ---- the choice at a cut, in numbers: n, F, and whether G is laid over S
 
@@ -148,15 +152,16 @@ unfoldable pub ownVerdict : ℕ → ℕ → Bool → Bool → Verdict
 ownVerdict n m kept found =
     cond (kept && found) (record { n = n + m; F = false; laid = true }) (unchanged n kept)
 
--- "chooses by the last header write of the call cut short"
-unfoldable pub verdict : Short → ℕ → ℕ → Bool → Bool → Bool → Verdict
-verdict none n m F kept found = unchanged n F
-verdict (ofRecover k) n m F kept found = cond (eqb k 0) (unchanged n F) (unchanged n (not kept))
-verdict (ofApply k) n m F kept found = applyVerdict k n F kept
-verdict (ofSync k) n m F kept found =
-    cond (applies n m)
-    (cond (eqb k (applyTakes n + (m + 2))) (ownVerdict 0 m kept found) (applyVerdict k n F kept))
-    (cond (eqb k (m + 2)) (ownVerdict n m kept found) (unchanged n F))
+module _ (geo : Geometry) where
+  -- "chooses by the last header write of the call cut short"
+  unfoldable pub verdict : Short → ℕ → ℕ → Bool → Bool → Bool → Verdict
+  verdict none n m F kept found = unchanged n F
+  verdict (ofRecover k) n m F kept found = cond (eqb k 0) (unchanged n F) (unchanged n (not kept))
+  verdict (ofApply k) n m F kept found = applyVerdict k n F kept
+  verdict (ofSync k) n m F kept found =
+      cond (applies geo n m)
+      (cond (eqb k (applyTakes n + (m + 2))) (ownVerdict 0 m kept found) (applyVerdict k n F kept))
+      (cond (eqb k (m + 2)) (ownVerdict n m kept found) (unchanged n F))
 
 -- ---- the steps
 
@@ -180,20 +185,21 @@ spent k d = withPower (d .power - k) d
 abbrev pub cutShort : Short → ℕ → Plain → Done
 cutShort short waits d = record { answer = 4; orders = d .power; plain = inMode 2 (withPower 0 (withWaiting waits (withShort short d))) }
 
--- "sync puts G over S, empties G and adds m to n, after n = 0 if it applied"
-abbrev pub synced : Plain → Plain
-synced d =
-    withS (overlay (d .G) (d .S))
-    (withLists [] (d .T)
-    (withCount (cond (applies (d .n) (length (d .G))) 0 (d .n) + length (d .G))
-    (spent (syncTakes (d .n) (length (d .G))) d)))
+module _ (geo : Geometry) where
+  -- "sync puts G over S, empties G and adds m to n, after n = 0 if it applied"
+  abbrev pub synced : Plain → Plain
+  synced d =
+      withS (overlay (d .G) (d .S))
+      (withLists [] (d .T)
+      (withCount (cond (applies geo (d .n) (length (d .G))) 0 (d .n) + length (d .G))
+      (spent (syncTakes geo (d .n) (length (d .G))) d)))
 
-unfoldable pub plainSync : Plain → Done
-plainSync d =
-    let m = length (d .G) in
-    cond (eqb m 0) (still d)
-    (cond (leb (syncTakes (d .n) m) (d .power)) (done (syncTakes (d .n) m) (synced d))
-    (cutShort (ofSync (d .power)) (syncWaits (d .n) m (d .power)) d))
+  unfoldable pub plainSync : Plain → Done
+  plainSync d =
+      let m = length (d .G) in
+      cond (eqb m 0) (still d)
+      (cond (leb (syncTakes geo (d .n) m) (d .power)) (done (syncTakes geo (d .n) m) (synced d))
+      (cutShort (ofSync (d .power)) (syncWaits geo (d .n) m (d .power)) d))
 
 -- "apply sets n = 0"
 abbrev pub cleared : Plain → Plain
@@ -222,11 +228,12 @@ headerKept ms waiting = keptAt ms (waiting - 1)
 abbrev pub closedWith : Disk → ℕ → Bool → Plain → Plain
 closedWith S n F d = withS S (withLists [] [] (withCount n (withF F (inMode 0 (withWaiting 0 (withShort none d))))))
 
--- It is fed whether the log found is the log written
-unfoldable pub plainCut : List ℕ → Bool → Plain → Done
-plainCut ms found d =
-    let v = verdict (d .short) (d .n) (length (d .G)) (d .F) (headerKept ms (d .waiting)) found in
-    still (closedWith (cond (v .laid) (overlay (d .G) (d .S)) (d .S)) (v .n) (v .F) d)
+module _ (geo : Geometry) where
+  -- It is fed whether the log found is the log written
+  unfoldable pub plainCut : List ℕ → Bool → Plain → Done
+  plainCut ms found d =
+      let v = verdict geo (d .short) (d .n) (length (d .G)) (d .F) (headerKept ms (d .waiting)) found in
+      still (closedWith (cond (v .laid) (overlay (d .G) (d .S)) (d .S)) (v .n) (v .F) d)
 
 -- a local call: "put, commit, abandon, get […] are as above"
 abbrev pub locally : Local → Plain → Plain
@@ -236,20 +243,21 @@ locally (Local.get a) d = d
 locally Local.commit d = withLists (merge (d .T) (d .G)) [] d
 locally Local.abandon d = withLists (d .G) [] d
 
-abbrev pub saving : Save → Plain → Done
-saving Save.sync d = plainSync d
-saving Save.apply d = plainApply d
-saving Save.recover d = plainRecover d
+module _ (geo : Geometry) where
+  abbrev pub saving : Save → Plain → Done
+  saving Save.sync d = plainSync geo d
+  saving Save.apply d = plainApply d
+  saving Save.recover d = plainRecover d
 
--- a call that is not refused
-abbrev pub served : Call → Bool → Plain → Done
-served (local c) found d = still (locally c d)
-served (save c) found d = saving c d
-served (cut ms) found d = plainCut ms found d
+  -- a call that is not refused
+  abbrev pub served : Call → Bool → Plain → Done
+  served (local c) found d = still (locally c d)
+  served (save c) found d = saving c d
+  served (cut ms) found d = plainCut geo ms found d
 
-unfoldable pub plainStep : Call → Bool → Plain → Done
-plainStep c found d =
-    cond (eqb (refusal c d) 0) (served c found d) (record { answer = refusal c d; orders = 0; plain = d })
+  unfoldable pub plainStep : Call → Bool → Plain → Done
+  plainStep c found d =
+      cond (eqb (refusal geo c d) 0) (served c found d) (record { answer = refusal geo c d; orders = 0; plain = d })
 
 -- "get reading T, then G, then S"
 unfoldable pub plainGet : ℕ → Plain → List ℕ

@@ -10,6 +10,7 @@ use lib.ListN.{length, take}
 use Rattle.cells.specs.Little.{Bytes}
 use Rattle.fnv.specs.Fnv.{start}
 use Rattle.card.specs.Card.{Order, write, flush, blockAt, run}
+use Rattle.journal.specs.Geometry.{Geometry}
 use Rattle.journal.specs.Layout.{wrongSize}
 use Rattle.journal.specs.Orders.{applyOrders, syncOrders}
 use Rattle.journal.specs.Choice.{choose, choiceNumber, recoverOrders}
@@ -30,18 +31,19 @@ use Rattle.history.specs.Scripts.{ByCall}
 
 -- ---- the ten calls
 
--- the orders of a save
-abbrev pub saveOrders : Save → State → List Order
-saveOrders Save.sync st = syncOrders (st .rec .blocks) (st .settled) (st .rec .logged) (st .rec .sum) (groupOf st)
-saveOrders Save.apply st = applyOrders (st .rec .blocks) (st .settled) (st .rec .logged)
-saveOrders Save.recover st = recoverOrders (st .rec .blocks) (choose (st .rec .blocks) (st .settled))
+module _ (geo : Geometry) where
+  -- the orders of a save
+  abbrev pub saveOrders : Save → State → List Order
+  saveOrders Save.sync st = syncOrders geo (st .rec .blocks) (st .settled) (st .rec .logged) (st .rec .sum) (groupOf geo st)
+  saveOrders Save.apply st = applyOrders geo (st .rec .blocks) (st .settled) (st .rec .logged)
+  saveOrders Save.recover st = recoverOrders (st .rec .blocks) (choose geo (st .rec .blocks) (st .settled))
 
--- the orders of a call
-abbrev pub ordersOf : Request.Request → State → List Order
-ordersOf Request.format st = []
-ordersOf (Request.local c) st = []
-ordersOf (Request.save c) st = saveOrders c st
-ordersOf (Request.cut ms) st = []
+  -- the orders of a call
+  abbrev pub ordersOf : Request.Request → State → List Order
+  ordersOf Request.format st = []
+  ordersOf (Request.local c) st = []
+  ordersOf (Request.save c) st = saveOrders c st
+  ordersOf (Request.cut ms) st = []
 
 -- no order writes to the block
 unfoldable pub untouched : ℕ → List Order → Bool
@@ -49,78 +51,79 @@ untouched x [] = true
 untouched x (write e ∷ os) = not (eqb x (e .address)) && untouched x os
 untouched x (flush ∷ os) = untouched x os
 
--- "a sync's apply", and "all that apply's orders happened": n+3 of them
-abbrev pub innerDone : State → Bool
-innerDone st = applies st && leb (st .rec .logged + 3) (st .rec .power)
+module _ (geo : Geometry) where
+  -- "a sync's apply", and "all that apply's orders happened": n+3 of them
+  abbrev pub innerDone : State → Bool
+  innerDone st = applies geo st && leb (st .rec .logged + 3) (st .rec .power)
 
--- "power gone in the call": 4, the power there was as orders. "the record is down, its n and sum as before the call, or as a sync's
--- apply left them if all that apply's orders happened"; N stays, and the power is gone. The card is what the orders carried out made of
--- it. Left are "group, open, and each block no order touched", of these: with no power every lent byte, and the record but for its mode
-pub record Gone (q : Request.Request) (st : State) : Type 0 where
-  pub answer : called q st .answer ≡ 4
-  pub orders : called q st .orders ≡ st .rec .power
-  pub down-now : called q st .state .rec .mode ≡ down
-  pub N : called q st .state .rec .blocks ≡ st .rec .blocks
-  pub emptied : q ≡ Request.sync → innerDone st ≡ true → (called q st .state .rec .logged ≡ 0) × (called q st .state .rec .sum ≡ start)
-  pub kept : (q ≡ Request.sync → innerDone st ≡ false)
-      → (called q st .state .rec .logged ≡ st .rec .logged) × (called q st .state .rec .sum ≡ st .rec .sum)
-  pub power : called q st .state .rec .power ≡ 0
-  pub work : called q st .state .work ≡ st .work
-  pub open-count : called q st .state .rec .opened ≡ st .rec .opened
-  pub group-count : called q st .state .rec .grouped ≡ st .rec .grouped
-  pub card : cardIn (called q st .state) ≡ run (ordersOf q st) (cardIn st)
-  pub blocks : (x : ℕ) → untouched x (take (st .rec .power) (ordersOf q st)) ≡ true → blockAt (called q st .state .settled) x ≡ blockAt (st .settled) x
-  pub powerless : st .rec .power ≡ 0 → called q st .state ≡ withRecord (withMode down (st .rec)) st
+  -- "power gone in the call": 4, the power there was as orders. "the record is down, its n and sum as before the call, or as a sync's
+  -- apply left them if all that apply's orders happened"; N stays, and the power is gone. The card is what the orders carried out made of
+  -- it. Left are "group, open, and each block no order touched", of these: with no power every lent byte, and the record but for its mode
+  pub record Gone (q : Request.Request) (st : State) : Type 0 where
+    pub answer : called geo q st .answer ≡ 4
+    pub orders : called geo q st .orders ≡ st .rec .power
+    pub down-now : called geo q st .state .rec .mode ≡ down
+    pub N : called geo q st .state .rec .blocks ≡ st .rec .blocks
+    pub emptied : q ≡ Request.sync → innerDone st ≡ true → (called geo q st .state .rec .logged ≡ 0) × (called geo q st .state .rec .sum ≡ start)
+    pub kept : (q ≡ Request.sync → innerDone st ≡ false)
+        → (called geo q st .state .rec .logged ≡ st .rec .logged) × (called geo q st .state .rec .sum ≡ st .rec .sum)
+    pub power : called geo q st .state .rec .power ≡ 0
+    pub work : called geo q st .state .work ≡ st .work
+    pub open-count : called geo q st .state .rec .opened ≡ st .rec .opened
+    pub group-count : called geo q st .state .rec .grouped ≡ st .rec .grouped
+    pub card : cardIn (called geo q st .state) ≡ run (ordersOf geo q st) (cardIn st)
+    pub blocks : (x : ℕ) → untouched x (take (st .rec .power) (ordersOf geo q st)) ≡ true → blockAt (called geo q st .state .settled) x ≡ blockAt (st .settled) x
+    pub powerless : st .rec .power ≡ 0 → called geo q st .state ≡ withRecord (withMode down (st .rec)) st
 
--- the answer is the number of the first row that applies, which leaves everything; 4 if an order is reached that can't happen; else 0
-pub record Answers (q : Request.Request) (st : State) : Type 0 where
-  pub refuses : cause q st ≢ 0 → called q st ≡ refused (cause q st) st
-  pub gone : cause q st ≡ 0 → leb (length (ordersOf q st)) (st .rec .power) ≡ false → Gone q st
-  pub serves : cause q st ≡ 0 → leb (length (ordersOf q st)) (st .rec .power) ≡ true → (called q st .answer ≡ 0) × (called q st .orders ≡ length (ordersOf q st))
-  pub two-suffice : called Request.recover st .orders ≤ 2
+  -- the answer is the number of the first row that applies, which leaves everything; 4 if an order is reached that can't happen; else 0
+  pub record Answers (q : Request.Request) (st : State) : Type 0 where
+    pub refuses : cause geo q st ≢ 0 → called geo q st ≡ refused (cause geo q st) st
+    pub gone : cause geo q st ≡ 0 → leb (length (ordersOf geo q st)) (st .rec .power) ≡ false → Gone q st
+    pub serves : cause geo q st ≡ 0 → leb (length (ordersOf geo q st)) (st .rec .power) ≡ true → (called geo q st .answer ≡ 0) × (called geo q st .orders ≡ length (ordersOf geo q st))
+    pub two-suffice : called geo Request.recover st .orders ≤ 2
 
--- "A refused get hands out a part of no bytes": the part that get promises, of whatever slices
-pub record NoPart (a : ℕ) (st : State) : Type 0 where
-  pub block : cause (Request.get a) st ≢ 0 → blockOf a st ≡ []
-  pub part : cause (Request.get a) st ≢ 0 → (settled work : RefT (List ℕ)) → partAt (getPlace a st) settled work .bytes ≡ []
+  -- "A refused get hands out a part of no bytes": the part that get promises, of whatever slices
+  pub record NoPart (a : ℕ) (st : State) : Type 0 where
+    pub block : cause geo (Request.get a) st ≢ 0 → blockOf geo a st ≡ []
+    pub part : cause geo (Request.get a) st ≢ 0 → (settled work : RefT (List ℕ)) → partAt (getPlace geo a st) settled work .bytes ≡ []
 
--- ---- tally and alike: "refuse 1, 8, 9", and "the first one's refusal first"
+  -- ---- tally and alike: "refuse 1, 8, 9", and "the first one's refusal first"
 
--- what makes a card refused: its size, then the choice of recover
-pub record Inspects (s : List ℕ) : Type 0 where
-  pub size : wrongSize s ≡ true → inspection s ≡ 1
-  pub unsound : wrongSize s ≡ false → inspection s ≡ choiceNumber (chosen s)
-  pub known : (inspection s ≢ 0) → (inspection s ≡ 1) ⊎ ((inspection s ≡ 8) ⊎ (inspection s ≡ 9))
+  -- what makes a card refused: its size, then the choice of recover
+  pub record Inspects (s : List ℕ) : Type 0 where
+    pub size : wrongSize geo s ≡ true → inspection geo s ≡ 1
+    pub unsound : wrongSize geo s ≡ false → inspection geo s ≡ choiceNumber (chosen geo s)
+    pub known : (inspection geo s ≢ 0) → (inspection geo s ≡ 1) ⊎ ((inspection geo s ≡ 8) ⊎ (inspection geo s ≡ 9))
 
--- a refusal hands out no sum and no yes
-pub record Reads (a b : List ℕ) : Type 0 where
-  pub inspects : Inspects a
-  pub tally-refuses : inspection a ≢ 0 → tallyOf a ≡ tallied (inspection a) 0
-  pub tally-serves : inspection a ≡ 0 → tallyOf a .number ≡ 0
-  pub alike-first : inspection a ≢ 0 → compared a b ≡ comparedOf (inspection a) 0
-  pub alike-second : inspection a ≡ 0 → inspection b ≢ 0 → compared a b ≡ comparedOf (inspection b) 0
-  pub alike-serves : inspection a ≡ 0 → inspection b ≡ 0 → compared a b .number ≡ 0
+  -- a refusal hands out no sum and no yes
+  pub record Reads (a b : List ℕ) : Type 0 where
+    pub inspects : Inspects a
+    pub tally-refuses : inspection geo a ≢ 0 → tallyOf geo a ≡ tallied (inspection geo a) 0
+    pub tally-serves : inspection geo a ≡ 0 → tallyOf geo a .number ≡ 0
+    pub alike-first : inspection geo a ≢ 0 → compared geo a b ≡ comparedOf (inspection geo a) 0
+    pub alike-second : inspection geo a ≡ 0 → inspection geo b ≢ 0 → compared geo a b ≡ comparedOf (inspection geo b) 0
+    pub alike-serves : inspection geo a ≡ 0 → inspection geo b ≡ 0 → compared geo a b .number ≡ 0
 
--- ---- what C sees: "another length is 1", which leaves every byte; else the number of the call, and a cause leaves every byte, those
--- of the record too
+  -- ---- what C sees: "another length is 1", which leaves every byte; else the number of the call, and a cause leaves every byte, those
+  -- of the record too
 
-pub record Faces (q : Request.Request) (r s w k : List ℕ) : Type 0 where
-  pub size : length r ≢ recordBytes → faced (called q) r s w k ≡ faceOf 1 0 r s w k
-  pub answers : length r ≡ recordBytes → faced (called q) r s w k .number ≡ called q (stateOf (decodeRecord r) s w k) .answer
-  pub refuses : length r ≡ recordBytes → Bytes r → cause q (stateOf (decodeRecord r) s w k) ≢ 0
-      → faced (called q) r s w k ≡ faceOf (cause q (stateOf (decodeRecord r) s w k)) 0 r s w k
+  pub record Faces (q : Request.Request) (r s w k : List ℕ) : Type 0 where
+    pub size : length r ≢ recordBytes → faced (called geo q) r s w k ≡ faceOf 1 0 r s w k
+    pub answers : length r ≡ recordBytes → faced (called geo q) r s w k .number ≡ called geo q (stateOf (decodeRecord r) s w k) .answer
+    pub refuses : length r ≡ recordBytes → Bytes r → cause geo q (stateOf (decodeRecord r) s w k) ≢ 0
+        → faced (called geo q) r s w k ≡ faceOf (cause geo q (stateOf (decodeRecord r) s w k)) 0 r s w k
 
--- a get that is refused hands out no place
-pub record Gets (a : ℕ) (r s w k : List ℕ) : Type 0 where
-  pub size : length r ≢ recordBytes → got a r s w k ≡ gotOf 1 0 0
-  pub refuses : length r ≡ recordBytes → cause (Request.get a) (stateOf (decodeRecord r) s w k) ≢ 0
-      → got a r s w k ≡ gotOf (cause (Request.get a) (stateOf (decodeRecord r) s w k)) 0 0
-  pub serves : length r ≡ recordBytes → cause (Request.get a) (stateOf (decodeRecord r) s w k) ≡ 0 → got a r s w k .number ≡ 0
+  -- a get that is refused hands out no place
+  pub record Gets (a : ℕ) (r s w k : List ℕ) : Type 0 where
+    pub size : length r ≢ recordBytes → got geo a r s w k ≡ gotOf 1 0 0
+    pub refuses : length r ≡ recordBytes → cause geo (Request.get a) (stateOf (decodeRecord r) s w k) ≢ 0
+        → got geo a r s w k ≡ gotOf (cause geo (Request.get a) (stateOf (decodeRecord r) s w k)) 0 0
+    pub serves : length r ≡ recordBytes → cause geo (Request.get a) (stateOf (decodeRecord r) s w k) ≡ 0 → got geo a r s w k .number ≡ 0
 
-pub record Refusals : Type 0 where
-  pub calls : (q : Request.Request) (st : State) → Answers q st
-  pub parts : (a : ℕ) (st : State) → NoPart a st
-  pub lines : (l : List ℕ) (st : State) → ByCall l st
-  pub reads : (a b : List ℕ) → Reads a b
-  pub faces : (q : Request.Request) (r s w k : List ℕ) → Faces q r s w k
-  pub gets : (a : ℕ) (r s w k : List ℕ) → Gets a r s w k
+  pub record Refusals : Type 0 where
+    pub calls : (q : Request.Request) (st : State) → Answers q st
+    pub parts : (a : ℕ) (st : State) → NoPart a st
+    pub lines : (l : List ℕ) (st : State) → ByCall l st
+    pub reads : (a b : List ℕ) → Reads a b
+    pub faces : (q : Request.Request) (r s w k : List ℕ) → Faces q r s w k
+    pub gets : (a : ℕ) (r s w k : List ℕ) → Gets a r s w k

@@ -18,9 +18,11 @@ use Rattle.script.specs.Commands.{parse}
 use Rattle.script.specs.Answers.{answerLine}
 use Rattle.script.specs.Replies.{marks}
 use Rattle.script.specs.Transcript.{linesOf, reply, printed, said, beginning, transcript}
+use Rattle.journal.specs.Geometry.{trap}
 use Rattle.history.specs.Call.{Call, local, save, cut, power, put, get, commit, abandon, sync, apply, recover}
 use Rattle.history.specs.Dispatch.{called, dispatch, blockOf}
 use Rattle.history.specs.History.{World, begun, next}
+
 
 -- ---- a line
 
@@ -51,13 +53,13 @@ says l = saysOf (parse l) l
 abbrev pub firstByte : Local → State → ℕ
 firstByte (Local.power k) st = 0
 firstByte (Local.put a b) st = 0
-firstByte (Local.get a) st = cond (eqb (dispatch (get a) st .answer) 0) (getD (blockOf a st) 0 0) 0
+firstByte (Local.get a) st = cond (eqb (dispatch trap (get a) st .answer) 0) (getD (blockOf trap a st) 0 0) 0
 firstByte Local.commit st = 0
 firstByte Local.abandon st = 0
 
 abbrev pub thirdOf : Call → State → ℕ
 thirdOf (local c) st = firstByte c st
-thirdOf (save c) st = dispatch (save c) st .orders
+thirdOf (save c) st = dispatch trap (save c) st .orders
 thirdOf (cut ms) st = 0
 
 -- "bad", 11, 0, parted by tabs and ended by LF
@@ -66,13 +68,13 @@ badLine = 98 ∷ 97 ∷ 100 ∷ 9 ∷ 49 ∷ 49 ∷ 9 ∷ 48 ∷ 10 ∷ []
 
 abbrev pub lineOf : Says → Command → State → List ℕ
 lineOf nothing c st = badLine
-lineOf begins c st = answerLine c (called Request.format st .answer) 0
-lineOf (asks q) c st = answerLine c (dispatch q st .answer) (thirdOf q st)
+lineOf begins c st = answerLine c (called trap Request.format st .answer) 0
+lineOf (asks q) c st = answerLine c (dispatch trap q st .answer) (thirdOf q st)
 
 abbrev pub leftBy : Says → State → State
 leftBy nothing st = st
-leftBy begins st = called Request.format st .state
-leftBy (asks q) st = dispatch q st .state
+leftBy begins st = called trap Request.format st .state
+leftBy (asks q) st = dispatch trap q st .state
 
 -- "script line not understood": 11, printed, and everything is left; every other line is its call
 pub record ByCall (l : List ℕ) (st : State) : Type 0 where
@@ -89,8 +91,8 @@ leftAfter (l ∷ ls) st = leftAfter ls (reply l st .state)
 -- a line along a list of calls: a format begins another
 abbrev pub worldBy : Says → World → World
 worldBy nothing w = w
-worldBy begins w = begun (w .store)
-worldBy (asks c) w = next c w
+worldBy begins w = begun trap (w .store)
+worldBy (asks c) w = next trap c w
 
 -- what lines print so
 unfoldable pub told : List (List ℕ) → World → List ℕ
@@ -100,9 +102,9 @@ told (l ∷ ls) w = lineOf (says l) (parse l) (w .store) ++ told ls (worldBy (sa
 -- For every input: a format always answers 0, and what the lines behind it print is what their calls come to along the list of calls
 -- that begins with it, up to the next format, which begins another
 pub record ScriptRun (ls ms : List (List ℕ)) : Type 0 where
-  pub formats : formatCall (leftAfter ls beginning) .answer ≡ 0
+  pub formats : formatCall trap (leftAfter ls beginning) .answer ≡ 0
   pub prints : (f : List ℕ) → parse f ≡ Format → (input : List ℕ) → linesOf input ≡ ls ++ (f ∷ ms)
-      → transcript input ≡ said ls beginning ++ (answerLine Format 0 0 ++ told ms (begun (leftAfter ls beginning)))
+      → transcript input ≡ said ls beginning ++ (answerLine Format 0 0 ++ told ms (begun trap (leftAfter ls beginning)))
 
 abbrev pub ScriptsAreHistories : Type 0
 ScriptsAreHistories = (ls ms : List (List ℕ)) → ScriptRun ls ms

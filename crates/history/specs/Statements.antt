@@ -12,6 +12,7 @@ use Rattle.fnv.specs.Fnv.{start}
 use Rattle.card.specs.Disk.{Disk, overlay}
 use Rattle.card.specs.Card.{blocksIn, blockAt}
 use Rattle.card.specs.Marks.{keptAt, allKept}
+use Rattle.journal.specs.Geometry.{Geometry}
 use Rattle.journal.specs.Layout.{headerAt, isData}
 use Rattle.journal.specs.Header.{encode, header}
 use Rattle.journal.specs.Log.{headerOf, entries, sumOf}
@@ -28,113 +29,115 @@ use Rattle.history.specs.History.{World, begun, next, after, storeNext, 
 
 -- ---- Safety, exceptions included
 
--- every state passes checks 1 and 2; no call is refused 1 or 2 but for its own arguments; "recover is never refused 8 or 9 there"
-pub record Sound (st : State) : Type 0 where
-  pub sizes : wrongSizes st ≡ false
-  pub counts : wrongRecord st ≡ false
-  pub own : (c : Call) → dispatch c st .answer ≡ 1 → wrongBlock (requestOf c) ≡ true
-  pub never-two : (c : Call) → dispatch c st .answer ≢ 2
-  pub never-eight : dispatch recover st .answer ≢ 8
-  pub never-nine : dispatch recover st .answer ≢ 9
+module _ (geo : Geometry) where
+  -- every state passes checks 1 and 2; no call is refused 1 or 2 but for its own arguments; "recover is never refused 8 or 9 there"
+  pub record Sound (st : State) : Type 0 where
+    pub sizes : wrongSizes geo st ≡ false
+    pub counts : wrongRecord geo st ≡ false
+    pub own : (c : Call) → dispatch geo c st .answer ≡ 1 → wrongBlock geo (requestOf c) ≡ true
+    pub never-two : (c : Call) → dispatch geo c st .answer ≢ 2
+    pub never-eight : dispatch geo recover st .answer ≢ 8
+    pub never-nine : dispatch geo recover st .answer ≢ 9
 
-abbrev pub Safety : Type 0
-Safety = (st : State) → formatCall st .answer ≡ 0 → (cs : List Call) → Sound (after cs (begun st) .store)
+  abbrev pub Safety : Type 0
+  Safety = (st : State) → formatCall geo st .answer ≡ 0 → (cs : List Call) → Sound (after geo cs (begun geo st) .store)
 
--- ---- Refinement (demand 2)
+  -- ---- Refinement (demand 2)
 
--- "At each call of a list the store gives the plain disk's answer, orders handed back […], block from a get and, when open, n"
-pub record Agrees (c : Call) (w : World) : Type 0 where
-  pub answer : dispatch c (w .store) .answer ≡ plainStep c (foundWritten c w) (w .plain) .answer
-  pub orders : dispatch c (w .store) .orders ≡ plainStep c (foundWritten c w) (w .plain) .orders
-  pub block : (a : ℕ) → c ≡ get a → dispatch c (w .store) .answer ≡ 0 → blockOf a (w .store) ≡ plainGet a (w .plain)
-  pub mode : storeNext c w .rec .mode ≡ plainStep c (foundWritten c w) (w .plain) .plain .mode
-  pub power : storeNext c w .rec .power ≡ plainStep c (foundWritten c w) (w .plain) .plain .power
-  pub waiting : storeNext c w .rec .waiting ≡ plainStep c (foundWritten c w) (w .plain) .plain .waiting
-  pub n : storeNext c w .rec .mode ≡ openMode → storeNext c w .rec .logged ≡ plainStep c (foundWritten c w) (w .plain) .plain .n
+  -- "At each call of a list the store gives the plain disk's answer, orders handed back […], block from a get and, when open, n"
+  pub record Agrees (c : Call) (w : World) : Type 0 where
+    pub answer : dispatch geo c (w .store) .answer ≡ plainStep geo c (foundWritten geo c w) (w .plain) .answer
+    pub orders : dispatch geo c (w .store) .orders ≡ plainStep geo c (foundWritten geo c w) (w .plain) .orders
+    pub block : (a : ℕ) → c ≡ get a → dispatch geo c (w .store) .answer ≡ 0 → blockOf geo a (w .store) ≡ plainGet a (w .plain)
+    pub mode : storeNext geo c w .rec .mode ≡ plainStep geo c (foundWritten geo c w) (w .plain) .plain .mode
+    pub power : storeNext geo c w .rec .power ≡ plainStep geo c (foundWritten geo c w) (w .plain) .plain .power
+    pub waiting : storeNext geo c w .rec .waiting ≡ plainStep geo c (foundWritten geo c w) (w .plain) .plain .waiting
+    pub n : storeNext geo c w .rec .mode ≡ openMode → storeNext geo c w .rec .logged ≡ plainStep geo c (foundWritten geo c w) (w .plain) .plain .n
 
--- "the exception of demand 3 apart": at every call with no exception at a cut before it
-abbrev pub Refinement : Type 0
-Refinement = (st : State) → formatCall st .answer ≡ 0 → (cs : List Call) (c : Call) → after cs (begun st) .excepted ≡ false → Agrees c (after cs (begun st))
+  -- "the exception of demand 3 apart": at every call with no exception at a cut before it
+  abbrev pub Refinement : Type 0
+  Refinement = (st : State) → formatCall geo st .answer ≡ 0 → (cs : List Call) (c : Call) → after geo cs (begun geo st) .excepted ≡ false → Agrees c (after geo cs (begun geo st))
 
--- ---- Log read back (demand 2)
+  -- ---- Log read back (demand 2)
 
--- no call of the list is an accepted cut
-unfoldable pub noCut : List Call → World → Bool
-noCut [] w = true
-noCut (c ∷ cs) w = not (acceptedCut c w) && noCut cs (next c w)
+  -- no call of the list is an accepted cut
+  unfoldable pub noCut : List Call → World → Bool
+  noCut [] w = true
+  noCut (c ∷ cs) w = not (acceptedCut geo c w) && noCut cs (next geo c w)
 
--- the list taken by a recover that left r, where the last accepted cut left w
-abbrev pub Taken : World → State → Type 0
-Taken w r =
-    entries (r .settled) (r .rec .logged)
-    ≡ cond (sameLog (logFound (w .store)) (w .ledger .written)) (w .ledger .written) (take (headerOf (w .store .settled) .previous) (w .ledger .written))
+  -- the list taken by a recover that left r, where the last accepted cut left w
+  abbrev pub Taken : World → State → Type 0
+  Taken w r =
+      entries geo (r .settled) (r .rec .logged)
+      ≡ cond (sameLog (logFound geo (w .store)) (w .ledger .written)) (w .ledger .written) (take (headerOf (w .store .settled) .previous) (w .ledger .written))
 
--- a finished recover takes the log written by the header that the last accepted cut left, if the log found there was that log, else
--- its first p entries, p by that header
-abbrev pub ReadBack : Type 0
-ReadBack =
-    (st : State) → formatCall st .answer ≡ 0 → (cs : List Call) (ms : List ℕ) (ds : List Call)
-    → acceptedCut (cut ms) (after cs (begun st)) ≡ true
-    → noCut ds (next (cut ms) (after cs (begun st))) ≡ true
-    → after ds (next (cut ms) (after cs (begun st))) .excepted ≡ false
-    → dispatch recover (after ds (next (cut ms) (after cs (begun st))) .store) .answer ≡ 0
-    → Taken (next (cut ms) (after cs (begun st))) (dispatch recover (after ds (next (cut ms) (after cs (begun st))) .store) .state)
+  -- a finished recover takes the log written by the header that the last accepted cut left, if the log found there was that log, else
+  -- its first p entries, p by that header
+  abbrev pub ReadBack : Type 0
+  ReadBack =
+      (st : State) → formatCall geo st .answer ≡ 0 → (cs : List Call) (ms : List ℕ) (ds : List Call)
+      → acceptedCut geo (cut ms) (after geo cs (begun geo st)) ≡ true
+      → noCut ds (next geo (cut ms) (after geo cs (begun geo st))) ≡ true
+      → after geo ds (next geo (cut ms) (after geo cs (begun geo st))) .excepted ≡ false
+      → dispatch geo recover (after geo ds (next geo (cut ms) (after geo cs (begun geo st))) .store) .answer ≡ 0
+      → Taken (next geo (cut ms) (after geo cs (begun geo st))) (dispatch geo recover (after geo ds (next geo (cut ms) (after geo cs (begun geo st))) .store) .state)
 
 -- a check on the log written: at every accepted cut, exceptions included, it has the header's n entries and the header's sum of n
 pub record Summed (w : World) : Type 0 where
   pub count : headerOf (w .store .settled) .count ≡ length (w .ledger .written)
   pub sum : headerOf (w .store .settled) .sum ≡ sumOf start (w .ledger .written)
 
-abbrev pub WrittenSummed : Type 0
-WrittenSummed =
-    (st : State) → formatCall st .answer ≡ 0 → (cs : List Call) (ms : List ℕ)
-    → acceptedCut (cut ms) (after cs (begun st)) ≡ true
-    → Summed (next (cut ms) (after cs (begun st)))
+module _ (geo : Geometry) where
+  abbrev pub WrittenSummed : Type 0
+  WrittenSummed =
+      (st : State) → formatCall geo st .answer ≡ 0 → (cs : List Call) (ms : List ℕ)
+      → acceptedCut geo (cut ms) (after geo cs (begun geo st)) ≡ true
+      → Summed (next geo (cut ms) (after geo cs (begun geo st)))
 
--- what a finished sync of a nonempty group leaves on the card is the checksummed log: block 0 is the encoding of p and its sum, n and its
--- sum, zeros included, and the entries are the log before it (empty after an inner apply), then the group
-pub record Logged (s t : State) : Type 0 where
-  pub head : blockAt (t .settled) headerAt
-      ≡ encode (header (s .rec .blocks) (length (standing s)) (sumOf start (standing s)) (length (standing s ++ groupOf s)) (sumOf start (standing s ++ groupOf s)))
-  pub list : entries (t .settled) (length (standing s ++ groupOf s)) ≡ standing s ++ groupOf s
+  -- what a finished sync of a nonempty group leaves on the card is the checksummed log: block 0 is the encoding of p and its sum, n and its
+  -- sum, zeros included, and the entries are the log before it (empty after an inner apply), then the group
+  pub record Logged (s t : State) : Type 0 where
+    pub head : blockAt (t .settled) headerAt
+        ≡ encode (header (s .rec .blocks) (length (standing geo s)) (sumOf start (standing geo s)) (length (standing geo s ++ groupOf geo s)) (sumOf start (standing geo s ++ groupOf geo s)))
+    pub list : entries geo (t .settled) (length (standing geo s ++ groupOf geo s)) ≡ standing geo s ++ groupOf geo s
 
-abbrev pub Written : Type 0
-Written =
-    (st : State) → formatCall st .answer ≡ 0 → (cs : List Call)
-    → after cs (begun st) .store .rec .grouped ≢ 0
-    → dispatch sync (after cs (begun st) .store) .answer ≡ 0
-    → Logged (after cs (begun st) .store) (dispatch sync (after cs (begun st) .store) .state)
+  abbrev pub Written : Type 0
+  Written =
+      (st : State) → formatCall geo st .answer ≡ 0 → (cs : List Call)
+      → after geo cs (begun geo st) .store .rec .grouped ≢ 0
+      → dispatch geo sync (after geo cs (begun geo st) .store) .answer ≡ 0
+      → Logged (after geo cs (begun geo st) .store) (dispatch geo sync (after geo cs (begun geo st) .store) .state)
 
--- ---- Crash atomicity (demand 3)
+  -- ---- Crash atomicity (demand 3)
 
--- a finished sync or recovery
-unfoldable pub finished : Call → World → Bool
-finished (local c) w = false
-finished (save Save.sync) w = eqb (dispatch sync (w .store) .answer) 0
-finished (save Save.apply) w = false
-finished (save Save.recover) w = eqb (dispatch recover (w .store) .answer) 0
-finished (cut ms) w = false
+  -- a finished sync or recovery
+  unfoldable pub finished : Call → World → Bool
+  finished (local c) w = false
+  finished (save Save.sync) w = eqb (dispatch geo sync (w .store) .answer) 0
+  finished (save Save.apply) w = false
+  finished (save Save.recover) w = eqb (dispatch geo recover (w .store) .answer) 0
+  finished (cut ms) w = false
 
--- the list is empty or ends in one
-abbrev pub EndsFinished : List Call → World → Type 0
-EndsFinished a w = (a ≡ []) ⊎ ((b : List Call) × (c : Call) × (a ≡ b ++ (c ∷ [])) × (finished c (after b w) ≡ true))
+  -- the list is empty or ends in one
+  abbrev pub EndsFinished : List Call → World → Type 0
+  EndsFinished a w = (a ≡ []) ⊎ ((b : List Call) × (c : Call) × (a ≡ b ++ (c ∷ [])) × (finished c (after geo b w) ≡ true))
 
--- the list holds none
-unfoldable pub noneFinished : List Call → World → Bool
-noneFinished [] w = true
-noneFinished (c ∷ cs) w = not (finished c w) && noneFinished cs (next c w)
+  -- the list holds none
+  unfoldable pub noneFinished : List Call → World → Bool
+  noneFinished [] w = true
+  noneFinished (c ∷ cs) w = not (finished c w) && noneFinished cs (next geo c w)
 
--- a sync that ran out of power itself
-unfoldable pub shortSync : Call → World → Bool
-shortSync (local c) w = false
-shortSync (save Save.sync) w = eqb (w .store .rec .mode) openMode && eqb (dispatch sync (w .store) .answer) 4
-shortSync (save Save.apply) w = false
-shortSync (save Save.recover) w = false
-shortSync (cut ms) w = false
+  -- a sync that ran out of power itself
+  unfoldable pub shortSync : Call → World → Bool
+  shortSync (local c) w = false
+  shortSync (save Save.sync) w = eqb (w .store .rec .mode) openMode && eqb (dispatch geo sync (w .store) .answer) 4
+  shortSync (save Save.apply) w = false
+  shortSync (save Save.recover) w = false
+  shortSync (cut ms) w = false
 
-unfoldable pub countShort : List Call → World → ℕ
-countShort [] w = 0
-countShort (c ∷ cs) w = cond (shortSync c w) 1 0 + countShort cs (next c w)
+  unfoldable pub countShort : List Call → World → ℕ
+  countShort [] w = 0
+  countShort (c ∷ cs) w = cond (shortSync c w) 1 0 + countShort cs (next geo c w)
 
 -- what became of a sync that was cut short: none was; or decided at the next accepted cut, with its group: new or not, and whether it
 -- had made all its writes and all were kept
@@ -148,27 +151,28 @@ pub data Progress : Type 0 where
   known : Fate → Progress
   undecided : List Entry → ℕ → Bool → Progress
 
--- the sync's own header was written, and nothing after it
-abbrev pub headed : World → Bool
-headed w = eqb (dispatch sync (w .store) .orders) (inner (w .store) + (w .store .rec .grouped + 2))
+module _ (geo : Geometry) where
+  -- the sync's own header was written, and nothing after it
+  abbrev pub headed : World → Bool
+  headed w = eqb (dispatch geo sync (w .store) .orders) (inner geo (w .store) + (w .store .rec .grouped + 2))
 
--- at an accepted cut: its header kept, and the log found is the log written
-abbrev pub atCut : Call → World → List Entry → ℕ → Bool → Progress
-atCut (local c) w G place made = undecided G place made
-atCut (save c) w G place made = undecided G place made
-atCut (cut ms) w G place made =
-    cond (acceptedCut (cut ms) w)
-    (known (decided G (made && keptAt ms place && foundWritten (cut ms) w) (made && allKept ms)))
-    (undecided G place made)
+  -- at an accepted cut: its header kept, and the log found is the log written
+  abbrev pub atCut : Call → World → List Entry → ℕ → Bool → Progress
+  atCut (local c) w G place made = undecided G place made
+  atCut (save c) w G place made = undecided G place made
+  atCut (cut ms) w G place made =
+      cond (acceptedCut geo (cut ms) w)
+      (known (decided G (made && keptAt ms place && foundWritten geo (cut ms) w) (made && allKept ms)))
+      (undecided G place made)
 
-unfoldable pub observe : Call → World → Progress → Progress
-observe c w (known quiet) = cond (shortSync c w) (undecided (groupOf (w .store)) (w .store .rec .grouped + 1) (headed w)) (known quiet)
-observe c w (known (decided G laid all)) = known (decided G laid all)
-observe c w (undecided G place made) = atCut c w G place made
+  unfoldable pub observe : Call → World → Progress → Progress
+  observe c w (known quiet) = cond (shortSync geo c w) (undecided (groupOf geo (w .store)) (w .store .rec .grouped + 1) (headed w)) (known quiet)
+  observe c w (known (decided G laid all)) = known (decided G laid all)
+  observe c w (undecided G place made) = atCut c w G place made
 
-unfoldable pub fate : List Call → World → Progress → Progress
-fate [] w f = f
-fate (c ∷ cs) w f = fate cs (next c w) (observe c w f)
+  unfoldable pub fate : List Call → World → Progress → Progress
+  fate [] w f = f
+  fate (c ∷ cs) w f = fate cs (next geo c w) (observe c w f)
 
 -- old, or new: old with the group over it
 abbrev pub outcome : Fate → Disk → Disk
@@ -180,30 +184,31 @@ abbrev pub WholeIsNew : Fate → Type 0
 WholeIsNew quiet = Unit {0}
 WholeIsNew (decided G laid all) = all ≡ true → laid ≡ true
 
--- the disk found: every data block as the store's own get hands it out on what the recover left
-abbrev pub FoundIs : ℕ → State → Disk → Type 0
-FoundIs N r d = (x : ℕ) → isData N x ≡ true → (dispatch (get x) r .answer ≡ 0) × (blockOf x r ≡ d x)
+module _ (geo : Geometry) where
+  -- the disk found: every data block as the store's own get hands it out on what the recover left
+  abbrev pub FoundIs : ℕ → State → Disk → Type 0
+  FoundIs N r d = (x : ℕ) → isData geo N x ≡ true → (dispatch geo (get x) r .answer ≡ 0) × (blockOf geo x r ≡ d x)
 
--- A recover behind the list cs. The list is a, then b: a is empty or ends in a finished sync or recovery, and b holds none. b holds at
--- most one sync cut short, and what became of it is known. The disk found is old, the plain disk's S after a, or new, old with that
--- sync's group over it: new exactly if the next accepted cut kept that sync's own header and the log found there is the log written
-pub record Atomic (st : State) (cs : List Call) : Type 0 where
-  pub a : List Call
-  pub b : List Call
-  pub split : cs ≡ a ++ b
-  pub ends : EndsFinished a (begun st)
-  pub none : noneFinished b (after a (begun st)) ≡ true
-  pub one : countShort b (after a (begun st)) ≤ 1
-  pub end : Fate
-  pub fated : fate b (after a (begun st)) (known quiet) ≡ known end
-  pub found : FoundIs (blocksIn (st .settled)) (storeNext recover (after cs (begun st))) (outcome end (after a (begun st) .plain .S))
-  pub whole : WholeIsNew end
+  -- A recover behind the list cs. The list is a, then b: a is empty or ends in a finished sync or recovery, and b holds none. b holds at
+  -- most one sync cut short, and what became of it is known. The disk found is old, the plain disk's S after a, or new, old with that
+  -- sync's group over it: new exactly if the next accepted cut kept that sync's own header and the log found there is the log written
+  pub record Atomic (st : State) (cs : List Call) : Type 0 where
+    pub a : List Call
+    pub b : List Call
+    pub split : cs ≡ a ++ b
+    pub ends : EndsFinished geo a (begun geo st)
+    pub none : noneFinished geo b (after geo a (begun geo st)) ≡ true
+    pub one : countShort geo b (after geo a (begun geo st)) ≤ 1
+    pub end : Fate
+    pub fated : fate geo b (after geo a (begun geo st)) (known quiet) ≡ known end
+    pub found : FoundIs (blocksIn (st .settled)) (storeNext geo recover (after geo cs (begun geo st))) (outcome end (after geo a (begun geo st) .plain .S))
+    pub whole : WholeIsNew end
 
--- At every place of every list at which a recover answers 0 with no exception at a cut before it; cs is the list before that place,
--- and what follows plays no part
-abbrev pub CrashAtomicity : Type 0
-CrashAtomicity =
-    (st : State) → formatCall st .answer ≡ 0 → (cs : List Call)
-    → dispatch recover (after cs (begun st) .store) .answer ≡ 0
-    → after cs (begun st) .excepted ≡ false
-    → Atomic st cs
+  -- At every place of every list at which a recover answers 0 with no exception at a cut before it; cs is the list before that place,
+  -- and what follows plays no part
+  abbrev pub CrashAtomicity : Type 0
+  CrashAtomicity =
+      (st : State) → formatCall geo st .answer ≡ 0 → (cs : List Call)
+      → dispatch geo recover (after geo cs (begun geo st) .store) .answer ≡ 0
+      → after geo cs (begun geo st) .excepted ≡ false
+      → Atomic st cs

@@ -9,11 +9,13 @@ use Rattle.cells.specs.Entry.{blockBytes, Entry}
 use Rattle.card.specs.Card.{blocksIn}
 use Rattle.store.specs.State.{State}
 use Rattle.store.specs.Format.{formatCall}
+use Rattle.journal.specs.Geometry.{trap}
 use Rattle.history.specs.Call.{Call, power, put, get, commit, sync, recover, cut}
 use Rattle.history.specs.Dispatch.{dispatch, blockOf}
 use Rattle.history.specs.History.{World, begun, next, after, storeNext, foundWritten, acceptedCut, exception}
 use Rattle.history.specs.Linked.{AllPassable}
 use Rattle.history.specs.Statements.{EndsFinished, noneFinished, quiet, decided, known, fate, noCut}
+
 
 -- "byte filling the block"
 unfoldable pub sevens : List ℕ
@@ -39,37 +41,37 @@ crashed ms = halted ++ (cut ms ∷ power 100 ∷ [])
 
 -- what the cut meets, and what "recover" meets
 abbrev pub metByCut : State → World
-metByCut st = after halted (after filed (begun st))
+metByCut st = after trap halted (after trap filed (begun trap st))
 
 abbrev pub metByRecover : List ℕ → State → World
-metByRecover ms st = after (crashed ms) (after filed (begun st))
+metByRecover ms st = after trap (crashed ms) (after trap filed (begun trap st))
 
 -- what each call of a list comes to: its answer and its orders
 unfoldable pub answers : List Call → World → List (ℕ × ℕ)
 answers [] w = []
-answers (c ∷ cs) w = (dispatch c (w .store) .answer, dispatch c (w .store) .orders) ∷ answers cs (next c w)
+answers (c ∷ cs) w = (dispatch trap c (w .store) .answer, dispatch trap c (w .store) .orders) ∷ answers cs (next trap c w)
 
 -- a script with the marks ms: its lines, k being the orders of "recover"; what crash atomicity, log read back and C ask of it; `same`, which the plain disk
 -- is fed at the cut; the fate of the sync cut short; and the block b that "get 40" hands out
 pub record Script (st : State) (ms : List ℕ) (same new all : Bool) (k : ℕ) (b : List ℕ) : Type 0 where
-  pub lines : answers (filed ++ (crashed ms ++ (recover ∷ get 40 ∷ []))) (begun st)
+  pub lines : answers (filed ++ (crashed ms ++ (recover ∷ get 40 ∷ []))) (begun trap st)
       ≡ (0, 0) ∷ (0, 0) ∷ (0, 4) ∷ (0, 0) ∷ (0, 0) ∷ (0, 0) ∷ (4, 3) ∷ (0, 0) ∷ (0, 0) ∷ (0, k) ∷ (0, 0) ∷ []
-  pub ends : EndsFinished filed (begun st)
-  pub none : noneFinished (crashed ms) (after filed (begun st)) ≡ true
-  pub accepted : acceptedCut (cut ms) (metByCut st) ≡ true
-  pub found : foundWritten (cut ms) (metByCut st) ≡ same
-  pub usual : exception (cut ms) (metByCut st) ≡ false
+  pub ends : EndsFinished trap filed (begun trap st)
+  pub none : noneFinished trap (crashed ms) (after trap filed (begun trap st)) ≡ true
+  pub accepted : acceptedCut trap (cut ms) (metByCut st) ≡ true
+  pub found : foundWritten trap (cut ms) (metByCut st) ≡ same
+  pub usual : exception trap (cut ms) (metByCut st) ≡ false
   pub passed : AllPassable (filed ++ crashed ms)
-  pub last : noCut (power 100 ∷ []) (next (cut ms) (metByCut st)) ≡ true
+  pub last : noCut trap (power 100 ∷ []) (next trap (cut ms) (metByCut st)) ≡ true
   pub clean : metByRecover ms st .excepted ≡ false
-  pub answer : dispatch recover (metByRecover ms st .store) .answer ≡ 0
-  pub orders : dispatch recover (metByRecover ms st .store) .orders ≡ k
-  pub fated : fate (crashed ms) (after filed (begun st)) (known quiet) ≡ known (decided (at40 nines ∷ []) new all)
-  pub block : blockOf 40 (storeNext recover (metByRecover ms st)) ≡ b
+  pub answer : dispatch trap recover (metByRecover ms st .store) .answer ≡ 0
+  pub orders : dispatch trap recover (metByRecover ms st .store) .orders ≡ k
+  pub fated : fate trap (crashed ms) (after trap filed (begun trap st)) (known quiet) ≡ known (decided (at40 nines ∷ []) new all)
+  pub block : blockOf trap 40 (storeNext trap recover (metByRecover ms st)) ≡ b
 
 -- cut 101 loses the new descriptor: another log than the one written, no collision, old; cut 111 keeps every write: new. There is
 -- such a card
 pub record Worked : Type 0 where
-  pub torn : (st : State) → formatCall st .answer ≡ 0 → blocksIn (st .settled) ≡ 64 → Script st (1 ∷ 0 ∷ 1 ∷ []) false false false 2 sevens
-  pub whole : (st : State) → formatCall st .answer ≡ 0 → blocksIn (st .settled) ≡ 64 → Script st (1 ∷ 1 ∷ 1 ∷ []) true true true 0 nines
-  pub card : (st : State) × (formatCall st .answer ≡ 0) × (blocksIn (st .settled) ≡ 64)
+  pub torn : (st : State) → formatCall trap st .answer ≡ 0 → blocksIn (st .settled) ≡ 64 → Script st (1 ∷ 0 ∷ 1 ∷ []) false false false 2 sevens
+  pub whole : (st : State) → formatCall trap st .answer ≡ 0 → blocksIn (st .settled) ≡ 64 → Script st (1 ∷ 1 ∷ 1 ∷ []) true true true 0 nines
+  pub card : (st : State) × (formatCall trap st .answer ≡ 0) × (blocksIn (st .settled) ≡ 64)
