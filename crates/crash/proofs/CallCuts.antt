@@ -91,7 +91,10 @@ module _ (geo : Geometry) where
             → Leads geo N (cut ms r .settled) (logD geo (blockAt s) n ++ G) S n true
         append-cuts-old z q = append-old geo N s n h G w S big small size room sum card (cut ms r .settled) ms all-left z q
 
-        -- every write kept: the log found is the log written
+        -- every write kept: so is the header, and the log found is the log written
+        pub append-cuts-kept : allKept ms ≡ true → All NarrowAddress G → keptAt ms (length G + 1) ≡ true
+        append-cuts-kept all low = kept-top geo N s n h G w S big small size room sum card (cut ms r .settled) ms all-left all low
+
         pub append-cuts-whole : allKept ms ≡ true → All NarrowAddress G → sameLog (foundIn geo (cut ms r .settled)) (logD geo (blockAt s) n ++ G) ≡ true
         append-cuts-whole all low = append-whole geo N s n h G w S big small size room sum card (cut ms r .settled) ms all-left all low
 

@@ -4,18 +4,15 @@ use mathlib.Core.Path.{_≡_, refl, ap, sym, _∙_}
 use mathlib.Core.Bool.{Bool, true, false, cond}
 use mathlib.Core.List.{List, [], _++_}
 use native.Mathlib.Omega.{arith}
-use lib.Dec.{eqb}
-use lib.ListN.{length, getD, take, length-append}
-use lib.Seq.{take-all}
+use lib.ListN.{length, take, length-append}
 use Rattle.cells.specs.Upto.Laws.{length-upTo}
 use Rattle.cells.specs.Entry.{Entry}
 use Rattle.fnv.specs.Fnv.{start}
 use Rattle.card.specs.Disk.{Disk, overlay}
-use Rattle.card.specs.Card.{Card, kept, cut, settle, blockAt, blocksIn}
-use Rattle.card.proofs.All.{All, all-append, all-take}
+use Rattle.card.specs.Card.{Card, cut, settle, blockAt, blocksIn}
+use Rattle.card.proofs.All.{All, all-append}
 use Rattle.card.proofs.Runs.{Whole, NarrowAddress}
-use Rattle.card.proofs.Cuts.{kept-all}
-use Rattle.card.specs.Marks.{keptAt}
+use Rattle.card.specs.Marks.{marksFit, keptAt, allKept}
 use Rattle.journal.specs.Geometry.{Geometry}
 use Rattle.journal.specs.Layout.{firstData, headerAt, descriptorAt}
 use Rattle.journal.specs.Header.{encode, header}
@@ -24,13 +21,15 @@ use Rattle.journal.proofs.Headers.{length-encode}
 use Rattle.journal.proofs.Logs.{sumOf-append, length-blockAt}
 use Rattle.journal.proofs.OrderLists.{appendWrites, slotBlocks, slots-whole, slots-below, length-describe}
 use Rattle.crash.proofs.Batches.{Left}
-use Rattle.crash.proofs.CallCuts.{append-cuts}
+use Rattle.crash.proofs.CallCuts as CallCuts
+use Rattle.crash.proofs.CallCuts.{append-cuts, append-cuts-lost, append-cuts-new, append-cuts-old, append-cuts-kept, append-cuts-whole}
 use Rattle.crash.proofs.Cards.{WholeCard, append-head}
-use Rattle.crash.proofs.Leads.{Leads, foundIn, on-card, append-all, append-whole}
+use Rattle.crash.proofs.Leads.{Leads, foundIn}
 use Rattle.crash.proofs.Logs.{slotE, logD, entries-disk}
 use Rattle.crash.proofs.Orders.{length-append-writes}
 use Rattle.history.specs.Plain.{ownVerdict}
 use Rattle.history.specs.Ledger.{sameLog}
+use Rattle.history.proofs.PlainLaws.{own-lost, own-new, own-other}
 use Rattle.history.proofs.Plans.{Fits}
 
 module _ (geo : Geometry) where
@@ -70,31 +69,34 @@ module _ (geo : Geometry) where
 
     -- ---- cut short after j of its orders
 
-    pub short-before : (c r : Card) (j : ℕ) → Left c r s (take j W) 0 → j ≤ length G + 1 → (ms : List ℕ) → Leads geo N (cut ms r .settled) v S n false
-    short-before c r j f l ms = append-cuts geo N s n h G v S (x .big) (x .small) (x .size) (x .room) (x .sum) (x .card) writes-whole (x .all-data) c r j f ms l
+    pub short-before : (c r : Card) (j : ℕ) → Left c r s (take j W) 0 → j ≤ length G + 1 → (ms : List ℕ) → marksFit ms (length (take j W)) ≡ true → Leads geo N (cut ms r .settled) v S n false
+    short-before c r j f l ms m = append-cuts geo N s n h G v S (x .big) (x .small) (x .size) (x .room) (x .sum) (x .card) writes-whole c r j f ms m l
 
-    pub short-top : (c r : Card) (j : ℕ) → Left c r s (take j W) 0 → j ≡ length G + 2 → (ms : List ℕ) → length ms ≡ length G + 2
+    pub short-top : (c r : Card) (j : ℕ) → Left c r s (take j W) 0 → j ≡ length G + 2 → (ms : List ℕ) → marksFit ms (length (take j W)) ≡ true
         → (t u : Bool) → keptAt ms (length G + 1) ≡ t → sameLog (foundIn geo (cut ms r .settled)) (cond t (logD geo (blockAt s) n ++ G) v) ≡ u
         → Leads geo N (cut ms r .settled) (cond t (logD geo (blockAt s) n ++ G) v) (cond (ownVerdict n (length G) t u .laid) (overlay G S) S) (ownVerdict n (length G) t u .n) (ownVerdict n (length G) t u .F)
-    short-top c r j f e ms l = append-cuts-top N s n h G v S (x .big) (x .small) (x .size) (x .room) (x .sum) (x .card) writes-whole (x .all-data) c r j f ms e (length-append-writes geo N s n h G) l
+    short-top c r j f e ms m false u p q =
+        rw (own-lost n (length G) u)
+        (append-cuts-lost geo N s n h G v S (x .big) (x .small) (x .size) (x .room) (x .sum) (x .card) writes-whole c r j f ms m e p)
+    short-top c r j f e ms m true true p q =
+        rw (own-new n (length G))
+        (append-cuts-new geo N s n h G v S (x .big) (x .small) (x .size) (x .room) (x .sum) (x .card) writes-whole c r j f ms m e p (x .all-data) q)
+    short-top c r j f e ms m true false p q =
+        rw (own-other n (length G))
+        (append-cuts-old geo N s n h G v S (x .big) (x .small) (x .size) (x .room) (x .sum) (x .card) writes-whole c r j f ms m e p q)
 
     -- with every write kept the log found is the log written
-    pub whole-found : (c r : Card) (j : ℕ) → Left c r s (take j W) 0 → j ≡ length G + 2 → (ms : List ℕ) → length ms ≡ length G + 2 → All (λ k. k ≡ 1) ms
-        → sameLog (foundIn geo (cut ms r .settled)) (logD geo (blockAt s) n ++ G) ≡ true
-    whole-found c r j f e ms l ones =
-        append-whole geo N s n h G v S (x .big) (x .small) (x .size) (x .room) (x .sum) (x .card) (cut ms r .settled) (x .low)
-        (λ a q.
-        let z : length W ≡ length G + 2 = length-append-writes geo N s n h G in
-        cut-laid c r s (take j W) 0 ms a f (omega (arith, x .size)) (all-take Whole j W writes-whole)
-        ∙ ap (λ (y : List Entry). overlay (kept ms y) (blockAt s) a) (take-all j W (omega arith))
-        ∙ ap (λ (y : List Entry). overlay y (blockAt s) a) (kept-all ms W (omega arith) ones))
+    pub whole-found : (c r : Card) (j : ℕ) → Left c r s (take j W) 0 → j ≡ length G + 2 → (ms : List ℕ) → marksFit ms (length (take j W)) ≡ true → allKept ms ≡ true
+        → (keptAt ms (length G + 1) ≡ true) × (sameLog (foundIn geo (cut ms r .settled)) (logD geo (blockAt s) n ++ G) ≡ true)
+    whole-found c r j f e ms m all = (
+      append-cuts-kept geo N s n h G v S (x .big) (x .small) (x .size) (x .room) (x .sum) (x .card) writes-whole c r j f ms m e all (x .low),
+      append-cuts-whole geo N s n h G v S (x .big) (x .small) (x .size) (x .room) (x .sum) (x .card) writes-whole c r j f ms m e all (x .low),
+    )
 
     -- ---- done
 
     pub done-card : WholeCard geo N (blockAt (settle W s)) (logD geo (blockAt s) n ++ G) (overlay G S) (n + length G)
-    done-card =
-        append-all geo N s n h G v S (x .big) (x .small) (x .size) (x .room) (x .sum) (x .card) (settle W s) (x .low) (x .all-data)
-        (λ a l. settled-laid W s (settle W s) a refl (omega (arith, x .size)) writes-whole)
+    done-card = CallCuts.done-card geo N s n h G v S (x .big) (x .small) (x .size) (x .room) (x .sum) (x .card) writes-whole (x .low) (x .all-data)
 
     pub done-sum : sumOf h G ≡ sumOf start (logD geo (blockAt (settle W s)) (n + length G))
     done-sum = ap (λ (k : ℕ). sumOf k G) (x .sum) ∙ sym (sumOf-append start (logD geo (blockAt s) n) G) ∙ ap (sumOf start) (done-card .same)
@@ -102,9 +104,8 @@ module _ (geo : Geometry) where
     -- block 0 then
     done-head : blockAt (settle W s) headerAt ≡ encode (header N n h (n + length G) (sumOf h G))
     done-head =
-        let laid : (a : ℕ) → a < N → blockAt (settle W s) a ≡ overlay W (blockAt s) a = λ a l. settled-laid W s (settle W s) a refl (omega (arith, x .size)) writes-whole in
         append-head geo N (blockAt s) (blockAt (settle W s)) v S n h G (x .card)
-        (on-card geo N s n h G v S (x .big) (x .small) (x .size) (x .room) (x .sum) (x .card) (settle W s) W laid (all-appended N s n h G (x .room) wide (x .sum)))
+        (CallCuts.done-append geo N s n h G v S (x .big) (x .small) (x .size) (x .room) (x .sum) (x .card) writes-whole (x .low))
         .block
 
     size-log : length (logD geo (blockAt s) n) ≡ n

@@ -10,7 +10,7 @@ use Rattle.cells.specs.Entry.{blockBytes, Entry}
 use Rattle.card.specs.Card.{Card, cut, settle, blockAt, blocksIn}
 use Rattle.card.proofs.All.{All, all-map}
 use Rattle.card.proofs.Runs.{Whole, length-settle}
-use Rattle.card.specs.Marks.{keptAt}
+use Rattle.card.specs.Marks.{marksFit, keptAt}
 use Rattle.journal.specs.Geometry.{Geometry}
 use Rattle.journal.specs.Layout.{isData}
 use Rattle.journal.specs.Header.{emptyHeader}
@@ -19,9 +19,9 @@ use Rattle.journal.specs.Orders.{checkpointOrders}
 use Rattle.journal.proofs.Headers.{length-encode}
 use Rattle.journal.proofs.OrderLists.{headerEntry, checkpoint-writes}
 use Rattle.crash.proofs.Batches.{Left}
-use Rattle.crash.proofs.CallCuts.{homes-cuts, still-cuts, header-cuts}
+use Rattle.crash.proofs.CallCuts.{homes-settled, homes-cuts, header-cuts, empty-settled, still-cuts}
 use Rattle.crash.proofs.Cards.{WholeCard}
-use Rattle.crash.proofs.Leads.{Leads, homes-done, empty-card}
+use Rattle.crash.proofs.Leads.{Leads}
 use Rattle.crash.proofs.Logs.{data-below}
 use Rattle.store.specs.State.{State, cardIn}
 use Rattle.history.specs.Plain.{Plain, applyVerdict, applyWaits, headerKept}
@@ -81,27 +81,22 @@ module _ (geo : Geometry) where
     emptied = settles checkpoint (st .settled)
 
     size-homed : N ≡ blocksIn homed
-    size-homed = Facts.size st l d b o ∙ ap (λ (k : ℕ). k / blockBytes) (sym (length-settle log (st .settled)))
+    size-homed = Facts.size geo st l d b o ∙ ap (λ (k : ℕ). k / blockBytes) (sym (length-settle log (st .settled)))
 
     pub size-emptied : N ≡ blocksIn emptied
-    size-emptied = Facts.size st l d b o ∙ ap (λ (k : ℕ). k / blockBytes) (sym (length-settles checkpoint (st .settled)))
+    size-emptied = Facts.size geo st l d b o ∙ ap (λ (k : ℕ). k / blockBytes) (sym (length-settles checkpoint (st .settled)))
 
     homes : WholeCard geo N (blockAt homed) (l .written) (d .S) n × ((a : ℕ) → isData geo N a ≡ true → d .S a ≡ blockAt homed a)
-    homes =
-        let q : N ≡ blocksIn (st .settled) = Facts.size st l d b o in
-        homes-done geo N (st .settled) n (l .written) (d .S) homed (Facts.big geo st l d b o) (o .card)
-        (λ a h. settled-laid log (st .settled) homed a refl (omega arith) (Facts.log-whole geo st l d b o))
+    homes = homes-settled geo N (st .settled) n (l .written) (d .S) (Facts.big geo st l d b o) (Facts.size geo st l d b o) (o .card) (Facts.log-whole geo st l d b o)
 
     pub emptied-card : WholeCard geo N (blockAt emptied) [] (d .S) 0
-    emptied-card =
-        let q : N ≡ blocksIn homed = size-homed in
-        empty-card geo N homed (d .S) emptied (Facts.big geo st l d b o) (homes .1) (λ a h. settled-laid (top ∷ []) homed emptied a refl (omega arith) (top-whole, tt))
+    emptied-card = empty-settled geo N homed (d .S) (Facts.big geo st l d b o) size-homed (homes .1) top-whole
 
     -- ---- cut short, whatever headers follow
 
     pub record CheckpointCuts (hs : List PlannedHeader) (s : List ℕ) (q : List Entry) (k : ℕ) : Type 0 where
       pub waiting : applyWaits n k ≡ length q
-      pub leads : (r : Card) → Left (cardIn st) r s q 0 → (ms : List ℕ) → length ms ≡ length q
+      pub leads : (r : Card) → Left (cardIn st) r s q 0 → (ms : List ℕ) → marksFit ms (length q) ≡ true
           → Leads geo N (cut ms r .settled) (cutWritten ms (noted (applyHeader st ∷ hs) k l)) (d .S)
           (applyVerdict k n false (headerKept ms (applyWaits n k)) .n) (applyVerdict k n false (headerKept ms (applyWaits n k)) .F)
 
@@ -116,7 +111,7 @@ module _ (geo : Geometry) where
         waiting = waits-homes n k (omega (arith, length-log)) ∙ sym (length-take j log ∙ (omega arith));
         leads = λ r f ms m.
             rw (note-before (applyHeader st) hs k l (omega (arith, length-log)), nothing-waits ms, apply-before k n false (headerKept ms (applyWaits n k)) (omega (arith, length-log)))
-            (homes-cuts geo N (st .settled) n (l .written) (d .S) (cardIn st) r j ms (Facts.big geo st l d b o) (Facts.size st l d b o) (o .card) (Facts.log-whole geo st l d b o) f);
+            (homes-cuts geo N (st .settled) n (l .written) (d .S) (Facts.big geo st l d b o) (Facts.size geo st l d b o) (o .card) (cardIn st) r ms j (Facts.log-whole geo st l d b o) f m);
       }
 
       -- behind their flush
@@ -125,7 +120,7 @@ module _ (geo : Geometry) where
         waiting = waits-flushed n k e;
         leads = λ r f ms m.
             rw (note-before (applyHeader st) hs k l (omega arith), nothing-waits ms, apply-before k n false (headerKept ms (applyWaits n k)) (omega arith))
-            (still-cuts geo N homed n (l .written) (d .S) (cardIn st) r 0 ms (Facts.big geo st l d b o) size-homed (homes .0) f m);
+            (still-cuts geo N homed n (l .written) (d .S) false (cardIn st) r 0 ms (Facts.big geo st l d b o) size-homed (homes .0) f m);
       }
 
       -- behind the header
@@ -137,7 +132,7 @@ module _ (geo : Geometry) where
             waiting = one;
             leads = λ r f ms m.
                 rw (note-at (applyHeader st) hs k l (omega arith), apply-at k n false (headerKept ms (applyWaits n k)) e, kept-mark ms (applyWaits n k) 0 one)
-                (header-cuts geo N homed n (l .written) (d .S) (cardIn st) r ms (Facts.big geo st l d b o) size-homed (homes .0) (homes .1) top-whole f m (keptAt ms 0) refl);
+                (header-cuts geo N homed n (l .written) (d .S) (Facts.big geo st l d b o) size-homed (homes .0) (cardIn st) r ms (homes .1) top-whole f m (keptAt ms 0) refl);
           }
 
       pub checkpoint-cuts : Throughout (CheckpointCuts hs) checkpoint (st .settled) 0

@@ -12,11 +12,13 @@ use lib.ListN.{length}
 use Rattle.cells.specs.Entry.{Entry}
 use Rattle.card.specs.Disk.{Disk, overlay}
 use Rattle.card.specs.Card as Card
-use Rattle.card.specs.Card.{blockAt, kept, settle}
+use Rattle.card.specs.Card.{blockAt}
 use Rattle.card.proofs.Cuts.{cut-length}
 use Rattle.card.specs.Marks.{marksFit}
 use Rattle.crash.proofs.Cards.{ClosedCard}
-use Rattle.crash.proofs.Leads.{closed-leads, foundIn}
+use Rattle.crash.proofs.Batches.{no-queue}
+use Rattle.crash.proofs.CallCuts.{still-cuts}
+use Rattle.crash.proofs.Leads.{foundIn}
 use Rattle.store.specs.Request as Request
 use Rattle.store.specs.State.{State, Outcome, down, withRecord, withCard, cardIn}
 use Rattle.store.specs.Causes.{cause}
@@ -32,36 +34,30 @@ use Rattle.history.specs.History.{World, storeNext, ledgerNext, foundWri
 use Rattle.history.proofs.CauseLaws.{facts-sizes, record-facts, facts-record, idle}
 use Rattle.history.proofs.Relation.{Basics, OpenSim, ClosedSim, DownSim, Sim, cutSettled, cutWritten, cutVerdict, CutLeads}
 use Rattle.history.proofs.PlainLaws.{choose-none}
-use Rattle.history.proofs.Steps.{WorldSim, StepOK, sim-at, same-cause, refused-step, plain-served}
+use Rattle.history.proofs.Steps.{WorldSim, StepOK, sim-at, big-N, same-cause, refused-step, plain-served}
 
 -- ---- every cut leads to what the plain disk chooses
 
--- with nothing waiting a cut changes nothing
-pub cut-nothing : (ms : List ℕ) (st : State) → length ms ≡ 0 → cutSettled ms st ≡ st .settled
-unfolding Card.cut kept settle
-cut-nothing [] st h = refl
-cut-nothing (m ∷ ms) st h = absurd (omega arith)
-
 module _ (geo : Geometry) where
-  -- the card stands as it is, no header waits, no call was cut short
-  still-leads : (ms : List ℕ) (st : State) (l : Ledger) (d : Plain) → length ms ≡ 0 → d .short ≡ none → l .pending ≡ nothing
+  -- nothing waits, no header does, no call was cut short: the card stands as it is
+  still-leads : (ms : List ℕ) (st : State) (l : Ledger) (d : Plain) → Basics geo st d → st .rec .waiting ≡ 0 → marksFit ms (st .rec .waiting) ≡ true → d .short ≡ none → l .pending ≡ nothing
       → ClosedCard geo (st .rec .blocks) (blockAt (st .settled)) (l .written) (d .S) (d .n) (d .F) → CutLeads geo ms st l d
   unfolding resolved
-  still-leads ms st l d h s p r =
-      rw (s, p, choose-none geo (d .n) (length (d .G)) (d .F) (headerKept ms (d .waiting)) (sameLog (foundIn geo (cutSettled ms st)) (l .written)), cut-nothing ms st h)
-      (closed-leads geo (st .rec .blocks) (st .settled) (l .written) (d .S) (d .n) (d .F) r)
+  still-leads ms st l d b z h s p r =
+      rw (s, p, choose-none geo (d .n) (length (d .G)) (d .F) (headerKept ms (d .waiting)) (sameLog (foundIn geo (cutSettled ms st)) (l .written)))
+      (still-cuts geo (st .rec .blocks) (st .settled) (d .n) (l .written) (d .S) (d .F) (cardIn st) (cardIn st) (st .rec .power) ms (big-N geo st d b) (record-facts geo st (b .counts) .blocks) r
+      (record { settled = refl; waits = no-queue (cardIn st) z; count = z; power = refl; room = refl })
+      (ap (marksFit ms) (sym z) ∙ h))
 
-  pub all-cuts : (ms : List ℕ) (st : State) (l : Ledger) (d : Plain) → Sim geo st l d → length ms ≡ st .rec .waiting → CutLeads geo ms st l d
+  pub all-cuts : (ms : List ℕ) (st : State) (l : Ledger) (d : Plain) → Sim geo st l d → marksFit ms (st .rec .waiting) ≡ true → CutLeads geo ms st l d
   all-cuts ms st l d m h = go (m .phase)
     where
-      quiet : st .rec .mode ≢ down → length ms ≡ 0
-      quiet z = h ∙ idle geo st (record-facts geo st (m .basics .counts)) z
+      quiet : st .rec .mode ≢ down → st .rec .waiting ≡ 0
+      quiet z = idle geo st (record-facts geo st (m .basics .counts)) z
 
       go : OpenSim geo st l d ⊎ (ClosedSim geo st l d ⊎ DownSim geo st l d) → CutLeads geo ms st l d
-      go (_⊎_.inl o) =
-          still-leads ms st l d (quiet (λ z. omega (arith, o .mode))) (o .short) (o .pending)
-          (rw (o .n, o .F) (o .card))
-      go (_⊎_.inr (_⊎_.inl o)) = still-leads ms st l d (quiet (λ z. omega (arith, o .mode))) (o .short) (o .pending) (o .card)
+      go (_⊎_.inl o) = still-leads ms st l d (m .basics) (quiet (λ z. omega (arith, o .mode))) h (o .short) (o .pending) (rw (o .n, o .F) (o .card))
+      go (_⊎_.inr (_⊎_.inl o)) = still-leads ms st l d (m .basics) (quiet (λ z. omega (arith, o .mode))) h (o .short) (o .pending) (o .card)
       go (_⊎_.inr (_⊎_.inr o)) = o .cuts ms h
 
 -- ---- the state after an accepted cut
@@ -168,7 +164,7 @@ module _ (geo : Geometry) where
     plain-cut = plain-served geo (cut ms) (foundWritten geo (cut ms) w) (w .plain) h ∙ ap (λ (t : Bool). plainCut geo ms t (w .plain)) found-cut
 
     leads-cut : CutLeads geo ms (w .store) (w .ledger) (w .plain)
-    leads-cut = all-cuts geo ms (w .store) (w .ledger) (w .plain) m (marks-fit geo ms (w .plain) h ∙ m .basics .mirrors .waiting)
+    leads-cut = all-cuts geo ms (w .store) (w .ledger) (w .plain) m (ap (marksFit ms) (sym (m .basics .mirrors .waiting)) ∙ marks-fit geo ms (w .plain) h)
 
     pub accepted-step : StepOK geo (cut ms) w
     unfolding Card.cut

@@ -2,7 +2,7 @@
 use Prim.Native.Nat.{ℕ, _-_, _/_, _≤_, _<_}
 use mathlib.Core.Path.{_≡_, refl, ap, sym, _∙_}
 use mathlib.Core.Logic.{_⊎_}
-use mathlib.Core.Bool.{false}
+use mathlib.Core.Bool.{true, false}
 use mathlib.Core.List.{List, []}
 use native.Mathlib.Omega.{arith}
 use native.Mathlib.Decide.{decLe}
@@ -14,6 +14,7 @@ use Rattle.card.specs.Card.{Card, run, blockAt}
 use Rattle.card.specs.CodeQueue.{Below}
 use Rattle.card.proofs.All.{All}
 use Rattle.card.proofs.Runs.{queue-below}
+use Rattle.card.specs.Marks.{marksFit}
 use Rattle.journal.specs.Geometry.{Geometry}
 use Rattle.journal.specs.Log.{entries, sumOf}
 use Rattle.crash.proofs.Batches.{Left, no-queue}
@@ -100,7 +101,7 @@ cutFrom short waits k d = cutShort (short k) (waits k) d .plain
 module _ (geo : Geometry) where
   pub record CutsAt (w : World) (headers : List PlannedHeader) (short : ℕ → Short) (waits : ℕ → ℕ) (s : List ℕ) (q : List Entry) (k : ℕ) : Type 0 where
     pub waiting : waits k ≡ length q
-    pub leads : (r : Card) → Left (cardIn (w .store)) r s q 0 → (ms : List ℕ) → length ms ≡ length q
+    pub leads : (r : Card) → Left (cardIn (w .store)) r s q 0 → (ms : List ℕ) → marksFit ms (length q) ≡ true
         → CutLeads geo ms (withCard r (w .store)) (noted headers k (w .ledger)) (cutFrom short waits k (w .plain))
 
   -- ---- the call
@@ -271,7 +272,7 @@ module _ (geo : Geometry) where
             mirrors = record { mode = refl; N = b .mirrors .N ∙ sym (f .counts .blocks); waiting = x .met .waiting ∙ sym (x .left .count); T = λ z. absurd (omega arith); G = λ z. absurd (omega arith) };
             power = sym (x .left .power);
           };
-          phase = _⊎_.inr (_⊎_.inr (record { mode = refl; cuts = λ ms h. rw (f .counts .blocks) (x .met .leads _ (x .left) ms (h ∙ x .left .count)) }));
+          phase = _⊎_.inr (_⊎_.inr (record { mode = refl; cuts = λ ms h. rw (f .counts .blocks) (x .met .leads _ (x .left) ms (ap (marksFit ms) (sym (x .left .count)) ∙ h)) }));
         }
 
     pub gives-step : StepOK geo c w

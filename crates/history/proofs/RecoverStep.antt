@@ -24,9 +24,8 @@ use Rattle.journal.specs.Log.{entries, sumOf}
 use Rattle.journal.specs.Choice.{choose, takenCount}
 use Rattle.journal.proofs.Headers.{length-encode}
 use Rattle.journal.proofs.OrderLists.{fallback-writes}
-use Rattle.crash.proofs.CallCuts.{fallHeader, fall-cuts}
+use Rattle.crash.proofs.CallCuts.{fallHeader, still-cuts, fall-cuts, fall-settled}
 use Rattle.crash.proofs.Cards.{WholeCard, FallCard}
-use Rattle.crash.proofs.Leads.{fallen-card}
 use Rattle.crash.proofs.Logs.{logD, entries-disk}
 use Rattle.store.specs.Request as Request
 use Rattle.store.specs.State.{State}
@@ -160,7 +159,7 @@ module _ (geo : Geometry) where
         leads = λ c l ms y.
             rw (noted-none (recoverHeaders geo st) (settledLedger v))
             (leads-still geo _ _ (unchanged n F) (choose-recover-none geo n 0 F (headerKept ms 0) _) refl
-            (rw e (fall-still N s n v S _ c 0 ms big (rc .blocks) r l y)));
+            (rw e (still-cuts geo N s n v S true _ c 0 ms big (rc .blocks) r l y)));
       }
 
       -- behind it
@@ -180,7 +179,7 @@ module _ (geo : Geometry) where
       }
 
       fallen : WholeCard geo N (blockAt (settle (top ∷ []) s)) (logD geo (blockAt s) n) S n
-      fallen = fallen-card geo N s v S n (settle (top ∷ []) s) big r (λ a q. settled-laid (top ∷ []) s (settle (top ∷ []) s) a refl (omega (arith, rc .blocks)) (top-whole, tt))
+      fallen = fall-settled geo N s v S n big (rc .blocks) r top-whole
 
       fallback : Gives geo recover w plan
       unfolding entered recoverHeaders noted

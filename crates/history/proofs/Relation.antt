@@ -2,7 +2,7 @@
 use Prim.Native.Nat.{ℕ}
 use mathlib.Core.Path.{_≡_}
 use mathlib.Core.Logic.{_⊎_}
-use mathlib.Core.Bool.{false, cond}
+use mathlib.Core.Bool.{true, false, cond}
 use mathlib.Core.List.{List, []}
 use lib.ListN.{length}
 use Rattle.cells.specs.Entry.{Entry}
@@ -10,6 +10,7 @@ use Rattle.fnv.specs.Fnv.{start}
 use Rattle.card.specs.Disk.{Disk, overlay}
 use Rattle.card.specs.Card as Card
 use Rattle.card.specs.Card.{blockAt}
+use Rattle.card.specs.Marks.{marksFit}
 use Rattle.journal.specs.Geometry.{Geometry}
 use Rattle.journal.specs.Log.{entries, sumOf}
 use Rattle.crash.proofs.Cards.{WholeCard, ClosedCard}
@@ -78,7 +79,7 @@ module _ (geo : Geometry) where
   -- down: every cut leads to what the plain disk chooses
   pub record DownSim (st : State) (l : Ledger) (d : Plain) : Type 0 where
     pub mode : st .rec .mode ≡ down
-    pub cuts : (ms : List ℕ) → length ms ≡ st .rec .waiting → CutLeads ms st l d
+    pub cuts : (ms : List ℕ) → marksFit ms (st .rec .waiting) ≡ true → CutLeads ms st l d
 
   pub record Sim (st : State) (l : Ledger) (d : Plain) : Type 0 where
     pub basics : Basics geo st d

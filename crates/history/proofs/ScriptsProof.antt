@@ -22,7 +22,6 @@ use Rattle.history.specs.History.{World, begun, next}
 use Rattle.history.specs.Scripts.{Says, nothing, begins, asks, saysOf, says, lineOf, leftBy, ByCall, leftAfter, worldBy, told, ScriptsAreHistories}
 use Rattle.history.proofs.Forms.{SameSizes, called-sized}
 
-
 -- ---- a line
 
 prints-by : (c : Command) (l : List ℕ) (st : State) → answered c (perform c l st) ≡ lineOf (saysOf c l) c st
@@ -73,7 +72,7 @@ after-sizes [] st = refl
 after-sizes (l ∷ ls) st = after-sizes ls (reply l st .state) ∙ ap (wrongSizes trap) (by-call l st .leaves) ∙ line-sizes (says l) st
 
 sizes-right : (st : State) → length (st .settled) ≡ blockBytes * 64 → length (st .waiting) ≡ waitingBytes trap → length (st .work) ≡ workBytes trap → wrongSizes trap st ≡ false
-unfolding wrongSizes Rattle.journal.specs.Layout.wrongSize
+unfolding wrongSizes Rattle.journal.specs.Layout.wrongSize trap
 sizes-right st a b c = rw (a, b, c)
 
 beginning-sizes : wrongSizes trap beginning ≡ false

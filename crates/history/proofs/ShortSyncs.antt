@@ -13,7 +13,7 @@ use Rattle.cells.specs.Entry.{Entry}
 use Rattle.card.specs.Disk.{Disk, overlay}
 use Rattle.card.specs.Card as Card
 use Rattle.card.specs.Card.{queue}
-use Rattle.card.specs.Marks.{keptAt, allKept}
+use Rattle.card.specs.Marks.{marksFit, keptAt, allKept}
 use Rattle.journal.specs.Geometry.{Geometry}
 use Rattle.journal.proofs.Choices.{both}
 use Rattle.crash.proofs.Leads.{foundIn}
@@ -50,7 +50,7 @@ use Rattle.history.proofs.ReadsBack.{power-served, cut-accepted}
 
 module _ (geo : Geometry) where
   abbrev pub planned : Plain → List ℕ → Bool → Verdict
-  planned d ms (found geo) = verdict geo (d .short) (d .n) (length (d .G)) (d .F) (headerKept ms (d .waiting)) (found geo)
+  planned d ms found = verdict geo (d .short) (d .n) (length (d .G)) (d .F) (headerKept ms (d .waiting)) found
 
 -- open: nothing has happened to S
 pub record OpenPhase (old : Disk) (st : State) (d : Plain) : Type 0 where
@@ -62,7 +62,7 @@ module _ (geo : Geometry) where
   pub record OtherPhase (old : Disk) (f : Fate) (st : State) (d : Plain) : Type 0 where
     pub mode : st .rec .mode ≢ openMode
     pub S : d .S ≡ outcome f old
-    pub laid : (ms : List ℕ) (found geo : Bool) → planned geo d ms (found geo) .laid ≡ false
+    pub laid : (ms : List ℕ) (found : Bool) → planned geo d ms found .laid ≡ false
     pub whole : WholeIsNew f
 
   -- down by a sync of the group G
@@ -70,8 +70,8 @@ module _ (geo : Geometry) where
     pub mode : st .rec .mode ≡ down
     pub S : d .S ≡ old
     pub group : d .G ≡ G
-    pub laid : (ms : List ℕ) (found geo : Bool) → planned geo d ms (found geo) .laid ≡ made && keptAt ms place && found geo
-    pub whole : made ≡ true → (ms : List ℕ) → length ms ≡ st .rec .waiting → allKept ms ≡ true → (keptAt ms place ≡ true) × (sameLog (foundIn geo (cutSettled ms st)) (cutWritten ms l) ≡ true)
+    pub laid : (ms : List ℕ) (found : Bool) → planned geo d ms found .laid ≡ made && keptAt ms place && found
+    pub whole : made ≡ true → (ms : List ℕ) → marksFit ms (st .rec .waiting) ≡ true → allKept ms ≡ true → (keptAt ms place ≡ true) × (sameLog (foundIn geo (cutSettled ms st)) (cutWritten ms l) ≡ true)
 
   abbrev pub Watch : Disk → Progress → State → Ledger → Plain → Type 0
   Watch old (known quiet) st l d = OpenPhase old st d ⊎ OtherPhase old quiet st d
@@ -193,11 +193,6 @@ module _ (geo : Geometry) where
 
 -- ---- sync
 
-ones-mark : (ms : List ℕ) (i : ℕ) → i < length ms → allKept ms ≡ true → keptAt ms i ≡ true
-unfolding allKept
-ones-mark (k ∷ ms) zero l h = both (eqb k 1) (allKept ms) h .0
-ones-mark (k ∷ ms) (suc i) l h = ones-mark ms i (omega arith) (both (eqb k 1) (allKept ms) h .1)
-
 module _ (geo : Geometry) where
   module _ (old : Disk) (w : World) (m : WorldSim geo w) (h : refusal geo sync (w .plain) ≡ 0) (nf : S.finished geo sync w ≡ false) where
     o : OpenSim geo (w .store) (w .ledger) (w .plain)
@@ -257,15 +252,6 @@ module _ (geo : Geometry) where
         let e : eqb (w .store .rec .mode) openMode && eqb (dispatch geo sync (w .store) .answer) 4 ≡ true = rw (eq-eqb _ _ (o .mode), eq-eqb _ 4 answer-four) in
         ap (λ (t : Bool). cond t (undecided (groupOf geo (w .store)) (w .store .rec .grouped + 1) (headed geo w)) (known quiet)) e
 
-    -- behind its own header m + 2 writes wait
-    waits-two : headed geo w ≡ true → storeNext geo sync w .rec .waiting ≡ w .store .rec .grouped + 2
-    waits-two e =
-        let k : w .plain .power ≡ innerTakes geo (w .plain .n) (length (w .plain .G)) + (length (w .plain .G) + 2) = eqb-true _ _ (sym headed-is ∙ e) in
-        step geo sync w m .agrees .waiting ∙ ap (λ (x : Done). x .plain .waiting) short-plain
-        ∙ PlainLaws.sync-waits-own geo (w .plain .n) (length (w .plain .G)) (w .plain .power) (omega arith)
-        ∙ (let q : w .plain .power - innerTakes geo (w .plain .n) (length (w .plain .G)) ≡ length (w .plain .G) + 2 = omega arith in q)
-        ∙ ap (λ (x : ℕ). x + 2) count
-
     sync-watch : (f : Progress) → Watch geo old f (w .store) (w .ledger) (w .plain) → Watch geo old (observe geo sync w f) (storeNext geo sync w) (ledgerNext geo sync w) (plainNext geo sync w)
     sync-watch f x =
         let y = open-watch geo old f (w .store) (w .ledger) (w .plain) x (o .mode) in
@@ -279,10 +265,8 @@ module _ (geo : Geometry) where
               PlainLaws.sync-laid geo (w .plain .n) (length (w .plain .G)) (w .plain .power) (w .plain .F) u ms
               ∙ ap₂ (λ (t : Bool) (i : ℕ). t && keptAt ms (i + 1) && u) (sym headed-is) count;
           whole = λ e ms l a.
-              let q : length ms ≡ w .store .rec .grouped + 2 = l ∙ waits-two e in (
-                ones-mark ms (w .store .rec .grouped + 1) (omega arith) a,
-                short-whole geo w m h o grouped-some answer-four (eqb-true _ _ e) ms q a,
-              );
+              let y = short-whole geo w m h o grouped-some answer-four (eqb-true _ _ e) ms l a in
+              (y .0, y .1);
         })
 
   -- ---- apply
@@ -397,7 +381,7 @@ module _ (geo : Geometry) where
           laid = λ ns u. ap (λ (v : Verdict). v .laid) (PlainLaws.choose-none geo _ _ _ _ u);
           whole = λ e.
               let q = both made (allKept ms) e in
-              let y = x .whole (q .0) ms (CutStep.marks-fit geo ms (w .plain) h ∙ m .basics .mirrors .waiting) (q .1) in
+              let y = x .whole (q .0) ms (ap (marksFit ms) (sym (m .basics .mirrors .waiting)) ∙ CutStep.marks-fit geo ms (w .plain) h) (q .1) in
               rw (q .0, y .0, y .1);
         })
 

@@ -112,7 +112,7 @@ module _ (geo : Geometry) where
         n = n;
         sum = st .rec .sum;
         list = v;
-        meets = appends (st .settled) n (st .rec .sum) v (Facts.size st (settledLedger v) d (f .basics) (f .sim)) room (Facts.sum st (settledLedger v) d (f .basics) (f .sim)) (f .sim .card);
+        meets = appends (st .settled) n (st .rec .sum) v (Facts.size geo st (settledLedger v) d (f .basics) (f .sim)) room (Facts.sum geo st (settledLedger v) d (f .basics) (f .sim)) (f .sim .card);
         fits = tt;
         orders = λ some. rw (ne-eqb m 0 some, le-leb (n + m) (geo .slots) room) (append-writes geo (N st v S x) (st .settled) n (st .rec .sum) (groupOf geo st) ∙ sym (append-nil _));
         record-is = rw single;

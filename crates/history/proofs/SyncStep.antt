@@ -16,7 +16,7 @@ use Rattle.card.specs.Disk.{Disk, overlay}
 use Rattle.card.specs.Card.{Card, Order, run, cut, settle, blockAt}
 use Rattle.card.proofs.All.{All, all-append, all-at}
 use Rattle.card.proofs.Runs.{run-nil}
-use Rattle.card.specs.Marks.{keptAt, allKept}
+use Rattle.card.specs.Marks.{marksFit, keptAt, allKept}
 use Rattle.journal.specs.Geometry.{Geometry}
 use Rattle.journal.specs.Layout.{headerAt}
 use Rattle.journal.specs.Log.{entries, sumOf}
@@ -57,14 +57,6 @@ use Rattle.history.proofs.SyncMeets.{Met, met}
 
 sync-no-get : (a : ℕ) → sync ≡ get a → ⊥
 sync-no-get a e = let z : _≡_ {A = ℕ} 0 1 = cc in omega arith
-
-ones-at : (ms : List ℕ) → allKept ms ≡ true → All (λ k. k ≡ 1) ms
-unfolding allKept
-ones-at [] h = tt
-ones-at (k ∷ ms) h = let q = both (eqb k 1) (allKept ms) h in (eqb-true _ _ (q .0), ones-at ms (q .1))
-
-one-at : (ms : List ℕ) (i : ℕ) → i < length ms → All (λ k. k ≡ 1) ms → keptAt ms i ≡ true
-one-at ms i l a = eq-eqb _ _ (all-at (λ k. k ≡ 1) ms i 0 l a)
 
 module _ (geo : Geometry) where
   module _ (st : State) (v : List Entry) (S : Disk) (x : Bool) (f : Opened geo st v S) where
@@ -184,7 +176,7 @@ module _ (geo : Geometry) where
         waiting = waits-own k (omega arith) ∙ sym (length-take j W ∙ (omega (arith, length-W)));
         leads = λ r l ms q.
             rw (note-early k (omega arith) (omega arith))
-            (leads-still geo _ _ (unchanged (y .n) false) (choose-sync-before geo k (st .rec .logged) (length G) _ _ (omega (arith, y .inner-plain)) (omega (arith, y .inner-plain)) ∙ ap (λ (i : ℕ). unchanged i false) (y .n-is)) refl (short-before geo (y .meets) (cardIn st) r j l h ms));
+            (leads-still geo _ _ (unchanged (y .n) false) (choose-sync-before geo k (st .rec .logged) (length G) _ _ (omega (arith, y .inner-plain)) (omega (arith, y .inner-plain)) ∙ ap (λ (i : ℕ). unchanged i false) (y .n-is)) refl (short-before geo (y .meets) (cardIn st) r j l h ms q));
       }
 
       cuts-top : (j k : ℕ) → j ≡ length G + 2 → k ≡ takes (y .front) + j → CutsAt geo w (syncHeaders geo st) ofSync (syncWaits geo (st .rec .logged) (length G)) s (take j W) k
@@ -200,7 +192,7 @@ module _ (geo : Geometry) where
                 rw (note-top k (omega arith))
                 (leads-laid geo _ _ _ (ownVerdict (y .n) (length G) t u)
                 (choose-sync-own geo k (st .rec .logged) (length G) false _ u (omega (arith, y .inner-plain)) ∙ (λ i. ownVerdict (y .n-is i) (length G) (kept-mark ms _ (length G + 1) wt i) u))
-                (short-top geo (y .meets) (cardIn st) r j l h ms (q ∙ long) t u refl refl));
+                (short-top geo (y .meets) (cardIn st) r j l h ms q t u refl refl));
           }
 
       cuts : Throughout (CutsAt geo w (syncHeaders geo st) ofSync (syncWaits geo (st .rec .logged) (length G))) plan (st .settled) 0
@@ -267,8 +259,8 @@ module _ (geo : Geometry) where
 
       abbrev Whole : Asked
       Whole t q k =
-          k ≡ takes (y .front) + (length G + 2) → (r : Card) → Left (cardIn st) r t q 0 → (ms : List ℕ) → length ms ≡ length G + 2 → All (λ i. i ≡ 1) ms
-          → sameLog (foundIn geo (cut ms r .settled)) (log ++ G) ≡ true
+          k ≡ takes (y .front) + (length G + 2) → (r : Card) → Left (cardIn st) r t q 0 → (ms : List ℕ) → marksFit ms (length q) ≡ true → allKept ms ≡ true
+          → (keptAt ms (length G + 1) ≡ true) × (sameLog (foundIn geo (cut ms r .settled)) (log ++ G) ≡ true)
 
       wholes : Throughout Whole plan (st .settled) 0
       wholes =
@@ -276,8 +268,8 @@ module _ (geo : Geometry) where
           (throughout-all Whole (y .front) (st .settled) 0 (λ t q k h e. absurd (omega arith)))
           (λ j k h e u r l ms. whole-found geo (y .meets) (cardIn st) r j l (omega arith) ms, tt)
 
-      own-whole : syncCall geo st .answer ≡ 4 → syncCall geo st .orders ≡ inner geo st + (st .rec .grouped + 2) → (ms : List ℕ) → length ms ≡ st .rec .grouped + 2 → allKept ms ≡ true
-          → sameLog (foundIn geo (cutSettled ms (syncCall geo st .state))) (cutWritten ms (ledgerNext geo sync w)) ≡ true
+      own-whole : syncCall geo st .answer ≡ 4 → syncCall geo st .orders ≡ inner geo st + (st .rec .grouped + 2) → (ms : List ℕ) → marksFit ms (syncCall geo st .state .rec .waiting) ≡ true → allKept ms ≡ true
+          → (keptAt ms (st .rec .grouped + 1) ≡ true) × (sameLog (foundIn geo (cutSettled ms (syncCall geo st .state))) (cutWritten ms (ledgerNext geo sync w)) ≡ true)
       unfolding entered resolved
       own-whole a q ms l o =
           let less = gives-less geo sync w plan (f .basics) gives a in
@@ -286,11 +278,13 @@ module _ (geo : Geometry) where
           let k : st .rec .power ≡ takes (y .front) + (length G + 2) = sym (ap (λ (i : Outcome). i .orders) D) ∙ q ∙ (omega (arith, y .inner-is, length-G)) in
           let L : ledgerNext geo sync w ≡ record { written = y .list; pending = waits (length G + 1) (log ++ G) } =
           ap (λ (i : Outcome). noted (syncHeaders geo st) (i .orders) (settledLedger v)) D ∙ note-top (st .rec .power) k in
-          let ones = ones-at ms o in
-          let long : length ms ≡ length G + 2 = l ∙ ap (λ (i : ℕ). i + 2) (sym length-G) in
-          ap₂ (λ (i : Outcome) (j : Ledger). sameLog (foundIn geo (cutSettled ms (i .state))) (cutWritten ms j)) D L
-          ∙ ap (λ (t : Bool). sameLog (foundIn geo (cut ms (run (planned plan) (cardIn st)) .settled)) (cond t (log ++ G) (y .list))) (one-at ms (length G + 1) (omega arith) ones)
-          ∙ end .met k (run (planned plan) (cardIn st)) (end .left) ms long ones
+          let fit : marksFit ms (length (end .q)) ≡ true = ap (marksFit ms) (sym (ap (λ (i : Outcome). i .state .rec .waiting) D ∙ end .left .count)) ∙ l in
+          let found = end .met k (run (planned plan) (cardIn st)) (end .left) ms fit o in (
+            ap (λ (i : ℕ). keptAt ms (i + 1)) (sym length-G) ∙ found .0,
+            ap₂ (λ (i : Outcome) (j : Ledger). sameLog (foundIn geo (cutSettled ms (i .state))) (cutWritten ms j)) D L
+                ∙ ap (λ (t : Bool). sameLog (foundIn geo (cut ms (run (planned plan) (cardIn st)) .settled)) (cond t (log ++ G) (y .list))) (found .0)
+                ∙ found .1,
+          )
 
     sync-open : StepOK geo sync w
     sync-open = go (ℕ-discrete (st .rec .grouped) 0)
@@ -315,8 +309,8 @@ module _ (geo : Geometry) where
     logged = own-logged (w .store) (w .ledger .written) (w .plain .S) (w .excepted) f z meets
 
     pub short-whole : syncCall geo (w .store) .answer ≡ 4 → syncCall geo (w .store) .orders ≡ inner geo (w .store) + (w .store .rec .grouped + 2)
-        → (ms : List ℕ) → length ms ≡ w .store .rec .grouped + 2 → allKept ms ≡ true
-        → sameLog (foundIn geo (cutSettled ms (syncCall geo (w .store) .state))) (cutWritten ms (ledgerNext geo sync w)) ≡ true
+        → (ms : List ℕ) → marksFit ms (syncCall geo (w .store) .state .rec .waiting) ≡ true → allKept ms ≡ true
+        → (keptAt ms (w .store .rec .grouped + 1) ≡ true) × (sameLog (foundIn geo (cutSettled ms (syncCall geo (w .store) .state))) (cutWritten ms (ledgerNext geo sync w)) ≡ true)
     short-whole a q ms l ones =
-        subst (λ (i : World). sameLog (foundIn geo (cutSettled ms (syncCall geo (i .store) .state))) (cutWritten ms (ledgerNext geo sync i)) ≡ true) (sym (open-world geo w (m .basics) o))
+        subst (λ (i : World). (keptAt ms (i .store .rec .grouped + 1) ≡ true) × (sameLog (foundIn geo (cutSettled ms (syncCall geo (i .store) .state))) (cutWritten ms (ledgerNext geo sync i)) ≡ true)) (sym (open-world geo w (m .basics) o))
         (own-whole (w .store) (w .ledger .written) (w .plain .S) (w .excepted) f z meets a q ms l ones)

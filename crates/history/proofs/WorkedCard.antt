@@ -12,20 +12,21 @@ use Rattle.cells.specs.Little.Laws.{num-nil, num-cons}
 use Rattle.cells.specs.Entry.{blockBytes, Entry}
 use Rattle.cells.specs.Entry.Laws.{entry-eq}
 use Rattle.card.specs.Disk.{Disk, lay, overlay}
-use Rattle.card.specs.Card.{Card, kept, cut, settle, blockAt}
-use Rattle.card.proofs.All.{all-take}
-use Rattle.card.proofs.Runs.{Whole}
+use Rattle.card.specs.Card.{Card, kept, cut, settle, blockAt, blocksIn}
+use Rattle.card.proofs.All.{All, all-take}
+use Rattle.card.proofs.Runs.{Whole, settle-overlay}
+use Rattle.card.proofs.Cuts.{cut-block}
+use Rattle.card.specs.Marks.{overOne, marksFit, keptAt}
 use Rattle.journal.specs.Geometry.{trap}
 use Rattle.journal.specs.Layout.{descriptorAt}
 use Rattle.journal.specs.Orders.{addressBytes, describe}
 use Rattle.journal.proofs.Descriptors.{length-addressBytes}
 use Rattle.journal.proofs.OrderLists.{slotBlocks, appendWrites}
-use Rattle.crash.proofs.Appends.{header-kept}
 use Rattle.crash.proofs.Batches.{Left}
+use Rattle.crash.proofs.CallCuts.{left-leaves}
 use Rattle.crash.proofs.Leads.{foundIn, found-log}
 use Rattle.crash.proofs.Logs.{slotE}
-use Rattle.history.proofs.AppendEnds.{Appends, wide, writes-whole}
-
+use Rattle.history.proofs.AppendEnds.{Appends, writes-whole}
 
 -- "a sync writes the slots from its new count on […] as zero"
 describe-beyond : (old : List ℕ) (n : ℕ) (es : List Entry) (i : ℕ) → 4 * n ≤ length old → n + length es ≤ i → 4 * i + 4 ≤ blockBytes
@@ -48,13 +49,22 @@ describe-beyond old n es i h l k =
 no-number : num (replicate 4 0) ≡ 0
 no-number = rw (num-cons, num-cons, num-cons, num-cons, num-nil)
 
+-- kept writes, and settled ones, laid over the blocks
+pub cut-laid : (c r : Card) (s : List ℕ) (q : List Entry) (p : ℕ) (ms : List ℕ) (a : ℕ) → Left c r s q p → a < blocksIn s → All Whole q
+    → blockAt (cut ms r .settled) a ≡ overlay (kept ms q) (blockAt s) a
+unfolding trap
+cut-laid c r s q p ms a l h w =
+    cut-block ms r a (rw (l .settled) h) (rw (l .waits) w)
+    ∙ ap (λ (x : List Entry). overlay (kept ms x) (blockAt (r .settled)) a) (l .waits)
+    ∙ ap (λ (x : List ℕ). overlay (kept ms q) (blockAt x) a) (l .settled)
+
 -- after a first append of one entry the descriptor has 0 in its second place
 pub second-zero : {N : ℕ} {s : List ℕ} {h : ℕ} {e : Entry} {v : List Entry} {S : Disk} → Appends trap N s 0 h (e ∷ []) v S
     → num (cell 4 (blockAt (settle (appendWrites trap N s 0 h (e ∷ [])) s) descriptorAt) 1) ≡ 0
-unfolding overlay lay slotBlocks
+unfolding overlay lay slotBlocks trap
 second-zero {N} {s} {h} {e} x =
     let now : blockAt (settle (appendWrites trap N s 0 h (e ∷ [])) s) descriptorAt ≡ describe (blockAt s descriptorAt) 0 (e ∷ []) =
-    settled-laid (appendWrites trap N s 0 h (e ∷ [])) s (settle (appendWrites trap N s 0 h (e ∷ [])) s) descriptorAt refl (omega (arith, x .big, x .size)) (writes-whole trap x) in
+    settle-overlay (appendWrites trap N s 0 h (e ∷ [])) s descriptorAt (omega (arith, x .big, x .size)) (writes-whole trap x) in
     ap (λ (b : List ℕ). num (cell 4 b 1)) now
     ∙ ap num (describe-beyond (blockAt s descriptorAt) 0 (e ∷ []) 1 (omega arith) (omega arith) (omega arith))
     ∙ no-number
@@ -63,13 +73,14 @@ second-zero {N} {s} {h} {e} x =
 pub torn-found : {N : ℕ} {s : List ℕ} {h : ℕ} {e : Entry} {v : List Entry} {S : Disk} → Appends trap N s 1 h (e ∷ []) v S
     → (c r : Card) → Left c r s (take 3 (appendWrites trap N s 1 h (e ∷ []))) 0
     → foundIn trap (cut (1 ∷ 0 ∷ 1 ∷ []) r .settled) ≡ slotE trap (blockAt s) 0 ∷ record { address = num (cell 4 (blockAt s descriptorAt) 1); block = e .block } ∷ []
-unfolding overlay lay slotBlocks kept slotE
+unfolding overlay lay slotBlocks kept slotE marksFit overOne keptAt trap
 torn-found {N} {s} {h} {e} {v} {S} x c r f =
     let ms : List ℕ = 1 ∷ 0 ∷ 1 ∷ [] in
     let laid : (a : ℕ) → a < N → blockAt (cut ms r .settled) a ≡ overlay (kept ms (appendWrites trap N s 1 h (e ∷ []))) (blockAt s) a =
     λ a l. cut-laid c r s (take 3 (appendWrites trap N s 1 h (e ∷ []))) 0 ms a f (omega (arith, x .size)) (all-take Whole 3 (appendWrites trap N s 1 h (e ∷ [])) (writes-whole trap x)) in
-    found-log trap N s 1 h (e ∷ []) v S (x .big) (x .small) (x .size) (x .room) (x .sum) (x .card) (cut ms r .settled) (kept ms (appendWrites trap N s 1 h (e ∷ []))) laid
-    (header-kept trap N s 1 h (e ∷ []) (x .room) (wide trap x) ms refl refl (x .sum))
+    found-log trap N s 1 h (e ∷ []) v S (x .big) (x .small) (x .size) (x .room) (x .sum) (x .card) (cut ms r .settled) ms
+    (left-leaves c r s (take 3 (appendWrites trap N s 1 h (e ∷ []))) 0 N ms f (omega (arith, x .big)) (x .size) refl (all-take Whole 3 (appendWrites trap N s 1 h (e ∷ [])) (writes-whole trap x)))
+    refl
     ∙ ap₂ (λ (a b : Entry). a ∷ b ∷ [])
     (entry-eq (ap (λ (b : List ℕ). num (cell 4 b 0)) (laid 1 (omega (arith, x .big)))) (laid 2 (omega (arith, x .big))))
     (entry-eq (ap (λ (b : List ℕ). num (cell 4 b 1)) (laid 1 (omega (arith, x .big)))) (laid 3 (omega (arith, x .big))))

@@ -16,7 +16,6 @@ use Rattle.history.specs.Worked.{at40}
 use Rattle.history.proofs.Steps.{WorldSim}
 use Rattle.history.proofs.ListInduction.{step, next-sim}
 
-
 -- ---- the plain disk
 
 abbrev pub openAt : Disk → List Entry → List Entry → ℕ → ℕ → Plain
@@ -30,16 +29,16 @@ abbrev pub closedAt : Disk → ℕ → ℕ → Bool → Plain
 closedAt S n p F = closedWith S n F (withPower p (blankPlain 64))
 
 pub plain-put : (t : Bool) (S : Disk) (n p : ℕ) (b : List ℕ) → length b ≡ blockBytes → plainStep trap (put 40 b) t (openAt S [] [] n p) ≡ still (openAt S [] (at40 b ∷ []) n p)
-unfolding plainStep refusal has insert
+unfolding plainStep refusal has insert trap
 plain-put t S n p b h = rw h
 
 pub plain-commit : (t : Bool) (S : Disk) (n p : ℕ) (b : List ℕ) → plainStep trap commit t (openAt S [] (at40 b ∷ []) n p) ≡ still (openAt S (at40 b ∷ []) [] n p)
-unfolding plainStep refusal merge insert
+unfolding plainStep refusal merge insert trap
 plain-commit t S n p b = refl
 
 pub plain-filed : (t : Bool) (S : Disk) (b : List ℕ)
     → plainStep trap sync t (openAt S (at40 b ∷ []) [] 0 1000000) ≡ done 4 (openAt (overlay (at40 b ∷ []) S) [] [] 1 999996)
-unfolding plainStep refusal plainSync
+unfolding plainStep refusal plainSync trap
 plain-filed t S b = refl
 
 pub plain-power : (t : Bool) (S : Disk) (G : List Entry) (p k : ℕ) → plainStep trap (power k) t (openAt S G [] 1 p) ≡ still (openAt S G [] 1 k)
@@ -47,15 +46,15 @@ unfolding plainStep refusal
 plain-power t S G p k = refl
 
 pub plain-halted : (t : Bool) (S : Disk) (b : List ℕ) → plainStep trap sync t (openAt S (at40 b ∷ []) [] 1 3) ≡ cutShort (ofSync 3) 3 (openAt S (at40 b ∷ []) [] 1 3)
-unfolding plainStep refusal plainSync
+unfolding plainStep refusal plainSync trap
 plain-halted t S b = refl
 
 pub plain-torn : (S : Disk) (b : List ℕ) → plainStep trap (cut (1 ∷ 0 ∷ 1 ∷ [])) false (downAt S (at40 b ∷ [])) ≡ still (closedAt S 1 0 true)
-unfolding plainStep refusal marksFit overOne plainCut headerKept keptAt verdict ownVerdict
+unfolding plainStep refusal marksFit overOne plainCut headerKept keptAt verdict ownVerdict trap
 plain-torn S b = refl
 
 pub plain-whole : (S : Disk) (b : List ℕ) → plainStep trap (cut (1 ∷ 1 ∷ 1 ∷ [])) true (downAt S (at40 b ∷ [])) ≡ still (closedAt (overlay (at40 b ∷ []) S) 2 0 false)
-unfolding plainStep refusal marksFit overOne plainCut headerKept keptAt verdict ownVerdict
+unfolding plainStep refusal marksFit overOne plainCut headerKept keptAt verdict ownVerdict trap
 plain-whole S b = refl
 
 pub plain-again : (t : Bool) (S : Disk) (n p k : ℕ) (F : Bool) → plainStep trap (power k) t (closedAt S n p F) ≡ still (closedAt S n k F)

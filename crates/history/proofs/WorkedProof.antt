@@ -49,7 +49,6 @@ use Rattle.history.proofs.WorkedSums.{other-sum}
 use Rattle.history.proofs.WorkedPlain.{openAt, downAt, closedAt, plain-put, plain-commit, plain-filed, plain-power, plain-halted, plain-torn, plain-whole, plain-again, plain-fallback, plain-found, Went, went}
 use Rattle.history.proofs.WorkedSync.{group-is, grouped-is, no-inner, filed-log, filed-next, halted-written, halted-torn, halted-whole}
 
-
 -- what is known is one
 known-same : {e f : Fate} → known e ≡ known f → e ≡ f
 known-same p = cc
@@ -339,6 +338,7 @@ module _ (st : State) (f : formatCall trap st .answer ≡ 0) (size : blocksIn (s
     read = split-reading trap st f filed (crashed ms) ends (none-done w₃ all-filed ms same k c) (t₇ w₃ all-filed ms same k c .answer) (all-clean w₃ all-filed ms same k c)
 
     is-40 : isData trap (blocksIn (st .settled)) 40 ≡ true
+    unfolding trap
     is-40 = ap (λ (N : ℕ). isData trap N 40) size
 
     passable : AllPassable (filed ++ crashed ms)
@@ -373,18 +373,18 @@ module _ (st : State) (f : formatCall trap st .answer ≡ 0) (size : blocksIn (s
         }
 
   torn : Script st (1 ∷ 0 ∷ 1 ∷ []) false false false 2 sevens
-  unfolding allKept overlay lay
+  unfolding allKept keptAt overlay lay
   torn = script (1 ∷ 0 ∷ 1 ∷ []) false 2 (torn-cuts w₃ all-filed) false false sevens refl refl refl
 
   whole : Script st (1 ∷ 1 ∷ 1 ∷ []) true true true 0 nines
-  unfolding allKept overlay lay
+  unfolding allKept keptAt overlay lay
   whole = script (1 ∷ 1 ∷ 1 ∷ []) true 0 (whole-cuts w₃ all-filed) true true nines refl refl refl
 
 -- ---- a card of 64 blocks that format takes
 
 sized : (r : Record) (s q k : List ℕ) → length s ≡ 32768 → length q ≡ 17544 → length k ≡ 33024
     → (formatCall trap (stateOf r s q k) .answer ≡ 0) × (blocksIn s ≡ 64)
-unfolding formatCall wrongSizes wrongSize
+unfolding formatCall wrongSizes wrongSize trap
 sized r s q k a b c = (rw (a, b, c), ap (λ (x : ℕ). x / blockBytes) a)
 
 naughts : ℕ → List ℕ

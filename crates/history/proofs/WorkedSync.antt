@@ -5,13 +5,13 @@ use mathlib.Core.Logic.{_≢_}
 use mathlib.Core.Bool.{Bool, true, false, cond}
 use mathlib.Core.List.{List, [], _∷_, _++_}
 use native.Mathlib.Omega.{arith}
-use lib.ListN.{length, take}
+use lib.ListN.{length, take, length-take}
 use Rattle.cells.specs.Cell.{cell}
 use Rattle.cells.specs.Little.{num}
 use Rattle.cells.specs.Entry.{Entry}
 use Rattle.card.specs.Disk.{Disk}
 use Rattle.card.specs.Card.{Card, run, cut, settle, blockAt}
-use Rattle.card.specs.Marks.{allKept}
+use Rattle.card.specs.Marks.{marksFit, keptAt, allKept}
 use Rattle.journal.specs.Geometry.{trap}
 use Rattle.journal.specs.Layout.{descriptorAt}
 use Rattle.journal.specs.Log.{entries}
@@ -41,7 +41,6 @@ use Rattle.history.proofs.SyncStep.{gives, short-whole}
 use Rattle.history.proofs.ShortSyncs.{open-now}
 use Rattle.history.proofs.WorkedCard.{second-zero, torn-found}
 use Rattle.history.proofs.WorkedPlain.{openAt}
-
 
 base-at : {N : ℕ} {s : List ℕ} {n n′ h : ℕ} {G G′ v : List Entry} {S : Disk} → n ≡ n′ → G ≡ G′ → Appends trap N s n h G v S → Appends trap N s n′ h G′ v S
 base-at a b x = rw (← a, ← b) x
@@ -73,6 +72,7 @@ module _ (w : World) (m : WorldSim trap w) (S : Disk) (b : List ℕ) (n p : ℕ)
   size = ap length group-is
 
   fits : w .store .rec .logged + length (groupOf trap (w .store)) ≤ trap .slots
+  unfolding trap
   fits = omega (arith, logged-is, size)
 
   opening : Opened trap (w .store) (w .ledger .written) (w .plain .S)
@@ -152,10 +152,12 @@ module _ (w : World) (m : WorldSim trap w) (S : Disk) (b : List ℕ) (n p : ℕ)
       ∙ note-at (ownHeader trap (w .store)) [] (w .store .rec .power) (w .ledger) (omega (arith, power-is, no-inner, grouped-is))
       ∙ (λ i. waitsBehind (grouped-is i + 1) (standing-is i ++ group-is i) (w .ledger))
 
-  halted-same : p ≡ 3 → (ms : List ℕ) → length ms ≡ 3 → allKept ms ≡ true → sameLog (foundIn trap (cutSettled ms (storeNext trap sync w))) (cutWritten ms (ledgerNext trap sync w)) ≡ true
+  halted-same : p ≡ 3 → (ms : List ℕ) → marksFit ms 3 ≡ true → allKept ms ≡ true → sameLog (foundIn trap (cutSettled ms (storeNext trap sync w))) (cutWritten ms (ledgerNext trap sync w)) ≡ true
   halted-same e ms l a =
       let D = halted-call e in
-      short-whole trap w m served o some (ap (λ (x : Outcome). x .answer) D) (ap (λ (x : Outcome). x .orders) D ∙ (omega (arith, power-is, no-inner, grouped-is))) ms (omega (arith, grouped-is)) a
+      let three : storeNext trap sync w .rec .waiting ≡ 3 =
+      ap (λ (x : Outcome). x .state .rec .waiting) D ∙ halted-left e .count ∙ length-take p (appendWrites trap N s n h (at40 b ∷ [])) ∙ (omega (arith, length-append-writes trap N s n h (at40 b ∷ []))) in
+      short-whole trap w m served o some (ap (λ (x : Outcome). x .answer) D) (ap (λ (x : Outcome). x .orders) D ∙ (omega (arith, power-is, no-inner, grouped-is))) ms (ap (marksFit ms) three ∙ l) a .1
 
 -- ---- the first sync
 
@@ -178,7 +180,7 @@ module _ (w : World) (m : WorldSim trap w) (S : Disk) (b : List ℕ) (d : w .pla
 module _ (w : World) (m : WorldSim trap w) (S : Disk) (b : List ℕ) (d : w .plain ≡ openAt S (at40 b ∷ []) [] 1 3) where
   -- the log written, by a header that is kept
   pub halted-written : (ms : List ℕ) → headerKept ms 3 ≡ true → cutWritten ms (ledgerNext trap sync w) ≡ logD trap (blockAt (w .store .settled)) 1 ++ (at40 b ∷ [])
-  unfolding resolved headerKept
+  unfolding resolved headerKept keptAt
   halted-written ms k =
       ap (cutWritten ms) (halted-ledger w m S b 1 3 (omega arith) d refl)
       ∙ ap (λ (t : Bool). cond t (logD trap (blockAt (w .store .settled)) 1 ++ (at40 b ∷ [])) (w .ledger .written)) k
@@ -189,5 +191,5 @@ module _ (w : World) (m : WorldSim trap w) (S : Disk) (b : List ℕ) (d : w .pla
       ap (foundIn trap) (halted-settled w m S b 1 3 (omega arith) d refl (1 ∷ 0 ∷ 1 ∷ []))
       ∙ torn-found (base-now w m S b 1 3 (omega arith) d) (cardIn (w .store)) (r w m S b 1 3 (omega arith) d) (halted-left w m S b 1 3 (omega arith) d refl)
 
-  pub halted-whole : (ms : List ℕ) → length ms ≡ 3 → allKept ms ≡ true → sameLog (foundIn trap (cutSettled ms (storeNext trap sync w))) (cutWritten ms (ledgerNext trap sync w)) ≡ true
+  pub halted-whole : (ms : List ℕ) → marksFit ms 3 ≡ true → allKept ms ≡ true → sameLog (foundIn trap (cutSettled ms (storeNext trap sync w))) (cutWritten ms (ledgerNext trap sync w)) ≡ true
   halted-whole ms l a = halted-same w m S b 1 3 (omega arith) d refl ms l a

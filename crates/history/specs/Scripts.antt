@@ -23,7 +23,6 @@ use Rattle.history.specs.Call.{Call, local, save, cut, power, put, get, 
 use Rattle.history.specs.Dispatch.{called, dispatch, blockOf}
 use Rattle.history.specs.History.{World, begun, next}
 
-
 -- ---- a line
 
 -- what a line says: nothing that is understood, a format, which begins a list of calls, or a call of one

@@ -16,7 +16,6 @@ use Rattle.history.specs.History.{World, begun, next, after, storeNext, 
 use Rattle.history.specs.Linked.{AllPassable}
 use Rattle.history.specs.Statements.{EndsFinished, noneFinished, quiet, decided, known, fate, noCut}
 
-
 -- "byte filling the block"
 unfoldable pub sevens : List ℕ
 sevens = replicate blockBytes 7

@@ -20,7 +20,6 @@ use Rattle.journal.specs.Geometry.{trap}
 use Rattle.script.specs.Numbers.{zeroDigit}
 use Rattle.script.specs.Replies.{Reply, got, values}
 
-
 -- ---- get
 
 -- a part has the bytes at its place

@@ -23,7 +23,6 @@ use Rattle.script.specs.Numbers.{zeroDigit}
 use Rattle.script.specs.Commands.{keptBytes}
 use Rattle.script.specs.Answers.{answerLine}
 
-
 -- the answer, the third number, and what is left
 pub record Reply : Type 0 where
   pub answer : ℕ

@@ -14,7 +14,6 @@ use Rattle.script.specs.Commands.{parse}
 use Rattle.script.specs.Answers.{lf}
 use Rattle.script.specs.Replies.{Reply, perform, answered}
 
-
 -- "each ended by LF, which the last may lack": nothing behind the last LF is no line
 unfoldable pub linesOf : List ℕ → List (List ℕ)
 linesOf [] = []

@@ -16,8 +16,8 @@ mod refusals;
 pub mod saved;
 pub mod sync;
 
-use journal::PLACES;
 use cells::ENTRY;
+use journal::PLACES;
 use journal::SLOTS;
 
 // The lengths of the waiting bytes and of work memory: 32 open entries, then 32 group entries.

@@ -5,7 +5,6 @@ use borrow.Author.Needs.{needs}
 use Rattle.firmware.proofs.reads.trapcard_alike.Statement.{statement}
 use Rattle.firmware.proofs.reads.trapcard_alike.Tie as tie
 
-
 alike-requires : tie.Need-alike-requires
 alike-requires c κs = search needs
 

@@ -12,7 +12,6 @@ use Rattle.script.specs.Replies.{called}
 use Rattle.script.proofs.perform.cut.Statement.{statement}
 use Rattle.script.proofs.perform.cut.Tie as tie
 
-
 slice-aggregate-read-marks : tie.Need-slice-aggregate-read-marks
 slice-aggregate-read-marks c = search needs
 

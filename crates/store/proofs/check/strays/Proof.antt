@@ -13,7 +13,6 @@ use Rattle.store.proofs.Causes.{search-hit, search-on, search-over}
 use Rattle.store.proofs.check.strays.Statement.{statement}
 use Rattle.store.proofs.check.strays.Tie as tie
 
-
 abbrev stray : List ℕ → ℕ → ℕ → ℕ → Bool
 stray work N from i = not (isData trap N (listed work from i .address))
 

@@ -12,7 +12,6 @@ use Rattle.store.proofs.Commits.{newcomers-mono, joined-more, Joining, 
 use Rattle.store.proofs.commit.join_all.Statement.{statement}
 use Rattle.store.proofs.commit.join_all.Tie as tie
 
-
 abbrev Inv-loop : tie.InvT-loop
 Inv-loop work₀ g n count₀ i₀ work count i = (i ≤ n) × (_≡_ {A = Group} (record { work = work; count = count }) (joined trap i (record { work = work₀; count = g })))
 

@@ -12,7 +12,6 @@ use borrow.Author.Needs.{needs}
 use Rattle.store.proofs.record.Record.apply.Statement.{statement}
 use Rattle.store.proofs.record.Record.apply.Tie as tie
 
-
 abbrev given : tie.Start → State
 given c = stateOf (c .args .self) (c .args .settled .now) (c .args .waiting .now) (c .args .work .now)
 

@@ -15,7 +15,6 @@ use borrow.Author.Needs.{needs}
 use Rattle.store.proofs.record.Record.commit.Statement.{statement}
 use Rattle.store.proofs.record.Record.commit.Tie as tie
 
-
 commit-number-requires : tie.Need-commit-number-requires
 commit-number-requires c κs = search needs
 

@@ -6,7 +6,6 @@ use borrow.Author.Needs.{needs}
 use Rattle.store.proofs.record.Record.get.Statement.{statement}
 use Rattle.store.proofs.record.Record.get.Tie as tie
 
-
 get-place-requires : tie.Need-get-place-requires
 get-place-requires c κs = search needs
 

@@ -11,7 +11,6 @@ use borrow.Author.Needs.{needs}
 use Rattle.store.proofs.record.Record.get_place.Statement.{statement}
 use Rattle.store.proofs.record.Record.get_place.Tie as tie
 
-
 get-number-requires : tie.Need-get-number-requires
 get-number-requires c κs = search needs
 

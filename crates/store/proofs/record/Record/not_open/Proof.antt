@@ -14,7 +14,6 @@ use borrow.Author.Needs.{needs}
 use Rattle.store.proofs.record.Record.not_open.Statement.{statement}
 use Rattle.store.proofs.record.Record.not_open.Tie as tie
 
-
 abbrev given : tie.Start → State
 given c = stateOf (c .args .self) (c .args .settled .now) (c .args .waiting .now) (c .args .work .now)
 

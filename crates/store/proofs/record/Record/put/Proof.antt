@@ -20,7 +20,6 @@ use borrow.Author.Needs.{needs}
 use Rattle.store.proofs.record.Record.put.Statement.{statement}
 use Rattle.store.proofs.record.Record.put.Tie as tie
 
-
 -- a new address has room
 room-put : (f : Found) (n : ℕ) → not (isFound f) && leb (trap .slots) n ≡ false → f ≡ Absent → n < trap .slots
 room-put f n e absent = leb-false _ _ (rw absent at e)
