@@ -1,12 +1,13 @@
 -- Every call of every list through the C functions is the store's: by `linked`.
 use Rattle.firmware.specs.Face.{faceOf}
 use Rattle.history.proofs.Theorems.{linked}
+use Rattle.journal.specs.Geometry.{trap}
 use Rattle.linkage.specs.Step.{withPlace}
 use Rattle.linkage.specs.Through.{Through}
 
 pub through : Through
 through r s w k z cs c ps =
-    let m = linked r s w k z cs c ps in
+    let m = linked trap r s w k z cs c ps in
     λ j.
     withPlace c (faceOf (m .number j) (m .orders j) (m .left .rec j) (m .left .settled j) (m .left .waiting j) (m .left .work j))
     (λ a. m .place a j)

@@ -6,6 +6,7 @@ use Rattle.store.specs.Local as Local
 use Rattle.store.specs.Local.{Local}
 use Rattle.history.specs.Call.{Call, local, save, cut, power, put, get, commit, abandon, sync, apply, recover}
 use Rattle.history.specs.Linked.{faceNext}
+use Rattle.journal.specs.Geometry.{trap}
 use Rattle.linkage.specs.declared.step.Code.{Code}
 use Rattle.linkage.specs.declared.step.Code.the-variants.{Power, Put, Get, Commit, Abandon, Sync, Apply, Recover, Cut}
 
@@ -52,4 +53,4 @@ withPlace c f g = steppedOf f (placed c g .buffer) (placed c g .offset)
 -- "Each call gets the record and the settled, waiting and work bytes that the last one returned or left": the step of `linked`, its
 -- place among those that `linked` speaks of
 abbrev pub stepped : Call → Face → Stepped
-stepped c f = withPlace c (faceNext c f) (λ a. got a (f .rec) (f .settled) (f .waiting) (f .work))
+stepped c f = withPlace c (faceNext trap c f) (λ a. got trap a (f .rec) (f .settled) (f .waiting) (f .work))

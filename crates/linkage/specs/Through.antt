@@ -10,16 +10,17 @@ use Rattle.history.specs.Call.{Call}
 use Rattle.history.specs.Dispatch.{dispatch}
 use Rattle.history.specs.History.{begun, after}
 use Rattle.history.specs.Linked.{faceAfter, AllPassable}
+use Rattle.journal.specs.Geometry.{trap}
 use Rattle.linkage.specs.Step.{Stepped, withPlace, stepped}
 
 -- the store's own call, as C would see it
 abbrev pub stored : Call → State → Stepped
-stored c st = withPlace c (handed (dispatch c st)) (λ a. gotIn a st)
+stored c st = withPlace c (handed (dispatch trap c st)) (λ a. gotIn trap a st)
 
 -- "It starts from a fresh card, as a format answering 0 left it": what `format` promises. From there what `step` promises of every
 -- call of every list is the store's: number, orders, record, every lent byte, place of a get
 abbrev pub Through : Type 0
 Through =
-    (r s w k : List ℕ) → faced formatCall r s w k .number ≡ 0
+    (r s w k : List ℕ) → faced (formatCall trap) r s w k .number ≡ 0
     → (cs : List Call) (c : Call) → AllPassable cs
-    → stepped c (faceAfter cs (faced formatCall r s w k)) ≡ stored c (after cs (begun (stateOf (decodeRecord r) s w k)) .store)
+    → stepped c (faceAfter trap cs (faced (formatCall trap) r s w k)) ≡ stored c (after trap cs (begun trap (stateOf (decodeRecord r) s w k)) .store)

@@ -16,6 +16,7 @@ use Rattle.script.specs.Transcript.{beginning}
 use Rattle.script.specs.Steps.{Session, Step, fed, fresh}
 use Rattle.script.specs.CodeSession.{sessionOf}
 use Rattle.script.proofs.Sessions.{fed-append}
+use Rattle.journal.specs.Geometry.{trap}
 use Rattle.trapcard.specs.Turns.{goesOn, atEnd, mostReads, Stops}
 
 pub goes-unwritten : (w i : Bool) (z : ℤ) → w ≡ false → false ≡ goesOn w z i
@@ -72,7 +73,7 @@ pub fed-on : (a b : List ℕ) (p : List ℕ) (s t u : Session) → t ≡ fed a s
 fed-on a b p s t u h k = ap (λ (q : Step). q .next) k ∙ ap (λ (q : Session). fed b q .next) h ∙ sym (ap (λ (q : Step). q .next) (fed-append a b s))
 
 -- the buffers at the start
-pub starts : (s : Held) (line : List ℕ) (n m k : ℕ) → n ≡ blockBytes * 64 → m ≡ waitingBytes → k ≡ workBytes → s .rec ≡ beginning .rec → s .len ≡ 0
+pub starts : (s : Held) (line : List ℕ) (n m k : ℕ) → n ≡ blockBytes * 64 → m ≡ waitingBytes trap → k ≡ workBytes trap → s .rec ≡ beginning .rec → s .len ≡ 0
     → sessionOf (s .len) line (s .rec) (replicate n 0) (replicate m 0) (replicate k 0) ≡ fresh
 unfolding beginning
 starts s line n m k hn hm hk hr hl = λ j. record { kept = take (hl j) line; state = record { rec = hr j; settled = replicate (hn j) 0; waiting = replicate (hm j) 0; work = replicate (hk j) 0 } }
