@@ -1,0 +1,203 @@
+"""Lists of calls by chance: histories from a format on, and calls on made-up records and cards. A step is chosen by the record as it
+stands, and holds all that its call needs, so that a list of steps can be made again without these choices."""
+from collections import namedtuple
+
+from madeup import CARD_FAULTS, RECORD_FAULTS, TOP
+from model import BLOCK, CLOSED, DOWN, FIRST_DATA, OPEN, PLACES, RECORD, SLOTS, WAITING, WORK
+
+# odd: pairs of a lent buffer's name and another length for it.
+Step = namedtuple("Step", "call arguments odd", defaults=((), ()))
+NINE = ("power", "put", "get", "commit", "abandon", "sync", "apply", "recover", "cut")
+SIZES = (35, 36, 37, 40, 48, 66, 67, 70, 80, 100)
+LARGE_SIZES = (65535, 65536)
+
+
+def size(chance, large):
+    return chance.choice(LARGE_SIZES) if large else chance.choice(SIZES)
+
+
+# ---- arguments
+
+def address(chance, blocks):
+    """Mostly a data block, of few, so that some come again."""
+    if chance.random() < 0.04:
+        return chance.choice((0, FIRST_DATA - 1, blocks, TOP))
+    edge = chance.choice((FIRST_DATA, blocks - 1))
+    return edge if chance.random() < 0.2 else FIRST_DATA + chance.randrange(min(blocks - FIRST_DATA, 40))
+
+
+def block(chance):
+    """A byte that fills it, or the seed of noise; and its length."""
+    length = BLOCK if chance.random() < 0.97 else chance.choice((0, 511, 513, 1024))
+    return (chance.randrange(4) if chance.random() < 0.6 else chance.randrange(256, 1 << 16)), length
+
+
+def marks(chance, waiting):
+    """Mostly as many as wait."""
+    kind = chance.random()
+    if kind < 0.05:
+        return bytes(chance.choice((0, 1)) for _ in range(max(0, waiting + chance.choice((-1, 1)))))
+    if kind < 0.1 and waiting:
+        return bytes(waiting - 1) + bytes([chance.choice((2, 255))])
+    if kind < 0.4:
+        return bytes([1]) * waiting
+    if kind < 0.5:
+        return bytes(waiting)
+    kept = bytearray(int(chance.random() < 0.8) for _ in range(waiting))
+    if kind < 0.8 and waiting:
+        kept[-1] = 1
+    return bytes(kept)
+
+
+def cost(rec):
+    """The orders of a sync and of an apply, as the paper counts them."""
+    inner = rec.logged + 3 if rec.logged else 0
+    if not rec.grouped:
+        return 0, inner
+    return rec.grouped + 3 + (inner if rec.logged + rec.grouped > SLOTS else 0), inner
+
+
+def power(chance, rec):
+    """None, little, one order too little, exactly enough, or plenty."""
+    sync, inner = cost(rec)
+    return chance.choice((0, 1, 2, 3, max(sync - 1, 0), max(sync - 1, 0), sync, max(inner - 1, 0), inner, inner + 1,
+                          chance.randrange(sync + 1), chance.randrange(inner + 1), 1000, 1000, TOP))
+
+
+def arguments(chance, call, rec, blocks):
+    if call == "power":
+        return (power(chance, rec),)
+    if call == "put":
+        return address(chance, blocks), block(chance)
+    if call == "get":
+        return (address(chance, blocks),)
+    if call == "cut":
+        return (marks(chance, min(rec.waiting, 2 * PLACES)),)
+    return ()
+
+
+def other_card(chance, blocks, large):
+    """What alike is lent beside the card, and on which side."""
+    kind = chance.choice(("itself", "copy", "copy", "laid", "made", "made"))
+    detail = ()
+    if kind == "copy":
+        detail = tuple((chance.randrange(BLOCK * blocks), chance.randrange(256)) for _ in range(chance.randrange(3)))
+    if kind == "made":
+        sizes = (blocks,) if large else (blocks, blocks, size(chance, False))
+        detail = chance.choice(sizes), chance.randrange(1 << 32), card_faults(chance, chance.choice((0, 0, 1, 1, 2)))
+    return kind, detail, chance.choice(("first", "second"))
+
+
+# ---- histories
+
+def busy(chance, rec, blocks):
+    """Puts that fill the open transaction or part of it, and their commit."""
+    most = min(blocks - FIRST_DATA, chance.choice((1, 2, 3, 8, SLOTS, SLOTS + 1)))
+    first = chance.randrange(FIRST_DATA, blocks - most + 1)
+    fill = chance.randrange(3)
+    for i in range(most):
+        yield Step("put", (first + i, (fill, BLOCK)))
+    yield Step("commit")
+
+
+def saving(chance, group):
+    """A group, power and a sync; after a loss the same group comes again, so that a lost write may leave equal bytes."""
+    for at, content in group:
+        yield Step("put", (at, content))
+    yield Step("commit")
+
+
+class History:
+    """The next steps of a history, by the mode that the last one left."""
+
+    def __init__(self, chance, blocks):
+        self.chance, self.blocks, self.group = chance, blocks, []
+
+    def steps(self, rec):
+        return {OPEN: self.when_open, CLOSED: self.when_closed, DOWN: self.when_down}[rec.mode](rec)
+
+    def any(self, rec):
+        call = self.chance.choice(NINE + ("tally", "alike"))
+        if call == "alike":
+            return [Step(call, other_card(self.chance, self.blocks, self.blocks in LARGE_SIZES))]
+        return [Step(call, arguments(self.chance, call, rec, self.blocks))]
+
+    def when_open(self, rec):
+        kind, chance = self.chance.random(), self.chance
+        if kind < 0.12:
+            return busy(chance, rec, self.blocks)
+        if kind < 0.3:
+            if not self.group or chance.random() < 0.5:
+                self.group = [(address(chance, self.blocks), block(chance)) for _ in range(chance.choice((1, 1, 2, 3, 6)))]
+            return saving(chance, self.group)
+        if kind < 0.45:
+            return [Step("put", arguments(chance, "put", rec, self.blocks))]
+        if kind < 0.53:
+            return [Step("get", (address(chance, self.blocks),))]
+        if kind < 0.86:
+            return [Step("power", (power(chance, rec),)), Step(chance.choice(("sync", "sync", "sync", "apply")))]
+        return self.any(rec)
+
+    def when_closed(self, rec):
+        if self.chance.random() < 0.3:
+            return self.any(rec)
+        return [Step("power", (self.chance.choice((0, 1, 2, 3, 1000)),)), Step("recover")]
+
+    def when_down(self, rec):
+        if self.chance.random() < 0.3:
+            return self.any(rec)
+        return [Step("cut", (marks(self.chance, rec.waiting),))]
+
+
+def lived(chance, bench, large):
+    """A history from a format that answers 0."""
+    blocks = size(chance, large)
+    history = History(chance, blocks)
+    yield Step("make", (blocks, chance.randrange(1 << 32), ()))
+    yield Step("format")
+    for _ in range(8 if large else 60):
+        yield from history.steps(bench.rec())
+
+
+# ---- made-up records and cards
+
+def card_faults(chance, count):
+    return tuple(fault.__name__ for fault in chance.sample(CARD_FAULTS, count))
+
+
+def odd_length(chance, call, blocks, large):
+    """A lent buffer's name and a wrong length for it."""
+    if call in ("tally", "alike"):
+        name = "settled" if call == "tally" else chance.choice(("settled", "other"))
+    else:
+        name = chance.choice(("record", "settled", "waiting", "work"))
+    lengths = {"record": (0, RECORD - 1, RECORD + 1, 2 * RECORD), "waiting": (0, WAITING - 1, WAITING + 1, WAITING - 516, WAITING + 516),
+               "work": (0, WORK - 1, WORK + 1, WORK - 516, WORK + 516)}
+    if name in lengths:
+        return name, chance.choice(lengths[name])
+    if large:
+        return name, BLOCK * 65537
+    whole = BLOCK * blocks
+    return name, chance.choice((0, BLOCK, 34 * BLOCK, 35 * BLOCK - 1, whole - 1, whole + 1, whole + 100, whole - BLOCK, whole + BLOCK))
+
+
+def odd_lengths(chance, call, blocks):
+    kind = chance.random()
+    if kind < 0.75:
+        return ()
+    large = chance.random() < 0.02
+    return tuple(dict(odd_length(chance, call, blocks, large) for _ in range(1 if kind < 0.95 else 2)).items())
+
+
+def made_up(chance, bench, large):
+    """A record and a card with nought to three faults, and calls on them."""
+    blocks, count = size(chance, large), chance.choice((0, 0, 1, 1, 1, 1, 2, 3))
+    pool = chance.choice((RECORD_FAULTS, RECORD_FAULTS, CARD_FAULTS, RECORD_FAULTS + CARD_FAULTS))
+    yield Step("make", (blocks, chance.randrange(1 << 32), tuple(fault.__name__ for fault in chance.sample(pool, count))))
+    calls = chance.choices(NINE + ("tally", "alike"), k=chance.randint(2, 12))
+    for call in calls + ["recover", "cut"] + (["format"] if chance.random() < 0.2 else []):
+        if call == "alike":
+            given = other_card(chance, blocks, large)
+        else:
+            given = arguments(chance, call, bench.rec(), blocks)
+        yield Step(call, given, () if large else odd_lengths(chance, call, blocks))
