@@ -100,31 +100,36 @@ def other_blocks(made):
     made.N = made.chance.choice((made.blocks - 1, made.blocks + 1, 0, FIRST_DATA, TOP))
 
 
+def place(made, count, limit):
+    """One of the places in use, also where another fault made the count absurd."""
+    return made.chance.randrange(min(count, limit))
+
+
 def open_address(made):
     made.mode, made.queued, made.opened = OPEN, 0, max(made.opened, 1)
-    made.list_at(made.chance.randrange(made.opened), made.stray())
+    made.list_at(place(made, made.opened, SLOTS), made.stray())
 
 
 def group_address(made):
     made.mode, made.queued, made.grouped = OPEN, 0, max(made.grouped, 1)
-    made.list_at(SLOTS + made.chance.randrange(made.grouped), made.stray())
+    made.list_at(SLOTS + place(made, made.grouped, SLOTS), made.stray())
 
 
 def log_address(made):
     made.mode, made.queued, made.logged = OPEN, 0, max(made.logged, 1)
-    made.log_at(made.chance.randrange(made.logged), made.stray())
+    made.log_at(place(made, made.logged, SLOTS), made.stray())
 
 
 def waiting_address(made):
     made.mode, made.queued = DOWN, max(made.queued, 1)
-    made.wait_at(made.chance.randrange(made.queued), made.chance.choice((made.blocks, made.blocks + 1, TOP)))
+    made.wait_at(place(made, made.queued, PLACES), made.chance.choice((made.blocks, made.blocks + 1, TOP)))
 
 
 def twice(made, first, count):
-    one, other = made.chance.sample(range(max(count, 2)), 2)
+    one, other = made.chance.sample(range(min(max(count, 2), SLOTS)), 2)
     made.mode, made.queued = OPEN, 0
-    for place in (one, other):
-        made.list_at(first + place, made.blocks - 1)
+    for at in (one, other):
+        made.list_at(first + at, made.blocks - 1)
     return max(count, 2)
 
 
@@ -169,7 +174,7 @@ def neither_sum(made):
 
 def stray_in_list(made):
     made.count = max(made.count, 1)
-    made.log_at(made.chance.randrange(min(made.count, SLOTS)), made.stray())
+    made.log_at(place(made, made.count, SLOTS), made.stray())
 
 
 RECORD_FAULTS = (mode, open_count, group_count, log_count, waiting_count, waiting_unless_down, other_blocks, open_address, group_address,
