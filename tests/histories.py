@@ -49,19 +49,19 @@ def marks(chance, waiting):
     return bytes(kept)
 
 
-def cost(rec):
-    """The orders of a sync and of an apply, as the paper counts them."""
-    inner = rec.logged + 3 if rec.logged else 0
-    if not rec.grouped:
-        return 0, inner
-    return rec.grouped + 3 + (inner if rec.logged + rec.grouped > SLOTS else 0), inner
+def ends(rec):
+    """The powers at which a sync, an apply or a recovery ends at each of its kinds of order, as the paper counts them."""
+    n, m = rec.logged, rec.grouped
+    inner = (n, n + 1, n + 2, n + 3) if n else ()
+    before = n + 3 if n + m > SLOTS else 0
+    own = (before, before + 1, before + m, before + m + 1, before + m + 2, before + m + 3) if m else ()
+    return (0, 1, 2) + inner + own * 2
 
 
 def power(chance, rec):
-    """None, little, one order too little, exactly enough, or plenty."""
-    sync, inner = cost(rec)
-    return chance.choice((0, 1, 2, 3, max(sync - 1, 0), max(sync - 1, 0), sync, max(inner - 1, 0), inner, inner + 1,
-                          chance.randrange(sync + 1), chance.randrange(inner + 1), 1000, 1000, TOP))
+    """None, little, what ends the next call at a place of note, or plenty."""
+    places = ends(rec)
+    return chance.choice(places + (chance.randrange(max(places) + 1), TOP) + (1000,) * (len(places) // 2))
 
 
 def arguments(chance, call, rec, blocks):
@@ -90,23 +90,6 @@ def other_card(chance, blocks, large):
 
 # ---- histories
 
-def busy(chance, rec, blocks):
-    """Puts that fill the open transaction or part of it, and their commit."""
-    most = min(blocks - FIRST_DATA, chance.choice((1, 2, 3, 8, SLOTS, SLOTS + 1)))
-    first = chance.randrange(FIRST_DATA, blocks - most + 1)
-    fill = chance.randrange(3)
-    for i in range(most):
-        yield Step("put", (first + i, (fill, BLOCK)))
-    yield Step("commit")
-
-
-def saving(chance, group):
-    """A group, power and a sync; after a loss the same group comes again, so that a lost write may leave equal bytes."""
-    for at, content in group:
-        yield Step("put", (at, content))
-    yield Step("commit")
-
-
 class History:
     """The next steps of a history, by the mode that the last one left."""
 
@@ -125,26 +108,36 @@ class History:
     def when_open(self, rec):
         kind, chance = self.chance.random(), self.chance
         if kind < 0.12:
-            return busy(chance, rec, self.blocks)
-        if kind < 0.3:
-            if not self.group or chance.random() < 0.5:
-                self.group = [(address(chance, self.blocks), block(chance)) for _ in range(chance.choice((1, 1, 2, 3, 6)))]
-            return saving(chance, self.group)
-        if kind < 0.45:
             return [Step("put", arguments(chance, "put", rec, self.blocks))]
-        if kind < 0.53:
+        if kind < 0.2:
             return [Step("get", (address(chance, self.blocks),))]
-        if kind < 0.86:
-            return [Step("power", (power(chance, rec),)), Step(chance.choice(("sync", "sync", "sync", "apply")))]
-        return self.any(rec)
+        if kind < 0.32:
+            return self.any(rec)
+        if kind < 0.9 and (rec.grouped == 0 or chance.random() < 0.15):
+            return self.many() if chance.random() < 0.2 else self.few()
+        return [Step("power", (power(chance, rec),)), Step(chance.choice(("sync", "sync", "sync", "apply")))]
+
+    def many(self):
+        """Puts that fill the open transaction or much of it, and their commit."""
+        chance = self.chance
+        count = min(self.blocks - FIRST_DATA, chance.choice((8, 16, SLOTS - 1, SLOTS, SLOTS + 1)))
+        first, fill = chance.randrange(FIRST_DATA, self.blocks - count + 1), chance.randrange(3)
+        return [Step("put", (first + i, (fill, BLOCK))) for i in range(count)] + [Step("commit")]
+
+    def few(self):
+        """A small group, often the last one again: then a write that a cut loses may leave the bytes that it had."""
+        chance = self.chance
+        if not self.group or chance.random() < 0.5:
+            self.group = [(address(chance, self.blocks), block(chance)) for _ in range(chance.choice((1, 1, 2, 3, 6)))]
+        return [Step("put", put) for put in self.group] + [Step("commit")]
 
     def when_closed(self, rec):
-        if self.chance.random() < 0.3:
+        if self.chance.random() < 0.25:
             return self.any(rec)
         return [Step("power", (self.chance.choice((0, 1, 2, 3, 1000)),)), Step("recover")]
 
     def when_down(self, rec):
-        if self.chance.random() < 0.3:
+        if self.chance.random() < 0.25:
             return self.any(rec)
         return [Step("cut", (marks(self.chance, rec.waiting),))]
 
@@ -157,6 +150,9 @@ def lived(chance, bench, large):
     yield Step("format")
     for _ in range(8 if large else 60):
         yield from history.steps(bench.rec())
+    if large:
+        yield Step("tally")
+        yield Step("alike", ("laid", (), "second"))
 
 
 # ---- made-up records and cards
@@ -182,11 +178,12 @@ def odd_length(chance, call, blocks, large):
 
 
 def odd_lengths(chance, call, blocks):
+    """For one call in four a wrong length, or two; rarely that of a card too large."""
     kind = chance.random()
     if kind < 0.75:
         return ()
-    large = chance.random() < 0.02
-    return tuple(dict(odd_length(chance, call, blocks, large) for _ in range(1 if kind < 0.95 else 2)).items())
+    large = chance.random() < 0.05
+    return tuple(dict(odd_length(chance, call, blocks, large) for _ in range(1 if large or kind < 0.95 else 2)).items())
 
 
 def made_up(chance, bench, large):

@@ -1,7 +1,7 @@
 """The C library in lockstep with the model of document 01: lists of calls by chance, and everything compared after each call.
 
 Prints the coverage table, which must have no hole, and a summary. For a difference, or a death at a guard page, it prints the seed
-and a list of calls that shows it, made as short as it gets."""
+and a list of calls that shows it, made as short as it gets. --planted puts faults into the model, and each must be found."""
 import argparse
 import mmap
 import os
@@ -13,46 +13,36 @@ import sys
 import tempfile
 import time
 import traceback
-from collections import Counter
+from collections import Counter, namedtuple
 from pathlib import Path
 
 import coverage
 import guarded
+import impostors
 from bench import Bench
 from crash import Difference
 from histories import lived, made_up
 
 ROOT = Path(__file__).resolve().parent.parent
 ARCHIVE = ROOT / "target/staticlib/libfirmware.a"
-CALLS, SEED, LARGE_EVERY = 60000, 1, 150
+SEED, CALLS, LARGE_EVERY = 1, 250000, 150
+
+Done = namedtuple("Done", "calls histories seen")
+Found = namedtuple("Found", "what index steps")
+Run = namedtuple("Run", "library seed calls seconds bench", defaults=(float("inf"), Bench))
 
 
 def history(seed, index, bench):
     """The steps of the history with this index; each is chosen by the state that the one before it left."""
     chance = random.Random("%d/%d" % (seed, index))
-    kind = lived if index % 3 == 0 else made_up
-    return kind(chance, bench, index % LARGE_EVERY == LARGE_EVERY - 1 or index % (3 * LARGE_EVERY) == 0)
-
-
-def carried_out(library, index, steps, at=None):
-    """The bench after these steps, each said to `at` beforehand."""
-    bench = Bench(library, index % 2 == 0)
-    if callable(steps):
-        steps = steps(bench)
-    try:
-        for number, step in enumerate(steps):
-            if at:
-                at(index, number)
-            bench.perform(step)
-    finally:
-        bench.close()
-    return bench
+    kind, turn = (lived, index // 3) if index % 3 == 0 else (made_up, index)
+    return kind(chance, bench, turn % LARGE_EVERY == LARGE_EVERY - 1)
 
 
 # ---- a process of its own, since a stray access ends it
 
 def in_child(work):
-    """What the work returns, or how its process died."""
+    """What the work returns, or a line that says how its process died."""
     reading, writing = os.pipe()
     child = os.fork()
     if child == 0:
@@ -67,9 +57,9 @@ def in_child(work):
     with open(reading, "rb") as pipe:
         result = pipe.read()
     status = os.waitstatus_to_exitcode(os.waitpid(child, 0)[1])
-    if status < 0:
-        return "it died of %s" % signal.Signals(-status).name
-    return pickle.loads(result) if result else "its process ended with status %d" % status
+    if status:
+        return "the call died: %s" % (signal.Signals(-status).name if status < 0 else "an error of the test")
+    return pickle.loads(result)
 
 
 class Place:
@@ -85,51 +75,79 @@ class Place:
         return struct.unpack("<2Q", self.shared[:])
 
 
-def run(library, seed, calls, seconds, place):
-    """Histories until there are so many calls, or the time is over. How many, and what they covered; or the difference."""
-    seen, total, index, start = Counter(), 0, 0, time.monotonic()
-    while total < calls and time.monotonic() - start < seconds:
+# ---- a run
+
+def carried_out(run, index, steps, done=None, place=None):
+    """A bench after these steps, which are a list or a function of the bench. Steps begun are added to `done`."""
+    bench = run.bench(run.library, index % 2 == 0)
+    try:
+        for number, step in enumerate(steps(bench) if callable(steps) else steps):
+            if done is not None:
+                done.append(step)
+            if place:
+                place.set(index, number)
+            bench.perform(step)
+    finally:
+        bench.close()
+    return bench
+
+
+def all_histories(run, place):
+    """Histories until there are so many calls, or the time is over, or something differs."""
+    seen, calls, index, start = Counter(), 0, 0, time.monotonic()
+    while calls < run.calls and time.monotonic() - start < run.seconds:
+        steps = []
         try:
-            bench = carried_out(library, index, lambda b: history(seed, index, b), place.set)
+            bench = carried_out(run, index, lambda b: history(run.seed, index, b), steps, place)
         except Difference as difference:
-            return str(difference)
+            return Found(str(difference), index, steps)
         seen.update(bench.seen)
-        total += bench.calls
+        calls += bench.calls
         index += 1
-    return total, index, seen
+    return Done(calls, index, seen)
 
 
-# ---- the list of calls that shows a difference
-
-def listed(seed, index, last):
+def again(run, index, last):
     """The steps of a history up to this one, by the model alone."""
     bench, steps = Bench(), []
-    for step in history(seed, index, bench):
+    for step in history(run.seed, index, bench):
         steps.append(step)
         if len(steps) > last:
-            return steps
+            break
         bench.perform(step)
     return steps
 
 
-def differs(library, index, steps):
+def compared(run):
+    """What a run came to: Done, or Found with the steps that led there."""
+    place = Place()
+    result = in_child(lambda: all_histories(run, place))
+    if isinstance(result, str):
+        index, last = place.get()
+        return Found(result, index, again(run, index, last))
+    return result
+
+
+# ---- the list of calls that shows a difference
+
+def differs(run, index, steps):
     """What differs, or None."""
     def work():
         try:
-            carried_out(library, index, steps)
+            carried_out(run, index, steps)
         except Difference as difference:
             return str(difference)
     return in_child(work)
 
 
-def shrunk(library, index, steps):
+def shrunk(run, index, steps):
     """Leaves out runs of steps, half of them at first, for as long as something still differs."""
     size = len(steps) // 2
     while size:
-        at = 0
+        at = 1
         while at < len(steps):
             fewer = steps[:at] + steps[at + size:]
-            if fewer and fewer[0].call == "make" and differs(library, index, fewer):
+            if differs(run, index, fewer):
                 steps = fewer
             else:
                 at += size
@@ -141,33 +159,45 @@ def told(step):
     words = [step.call]
     for argument in step.arguments:
         words.append("".join(map(str, argument)) if isinstance(argument, bytes) else str(argument))
-    return " ".join(words + ["%s of %d bytes" % odd for odd in step.odd])
+    return " ".join(words + ["(%s of %d bytes)" % odd for odd in step.odd])
 
 
-def show(library, seed, place, difference):
-    index, last = place.get()
-    steps = shrunk(library, index, listed(seed, index, last))
-    print("lockstep: seed %d, history %d, step %d: %s" % (seed, index, last, difference))
-    for step in steps:
-        print("    " + told(step))
-    print("    here %s" % differs(library, index, steps))
-    return 1
+def show(run, found):
+    """The lines that tell of a difference: the seed, and the calls in order. A made-up state is given by N, its seed and faults."""
+    steps = shrunk(run, found.index, found.steps)
+    yield "lockstep: seed %d, history %d, step %d: %s" % (run.seed, found.index, len(found.steps) - 1, found.what)
+    yield from ("    " + told(step) for step in steps)
+    yield "    here: %s" % differs(run, found.index, steps)
 
 
-def lockstep(library, seed, calls, seconds):
+# ---- the commands
+
+def lockstep(run):
     """Prints what a run found; the exit status."""
-    place, start = Place(), time.monotonic()
-    result = in_child(lambda: run(library, seed, calls, seconds, place))
-    if isinstance(result, str):
-        return show(library, seed, place, result)
-    total, histories, seen = result
-    print("\n".join(coverage.report(seen)))
-    holes = coverage.holes(seen)
+    start = time.monotonic()
+    result = compared(run)
+    if isinstance(result, Found):
+        print("\n".join(show(run, result)))
+        return 1
+    print("\n".join(coverage.report(result.seen)))
+    cells, holes = len(list(coverage.required())), coverage.holes(result.seen)
     for hole in holes:
         print("lockstep: a hole: %s" % " / ".join(word for word in hole if word))
-    print("lockstep: %d calls of %d histories compared, 0 differences, %d of %d cells covered (seed %d, %d s)"
-          % (total, histories, len(list(coverage.required())) - len(holes), len(list(coverage.required())), seed, time.monotonic() - start))
+    print("lockstep: %d calls in %d histories compared with the model, 0 differences, %d of %d cells covered (seed %d, %d s)"
+          % (result.calls, result.histories, cells - len(holes), cells, run.seed, time.monotonic() - start))
     return 1 if holes else 0
+
+
+def planted(run):
+    """Puts each impostor into the model. The exit status is 1 if one is not found."""
+    missed = 0
+    for impostor in impostors.IMPOSTORS:
+        with impostors.planted(impostor):
+            result = compared(run)
+            lines = list(show(run, result)) if isinstance(result, Found) else ["lockstep: no difference"]
+        print("planted in the model: %s: %s" % (impostor.__doc__, "found in %d steps" % (len(lines) - 2) if len(lines) > 1 else "NOT FOUND"))
+        missed += len(lines) == 1
+    return 1 if missed else 0
 
 
 def main():
@@ -176,10 +206,11 @@ def main():
     parser.add_argument("--calls", type=int, default=CALLS, help="how many to compare")
     parser.add_argument("--seconds", type=float, default=float("inf"), help="when to stop before that")
     parser.add_argument("--archive", type=Path, default=ARCHIVE)
+    parser.add_argument("--planted", action="store_true", help="faults in the model, each of which must be found")
     words = parser.parse_args()
     with tempfile.TemporaryDirectory() as folder:
         library = guarded.link(words.archive, Path(folder, "libtrapcard.so"))
-        return lockstep(library, words.seed, words.calls, words.seconds)
+        return (planted if words.planted else lockstep)(Run(library, words.seed, words.calls, words.seconds))
 
 
 if __name__ == "__main__":
