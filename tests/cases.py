@@ -1,7 +1,7 @@
 """What one call met, as cells of the coverage table. It is asked before the call, and told the outcome after it."""
 from coverage import IN_APPLY, IN_SYNC, TWO
-from model import (BLOCK, DOWN, FIRST_DATA, LEAST, MOST, OPEN, PLACES, RECORD, SLOTS, WAITING, WORK, choice, chosen, lists, wrong_counts,
-                   wrong_lists)
+from model import (BLOCK, CLOSED, DOWN, FIRST_DATA, LEAST, MOST, OPEN, PLACES, RECORD, SLOTS, WAITING, WORK, choice, chosen, is_data, lists,
+                   wrong_counts, wrong_lists)
 
 
 def settled_sizes(settled):
@@ -59,6 +59,7 @@ def recover_case(rec, answer, orders):
     return "recover: cut short" + (", header waits" if orders else " at once")
 
 
+SIX = ("put", "get", "commit", "abandon", "sync", "apply")
 ORDERS = {"sync": sync_case, "apply": apply_case, "recover": recover_case}
 
 
@@ -83,7 +84,25 @@ class Met:
             yield "cause 1", self.sizes[0], self.call
         if answer == 2 and len(self.parts) == 1:
             yield "cause 2", self.parts[0], self.call
+        if 0 < answer < 10:
+            yield from (("first of two", number, str(later)) for later in self.later() if later > answer)
         yield from (("cases", case, "") for case in self.cases(outcome, number, after))
+
+    def later(self):
+        """Rows that apply, be they the first or not, as far as the record and the arguments show it."""
+        if any(self.parts) or any(wrong_counts(self.rec, self.views["settled"])):
+            yield 2
+        if self.call in SIX and self.rec.mode in (CLOSED, DOWN):
+            yield 3 if self.rec.mode == CLOSED else 4
+        if self.call in ("put", "get") and not is_data(self.blocks, self.numbers[0]):
+            yield 6
+        if self.call == "put" and self.rec.opened == SLOTS and not is_data(self.blocks, self.numbers[0]):
+            yield 7
+        if self.call == "recover":
+            yield {OPEN: 5, DOWN: 4}.get(self.rec.mode, 0)
+            yield 0 if self.sizes else choice(self.blocks, self.views["settled"])[0]
+        if self.call == "cut" and (len(self.last) != self.rec.waiting or any(mark > 1 for mark in self.last)):
+            yield 10
 
     def cases(self, outcome, number, after):
         if self.call in ORDERS and number in ("0", "gone"):
@@ -140,6 +159,9 @@ class Met:
 
 class MetCards(Met):
     """tally or alike."""
+
+    def later(self):
+        return ()
 
     def cases(self, outcome, number, after):
         answer, found = outcome

@@ -16,6 +16,9 @@ SIZES = ("record length", "settled length", "N under 35", "N over 65536", "waiti
 PARTS = ("mode", "open count", "group count", "log count", "waiting count", "waiting unless down", "N", "waiting address",
          "open address", "group address", "log address", "twice in open", "twice in group")
 
+# Where two rows apply: the number given, and the later ones.
+FIRST = {"1": "2 3 4 5 6 10", "2": "3 4 5 6 8 9 10", "3": "6", "4": "6 8 9", "5": "8 9", "6": "7"}
+
 # The places at which orders end.
 IN_APPLY = ("home blocks wait", "home blocks flushed", "header waits")
 IN_SYNC = ("log blocks wait", "descriptor waits", "header waits")
@@ -39,7 +42,8 @@ CASES = (
     + tuple("cut: %s header %s" % (whose, fate) for whose in ("sync's own", "sync's apply's", "apply's", "recover's")
             for fate in ("kept", "lost"))
     + prefixed("cut: ", ("nothing waits", "34 wait", "refused for the number of marks", "refused for a mark"))
-    + prefixed("demand 3, ", ("new: all kept", "new: a harmless loss", "old: log torn", "old: header lost", "old: no header"))
+    + prefixed("demand 3, ", ("new: all kept", "new: a harmless loss", "old: log torn", "old: header lost", "old: no header",
+                              "the old disk found", "the new disk found"))
     + prefixed("get: ", ("open", "group", "log", "log, of two slots", "home", "34", "N - 1", "33", "N", "2^32 - 1"))
     + prefixed("put: ", ("34", "N - 1", "33", "N", "2^32 - 1", "adds", "adds the 32nd", "replaces", "replaces, 32 open", "block short",
                          "block long"))
@@ -61,6 +65,8 @@ def required():
         yield from (("cause 1", size, call) for call in TWO)
     for part in PARTS:
         yield from (("cause 2", part, call) for call in TEN[1:])
+    for number, later in FIRST.items():
+        yield from (("first of two", number, other) for other in later.split())
     yield from (("cases", case, "") for case in CASES)
 
 
@@ -78,6 +84,7 @@ def report(seen):
     yield from table(seen, "causes", CAUSES, NUMBERS)
     yield from table(seen, "cause 1", SIZES, TEN + TWO)
     yield from table(seen, "cause 2", PARTS, TEN[1:])
+    yield from table(seen, "first of two", FIRST, NUMBERS)
     yield "cases"
     half = -(-len(CASES) // 2)
     for left, right in zip(CASES[:half], CASES[half:] + ("",)):

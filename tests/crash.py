@@ -161,6 +161,7 @@ class Witness:
             block = self.block(outcome)
             must(block == disk.get(address, ZERO), "demand 3: block %d is not the %s disk's", address, which)
             must(block == self.plain.get(address), "demand 2: block %d is not the plain disk's", address)
+        self.events.append("demand 3, the %s disk found" % which)
 
 
 def total(listed):

@@ -13,7 +13,10 @@ LARGE_SIZES = (65535, 65536)
 
 
 def size(chance, large):
-    return chance.choice(LARGE_SIZES) if large else chance.choice(SIZES)
+    """Mostly a small card; which are the largest is decided by the history's index."""
+    if large:
+        return chance.choice(LARGE_SIZES)
+    return chance.choice(SIZES) if chance.random() < 0.96 else chance.randrange(35, 1200)
 
 
 # ---- arguments
@@ -122,7 +125,8 @@ class History:
         chance = self.chance
         count = min(self.blocks - FIRST_DATA, chance.choice((8, 16, SLOTS - 1, SLOTS, SLOTS + 1)))
         first, fill = chance.randrange(FIRST_DATA, self.blocks - count + 1), chance.randrange(3)
-        return [Step("put", (first + i, (fill, BLOCK))) for i in range(count)] + [Step("commit")]
+        more = [Step("put", (self.blocks, (fill, BLOCK)))] if chance.random() < 0.2 else []
+        return [Step("put", (first + i, (fill, BLOCK))) for i in range(count)] + more + [Step("commit")]
 
     def few(self):
         """A small group, often the last one again: then a write that a cut loses may leave the bytes that it had."""
@@ -182,7 +186,7 @@ def odd_lengths(chance, call, blocks):
     kind = chance.random()
     if kind < 0.75:
         return ()
-    large = chance.random() < 0.05
+    large = chance.random() < 0.08
     return tuple(dict(odd_length(chance, call, blocks, large) for _ in range(1 if large or kind < 0.95 else 2)).items())
 
 

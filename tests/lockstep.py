@@ -183,8 +183,10 @@ def lockstep(run):
     cells, holes = len(list(coverage.required())), coverage.holes(result.seen)
     for hole in holes:
         print("lockstep: a hole: %s" % " / ".join(word for word in hole if word))
-    print("lockstep: %d calls in %d histories compared with the model, 0 differences, %d of %d cells covered (seed %d, %d s)"
-          % (result.calls, result.histories, cells - len(holes), cells, run.seed, time.monotonic() - start))
+    disks = sum(result.seen["cases", "demand 3, the %s disk found" % which, ""] for which in ("old", "new"))
+    print("lockstep: %d calls in %d histories compared with the model, %d disks after a recovery read back, 0 differences, "
+          "%d of %d cells covered (seed %d, %d s)"
+          % (result.calls, result.histories, disks, cells - len(holes), cells, run.seed, time.monotonic() - start))
     return 1 if holes else 0
 
 

@@ -57,8 +57,22 @@ class Made:
     def wait_at(self, place, address):
         struct.pack_into("<I", self.waiting, ENTRY * place, address)
 
+    def spoil(self):
+        """Strays where no address is read: beyond the counts, and in work memory unless open."""
+        unread = self.mode != OPEN
+        for i in range(0 if unread else self.opened, SLOTS):
+            self.list_at(i, self.stray())
+        for i in range(0 if unread else self.grouped, SLOTS):
+            self.list_at(SLOTS + i, self.stray())
+        for i in range(max(self.logged, self.count), SLOTS):
+            self.log_at(i, self.stray())
+        for i in range(self.queued, PLACES):
+            self.wait_at(i, self.blocks)
+
     def finished(self):
         """The header's sums come last, and so does the record's."""
+        if self.chance.random() < 0.5:
+            self.spoil()
         sums = [log_sum(log(self.settled, min(n, SLOTS))) ^ flip for n, flip in zip((self.previous, self.count), self.flips)]
         struct.pack_into("<4I2Q", self.settled, 0, self.version, self.header_blocks, self.previous, self.count, *sums)
         total = self.chance.choice((EMPTY_SUM, sums[1], self.chance.randrange(2**64)))
