@@ -44,6 +44,19 @@ def second_card(settled, kind, detail):
     return other
 
 
+def given(step):
+    """The numbers of a call, and put's block or cut's marks."""
+    if step.call == "put":
+        return step.arguments[:1], content(*step.arguments[1])
+    if step.call == "cut":
+        return (), step.arguments[0]
+    return (() if step.call == "alike" else step.arguments), None
+
+
+def behind(numbers, last):
+    return (*numbers, *([] if last is None else [last]))
+
+
 class Bench:
     """Without a library it is the model alone, which is how a list of steps is made again."""
 
@@ -71,56 +84,60 @@ class Bench:
         if step.call == "make":
             return self.make(*step.arguments)
         self.calls += 1
-        views, numbers, last = self.prepared(step)
-        arguments = (*numbers, *([last] if last is not None else []))
+        views, (numbers, last) = self.views(step), given(step)
         if not self.library:
-            return model.c_call(step.call, list(views.values()), arguments)
-        before, guarded, followed = met(step.call, views, self.rec(), numbers, last), self.guarded(step, views, last), self.followed(step)
+            return self.by_model(step, views, numbers, last)
+        before, lent, followed = self.met(step, views, numbers, last), self.guarded(step, views, last), self.followed(step)
         if followed:
             self.witness.before(step.call)
-        outcome = self.library.call(step.call, guarded, numbers)
-        self.compare(step, outcome, model.c_call(step.call, list(views.values()), arguments), guarded, views, last)
+        outcome = self.library.call(step.call, lent, numbers)
+        self.compare(step, outcome, lent, views, numbers, last)
+        self.release(lent)
         if followed:
-            self.witness.after(step.call, arguments, outcome)
+            self.witness.after(step.call, behind(numbers, last), outcome)
             self.seen.update(("cases", event, "") for event in self.witness.events)
             self.witness.events.clear()
-        self.seen.update(before.cells(outcome, self.rec()))
+        self.seen.update(before.cells(outcome, self.rec()) if before else ())
         self.follow(step, outcome)
 
-    def prepared(self, step):
-        """The buffers that the model is lent, the numbers, and put's block or cut's marks."""
-        views, last = dict(self.model), None
-        numbers = ()
+    def met(self, step, views, numbers, last):
+        return met(step.call, views, self.rec(), numbers, last)
+
+    def by_model(self, step, views, numbers, last):
+        return model.c_call(step.call, list(views.values()), behind(numbers, last))
+
+    def views(self, step):
+        """The buffers that the model is lent."""
+        views = dict(self.model)
         if step.call == "alike":
             kind, detail, side = step.arguments
             other = views["settled"] if kind == "itself" else second_card(views["settled"], kind, detail)
             views["settled"], views["other"] = (other, views["settled"]) if side == "first" else (views["settled"], other)
-        elif step.call == "put":
-            numbers, last = step.arguments[:1], content(*step.arguments[1])
-        elif step.call == "cut":
-            last = step.arguments[0]
-        else:
-            numbers = step.arguments
         views.update((name, resized(views[name], length)) for name, length in step.odd)
-        return {name: views[name] for name in FUNCTIONS[step.call][0]}, numbers, last
+        return {name: views[name] for name in FUNCTIONS[step.call][0]}
 
     def guarded(self, step, views, last):
         """The same buffers for the library: its own where the call is lent those, else copies between guard pages."""
-        guarded = {}
+        lent = {}
         for name, view in views.items():
             own = next((self.lent[mine] for mine, data in self.model.items() if data is view), None)
-            guarded[name] = own or Guarded(view, self.at_end)
+            lent[name] = own or Guarded(view, self.at_end)
         if last is not None:
-            guarded[FUNCTIONS[step.call][3]] = Guarded(last, self.at_end)
-        return guarded
+            lent[FUNCTIONS[step.call][3]] = Guarded(last, self.at_end)
+        return lent
 
-    def compare(self, step, outcome, expected, guarded, views, last):
+    def compare(self, step, outcome, lent, views, numbers, last):
+        """Number, out-parameters and every lent byte, with the model's."""
+        expected = self.by_model(step, views, numbers, last)
         must(outcome == expected, "the library gives %s, the model %s", outcome, expected)
         for name, view in views.items():
-            must(guarded[name].same(view), "the %s bytes differ", name)
+            must(lent[name].same(view), "the %s bytes differ", name)
         if last is not None:
-            must(guarded[FUNCTIONS[step.call][3]].same(bytearray(last)), "put's block or cut's marks were written")
-        for buffer in guarded.values():
+            must(lent[FUNCTIONS[step.call][3]].same(bytearray(last)), "put's block or cut's marks were written")
+
+    def release(self, lent):
+        """Copies made for one call go."""
+        for buffer in lent.values():
             if buffer not in self.lent.values():
                 buffer.close()
 

@@ -88,7 +88,7 @@ def report(seen):
     yield "cases"
     half = -(-len(CASES) // 2)
     for left, right in zip(CASES[:half], CASES[half:] + ("",)):
-        cells = ["%-60s%7d" % (case, seen["cases", case, ""]) for case in (left, right) if case]
+        cells = ["%-63s%7d" % (case, seen["cases", case, ""]) for case in (left, right) if case]
         yield "  " + "   ".join(cells)
 
 

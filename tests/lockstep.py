@@ -19,6 +19,7 @@ from pathlib import Path
 import coverage
 import guarded
 import impostors
+import model
 from bench import Bench
 from crash import Difference
 from histories import lived, made_up
@@ -26,6 +27,7 @@ from histories import lived, made_up
 ROOT = Path(__file__).resolve().parent.parent
 ARCHIVE = ROOT / "target/staticlib/libfirmware.a"
 SEED, CALLS, LARGE_EVERY = 1, 250000, 150
+PUBLISHED = {b"": 0xcbf29ce484222325, b"a": 0xaf63dc4c8601ec8c, b"foobar": 0x85944171f73967e8}
 
 Done = namedtuple("Done", "calls histories seen")
 Found = namedtuple("Found", "what index steps")
@@ -210,6 +212,8 @@ def main():
     parser.add_argument("--archive", type=Path, default=ARCHIVE)
     parser.add_argument("--planted", action="store_true", help="faults in the model, each of which must be found")
     words = parser.parse_args()
+    if any(model.fnv(text) != total for text, total in PUBLISHED.items()):
+        raise SystemExit("lockstep: the model's sum is not the published one")
     with tempfile.TemporaryDirectory() as folder:
         library = guarded.link(words.archive, Path(folder, "libtrapcard.so"))
         return (planted if words.planted else lockstep)(Run(library, words.seed, words.calls, words.seconds))
