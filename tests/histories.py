@@ -36,19 +36,18 @@ def block(chance):
 
 
 def marks(chance, waiting):
-    """Mostly as many as wait."""
+    """Mostly as many as wait. The last write that waits may be a header: it is kept more often than lost."""
     kind = chance.random()
     if kind < 0.05:
         return bytes(chance.choice((0, 1)) for _ in range(max(0, waiting + chance.choice((-1, 1)))))
     if kind < 0.1 and waiting:
         return bytes(waiting - 1) + bytes([chance.choice((2, 255))])
-    if kind < 0.4:
+    if kind < 0.35:
         return bytes([1]) * waiting
     if kind < 0.5:
         return bytes(waiting)
     kept = bytearray(int(chance.random() < 0.8) for _ in range(waiting))
-    if kind < 0.8 and waiting:
-        kept[-1] = 1
+    kept[-1:] = [int(kind < 0.8)] if waiting else []
     return bytes(kept)
 
 

@@ -4,13 +4,19 @@ import struct
 
 from model import (BLOCK, CLOSED, DOWN, EMPTY_SUM, ENTRY, FIRST_DATA, OPEN, PLACES, SLOTS, WAITING, WORK, Record, encode, log, log_sum)
 
-LARGE = 1024
 TOP = 2**32 - 1
+RUN = 1 << 16
 
 
 def noise(chance, length):
-    """Bytes of any kind; on a large card all but the first blocks are zero."""
-    return bytearray(chance.randbytes(min(length, BLOCK * LARGE // 8)).ljust(length, b"\0"))
+    """Bytes of any kind. A large card has them at both ends and here and there between, and is zero elsewhere."""
+    if length <= 2 * RUN:
+        return bytearray(chance.randbytes(length))
+    data = bytearray(length)
+    data[:RUN], data[-RUN:] = chance.randbytes(RUN), chance.randbytes(RUN)
+    for _ in range(200):
+        data[chance.randrange(length)] = chance.randrange(256)
+    return data
 
 
 def few(chance, most):
