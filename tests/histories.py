@@ -195,7 +195,7 @@ def made_up(chance, bench, large):
     pool = chance.choice((RECORD_FAULTS, RECORD_FAULTS, CARD_FAULTS, RECORD_FAULTS + CARD_FAULTS))
     yield Step("make", (blocks, chance.randrange(1 << 32), tuple(fault.__name__ for fault in chance.sample(pool, count))))
     calls = chance.choices(NINE + ("tally", "alike"), k=chance.randint(2, 12))
-    for call in calls + ["recover", "cut"] + (["format"] if chance.random() < 0.2 else []):
+    for call in calls + ["cut", "recover"] + (["format"] if chance.random() < 0.2 else []):
         if call == "alike":
             given = other_card(chance, blocks, large)
         else:

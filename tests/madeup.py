@@ -32,7 +32,7 @@ class Made:
         self.mode, self.N, self.power = chance.choice((CLOSED, OPEN, OPEN, DOWN)), blocks, chance.choice((0, 1, 2, 3, 5, 9, 40, 80, TOP))
         room = min(SLOTS, blocks - FIRST_DATA)
         self.opened, self.grouped, self.logged = few(chance, room), few(chance, room), few(chance, SLOTS)
-        self.queued = few(chance, PLACES) if self.mode == DOWN else 0
+        self.queued = chance.choice((few(chance, SLOTS), few(chance, SLOTS), PLACES)) if self.mode == DOWN else 0
         self.count = chance.choice((self.logged, few(chance, SLOTS)))
         self.previous = min(self.count, few(chance, SLOTS))
         self.version, self.header_blocks, self.flips = 1, blocks, [0, 0]
