@@ -1,11 +1,15 @@
-"""Document 01's ten calls on plain Python values, written from the paper and not from the code of the crates.
+"""Document 01's twelve calls on plain Python values, written from the paper and not from the code of the crates.
 
-Buffers are bytearrays. A call returns its number and the record that it leaves; sync, apply and recover their orders between.
+Buffers are bytearrays. A call of the ten returns its number and the record that it leaves; sync, apply and recover their orders
+between. tally and alike return their number and what they found. `c_call` is any of the twelve as C sees it.
 """
+import struct
 from dataclasses import dataclass, replace
+from functools import lru_cache
 
-BLOCK, ENTRY, SLOTS, FIRST_DATA = 512, 516, 32, 34
-WAITING, WORK = 34 * ENTRY, 64 * ENTRY
+BLOCK, ENTRY, SLOTS, FIRST_DATA, PLACES, RECORD = 512, 516, 32, 34, 34, 36
+LEAST, MOST = 35, 65536
+WAITING, WORK = PLACES * ENTRY, 2 * SLOTS * ENTRY
 CLOSED, OPEN, DOWN = 0, 1, 2
 EMPTY_SUM = 14695981039346656037
 
@@ -22,9 +26,10 @@ class Record:
     sum: int = EMPTY_SUM
 
 
+@lru_cache(1 << 14)
 def fnv(data, h=EMPTY_SUM):
     for byte in data:
-        h = (h ^ byte) * 1099511628211 % 2**64
+        h = (h ^ byte) * 1099511628211 & 0xffffffffffffffff
     return h
 
 
@@ -32,8 +37,8 @@ def fresh(blocks):
     return Record(OPEN, blocks, power=1000000)
 
 
-def number(data, at):
-    return int.from_bytes(data[at:at + 4], "little")
+def number(data, at, size=4):
+    return int.from_bytes(data[at:at + size], "little")
 
 
 def entries(data, first, count):
@@ -46,8 +51,8 @@ def lists(rec, settled, work):
             [number(settled, BLOCK + 4 * i) for i in range(rec.logged)])
 
 
-def is_data(rec, address):
-    return FIRST_DATA <= address <= rec.blocks - 1
+def is_data(blocks, address):
+    return FIRST_DATA <= address <= blocks - 1
 
 
 def home(settled, address):
@@ -65,39 +70,55 @@ def log_sum(log_entries, h=EMPTY_SUM):
     return h
 
 
-def choice(rec, settled):
+def choice(blocks, settled):
     """What a recovery comes to: its number, the count and the sum of the list taken, and whether it falls back."""
-    version, blocks, previous, count = (number(settled, at) for at in (0, 4, 8, 12))
-    sums = [int.from_bytes(settled[at:at + 8], "little") for at in (16, 24)]
-    if version != 1 or blocks != rec.blocks or count > SLOTS or previous > count:
+    version, counted, previous, count = (number(settled, at) for at in (0, 4, 8, 12))
+    sums = [number(settled, at, 8) for at in (16, 24)]
+    if version != 1 or counted != blocks or count > SLOTS or previous > count:
         return 8, 0, 0, False
     for taken, total, back in ((count, sums[1], False), (previous, sums[0], True)):
         listed = log(settled, taken)
-        if log_sum(listed) == total and all(is_data(rec, a) for a, _ in listed):
+        if all(is_data(blocks, a) for a, _ in listed) and log_sum(listed) == total:
             return 0, taken, total, back
     return 9, 0, 0, False
 
 
-def wrong_record(rec, settled, waiting, work):
-    if rec.mode > DOWN or max(rec.opened, rec.grouped, rec.logged) > SLOTS or rec.waiting > 34:
-        return True
-    if rec.waiting != 0 and rec.mode != DOWN:
-        return True
-    if rec.blocks != len(settled) // BLOCK:
-        return True
+def wrong_counts(rec, settled):
+    """What row 2 finds in the record alone, by name."""
+    for name, wrong in (("mode", rec.mode > DOWN), ("open count", rec.opened > SLOTS), ("group count", rec.grouped > SLOTS),
+                        ("log count", rec.logged > SLOTS), ("waiting count", rec.waiting > PLACES),
+                        ("waiting unless down", rec.waiting != 0 and rec.mode != DOWN),
+                        ("N", rec.blocks != len(settled) // BLOCK)):
+        if wrong:
+            yield name
+
+
+def wrong_lists(rec, settled, waiting, work):
+    """What row 2 finds in the lists, of a record whose counts are right."""
     if any(a >= rec.blocks for a in entries(waiting, 0, rec.waiting)):
-        return True
+        yield "waiting address"
     if rec.mode != OPEN:
-        return False
+        return
     opened, grouped, logged = lists(rec, settled, work)
-    if not all(is_data(rec, a) for a in opened + grouped + logged):
-        return True
-    return len(set(opened)) < len(opened) or len(set(grouped)) < len(grouped)
+    for name, listed in (("open address", opened), ("group address", grouped), ("log address", logged)):
+        if not all(is_data(rec.blocks, a) for a in listed):
+            yield name
+    for name, listed in (("twice in open", opened), ("twice in group", grouped)):
+        if len(set(listed)) < len(listed):
+            yield name
+
+
+def wrong_record(rec, settled, waiting, work):
+    return any(wrong_counts(rec, settled)) or any(wrong_lists(rec, settled, waiting, work))
+
+
+def wrong_size(settled):
+    return len(settled) % BLOCK != 0 or not LEAST <= len(settled) // BLOCK <= MOST
 
 
 def cause(call, rec, settled, waiting, work, address=None, block=None, marks=None):
     """The first row of the table that applies, or 0."""
-    if len(settled) % BLOCK or not 35 <= len(settled) // BLOCK <= 65536:
+    if wrong_size(settled):
         return 1
     if len(waiting) != WAITING or len(work) != WORK or (call == "put" and len(block) != BLOCK):
         return 1
@@ -110,10 +131,10 @@ def cause(call, rec, settled, waiting, work, address=None, block=None, marks=Non
     if call == "cut":
         return 10 if len(marks) != rec.waiting or any(m > 1 for m in marks) else 0
     if call == "recover":
-        return {OPEN: 5, DOWN: 4}.get(rec.mode) or choice(rec, settled)[0]
+        return {OPEN: 5, DOWN: 4}.get(rec.mode) or choice(rec.blocks, settled)[0]
     if rec.mode != OPEN:
         return 3 if rec.mode == CLOSED else 4
-    if call in ("put", "get") and not is_data(rec, address):
+    if call in ("put", "get") and not is_data(rec.blocks, address):
         return 6
     opened, grouped, _ = lists(rec, settled, work)
     if call == "put" and address not in opened and rec.opened == SLOTS:
@@ -270,7 +291,7 @@ def recover(rec, settled, waiting, work):
     answer = cause("recover", rec, settled, waiting, work)
     if answer:
         return answer, 0, rec
-    _, count, total, back = choice(rec, settled)
+    _, count, total, back = choice(rec.blocks, settled)
     orders = Orders(rec, settled, waiting)
     if back:
         orders.write(0, header(rec, count, count, total, total))
@@ -284,3 +305,62 @@ def cut(rec, settled, waiting, work, marks):
         return answer, rec
     settle(settled, waiting, marks)
     return 0, Record(CLOSED, rec.blocks, power=rec.power)
+
+
+# ---- settled bytes alone
+
+def chosen(settled):
+    """The number, and the list that a recovery of these settled bytes takes."""
+    if wrong_size(settled):
+        return 1, []
+    answer, count, _, _ = choice(len(settled) // BLOCK, settled)
+    return answer, log(settled, count)
+
+
+def laid(settled, listed):
+    """The data blocks, one after another, with the list laid over."""
+    data = bytearray(memoryview(settled)[BLOCK * FIRST_DATA:])
+    for address, block in listed:
+        at = BLOCK * (address - FIRST_DATA)
+        data[at:at + BLOCK] = block
+    return data
+
+
+def tally(settled):
+    answer, listed = chosen(settled)
+    return answer, 0 if answer else sum(laid(settled, listed).translate(None, b"\0"))
+
+
+def alike(one, other):
+    (first, listed), (second, others) = chosen(one), chosen(other)
+    if first or second:
+        return first or second, 0
+    return 0, int(len(one) == len(other) and laid(one, listed) == laid(other, others))
+
+
+# ---- what C sees
+
+def decode(record):
+    return Record(*struct.unpack("<7IQ", record))
+
+
+def encode(rec):
+    return struct.pack("<7IQ", rec.mode, rec.blocks, rec.opened, rec.grouped, rec.logged, rec.waiting, rec.power, rec.sum)
+
+
+OUTS = {"get": 2, "sync": 1, "apply": 1, "recover": 1, "tally": 1, "alike": 1}
+
+
+def c_call(call, lent, arguments=()):
+    """A call as C sees it: lent are the record and the three buffers, or a card or two. Its number, then its out-parameters."""
+    made = globals()[call]
+    if call in ("tally", "alike"):
+        return made(*lent)
+    record, *card = lent
+    if len(record) != RECORD:
+        return (1,) + (0,) * OUTS.get(call, 0)
+    outcome = made(decode(record), *card, *arguments)
+    if call == "get":
+        return outcome
+    record[:] = encode(outcome[-1])
+    return outcome[:-1]

@@ -1,0 +1,156 @@
+"""The library and the model side by side: one step, then everything that the call returned or was lent is compared."""
+import random
+from collections import Counter
+from functools import lru_cache
+
+import model
+from cases import met
+from crash import Witness, must
+from guarded import FUNCTIONS, Guarded
+from madeup import made
+from model import BLOCK
+
+CARD = ("record", "settled", "waiting", "work")
+
+
+@lru_cache(1 << 12)
+def content(fill, length):
+    return bytes([fill]) * length if fill < 256 else random.Random(fill).randbytes(length)
+
+
+def resized(data, length):
+    return bytearray(data[:length].ljust(length, b"\xa5"))
+
+
+def laid_card(settled):
+    """A card with the same data blocks and no log, or the card itself where a recovery would refuse it."""
+    answer, listed = model.chosen(settled)
+    if answer:
+        return bytearray(settled)
+    blocks = len(settled) // BLOCK
+    empty = model.header(model.fresh(blocks), 0, 0, model.EMPTY_SUM, model.EMPTY_SUM)
+    return bytearray(empty + settled[BLOCK:BLOCK * model.FIRST_DATA] + model.laid(settled, listed))
+
+
+def second_card(settled, kind, detail):
+    """The other card of an alike."""
+    if kind == "made":
+        return made(*detail)[1]
+    if kind == "laid":
+        return laid_card(settled)
+    other = bytearray(settled)
+    for at, value in detail:
+        other[at] = value
+    return other
+
+
+def given(step):
+    """The numbers of a call, and put's block or cut's marks."""
+    if step.call == "put":
+        return step.arguments[:1], content(*step.arguments[1])
+    if step.call == "cut":
+        return (), step.arguments[0]
+    return (() if step.call == "alike" else step.arguments), None
+
+
+def behind(numbers, last):
+    return (*numbers, *([] if last is None else [last]))
+
+
+class Bench:
+    """Without a library it is the model alone, which is how a list of steps is made again."""
+
+    def __init__(self, library=None, at_end=True):
+        self.library, self.at_end = library, at_end
+        self.model, self.lent, self.witness, self.seen, self.calls = {}, {}, None, Counter(), 0
+
+    def rec(self):
+        return model.decode(self.model["record"])
+
+    def close(self):
+        for buffer in self.lent.values():
+            buffer.close()
+        self.lent = {}
+
+    def make(self, blocks, seed, faults):
+        self.close()
+        self.model, self.witness = dict(zip(CARD, made(blocks, seed, faults))), None
+        if self.library:
+            self.lent = {name: Guarded(data, self.at_end) for name, data in self.model.items()}
+
+    # ---- a call
+
+    def perform(self, step):
+        if step.call == "make":
+            return self.make(*step.arguments)
+        self.calls += 1
+        views, (numbers, last) = self.views(step), given(step)
+        if not self.library:
+            return self.by_model(step, views, numbers, last)
+        before, lent, followed = self.met(step, views, numbers, last), self.guarded(step, views, last), self.followed(step)
+        if followed:
+            self.witness.before(step.call)
+        outcome = self.library.call(step.call, lent, numbers)
+        self.compare(step, outcome, lent, views, numbers, last)
+        self.release(lent)
+        if followed:
+            self.witness.after(step.call, behind(numbers, last), outcome)
+            self.seen.update(("cases", event, "") for event in self.witness.events)
+            self.witness.events.clear()
+        self.seen.update(before.cells(outcome, self.rec()) if before else ())
+        self.follow(step, outcome)
+
+    def met(self, step, views, numbers, last):
+        return met(step.call, views, self.rec(), numbers, last)
+
+    def by_model(self, step, views, numbers, last):
+        return model.c_call(step.call, list(views.values()), behind(numbers, last))
+
+    def views(self, step):
+        """The buffers that the model is lent."""
+        views = dict(self.model)
+        if step.call == "alike":
+            kind, detail, side = step.arguments
+            other = views["settled"] if kind == "itself" else second_card(views["settled"], kind, detail)
+            views["settled"], views["other"] = (other, views["settled"]) if side == "first" else (views["settled"], other)
+        views.update((name, resized(views[name], length)) for name, length in step.odd)
+        return {name: views[name] for name in FUNCTIONS[step.call][0]}
+
+    def guarded(self, step, views, last):
+        """The same buffers for the library: its own where the call is lent those, else copies between guard pages."""
+        lent = {}
+        for name, view in views.items():
+            own = next((self.lent[mine] for mine, data in self.model.items() if data is view), None)
+            lent[name] = own or Guarded(view, self.at_end)
+        if last is not None:
+            lent[FUNCTIONS[step.call][3]] = Guarded(last, self.at_end)
+        return lent
+
+    def compare(self, step, outcome, lent, views, numbers, last):
+        """Number, out-parameters and every lent byte, with the model's."""
+        expected = self.by_model(step, views, numbers, last)
+        must(outcome == expected, "the library gives %s, the model %s", outcome, expected)
+        for name, view in views.items():
+            must(lent[name].same(view), "the %s bytes differ", name)
+        if last is not None:
+            must(lent[FUNCTIONS[step.call][3]].same(bytearray(last)), "put's block or cut's marks were written")
+
+    def release(self, lent):
+        """Copies made for one call go."""
+        for buffer in lent.values():
+            if buffer not in self.lent.values():
+                buffer.close()
+
+    # ---- a list of calls from a format on
+
+    def followed(self, step):
+        """Whether the call is one of the list that the witness follows."""
+        return self.witness is not None and not step.odd and step.call not in ("format", "tally", "alike")
+
+    def follow(self, step, outcome):
+        if step.call == "format" and outcome[0] == 0:
+            self.witness = None if step.odd else Witness(self.library, self.lent)
+        elif step.odd and outcome[0] in (0, 4):
+            self.witness = None
+        if self.witness and self.witness.excepted:
+            self.witness = None

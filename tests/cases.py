@@ -1,0 +1,189 @@
+"""What one call met, as cells of the coverage table. It is asked before the call, and told the outcome after it."""
+from coverage import IN_APPLY, IN_SYNC, TWO
+from model import (BLOCK, CLOSED, DOWN, FIRST_DATA, LEAST, MOST, OPEN, PLACES, RECORD, SLOTS, WAITING, WORK, choice, chosen, is_data, lists,
+                   wrong_counts, wrong_lists)
+
+
+def settled_sizes(settled):
+    blocks = len(settled) // BLOCK
+    for part, wrong in (("settled length", len(settled) % BLOCK), ("N under 35", blocks < LEAST), ("N over 65536", blocks > MOST)):
+        if wrong:
+            yield part
+
+
+def wrong_sizes(views):
+    """The parts of row 1 that apply."""
+    if "record" in views and len(views["record"]) != RECORD:
+        yield "record length"
+    for name in ("settled", "other"):
+        yield from settled_sizes(views[name]) if name in views else ()
+    for name, right in (("waiting", WAITING), ("work", WORK)):
+        if name in views and len(views[name]) != right:
+            yield name + (" short" if len(views[name]) < right else " long")
+
+
+# ---- where orders ended
+
+def place_in_apply(orders, n):
+    return IN_APPLY[max(orders - n, 0)]
+
+
+def place_in_sync(orders, m):
+    return IN_SYNC[max(orders - m, 0)]
+
+
+def sync_case(rec, answer, orders):
+    n, m = rec.logged, rec.grouped
+    applied = n + 3 if n + m > SLOTS else 0
+    name = "sync that applies: " if applied else "sync: "
+    if answer == 0:
+        return name + ("nothing to save" if m == 0 else "done, exactly enough power" if rec.power == orders else "done")
+    if orders < applied:
+        return name + ("cut short in its apply, " + place_in_apply(orders, n) if orders else "cut short before its apply")
+    if orders == applied:
+        return name + ("cut short right after its apply" if applied else "cut short at once")
+    return name + ("cut short after its apply, " if applied else "cut short, ") + place_in_sync(orders - applied, m)
+
+
+def apply_case(rec, answer, orders):
+    if answer == 0:
+        return "apply: " + ("nothing to do" if rec.logged == 0 else "done, exactly enough power" if rec.power == orders else "done")
+    return "apply: cut short" + (", " + place_in_apply(orders, rec.logged) if orders else " at once")
+
+
+def recover_case(rec, answer, orders):
+    if answer == 0 and orders == 0:
+        return "recover: whole" + (" at power 0" if rec.power == 0 else "")
+    if answer == 0:
+        return "recover: fallback" + (", exactly enough power" if rec.power == 2 else "")
+    return "recover: cut short" + (", header waits" if orders else " at once")
+
+
+SIX = ("put", "get", "commit", "abandon", "sync", "apply")
+ORDERS = {"sync": sync_case, "apply": apply_case, "recover": recover_case}
+
+
+class Met:
+    """A call with a record."""
+
+    def __init__(self, call, views, rec, numbers, last):
+        self.call, self.views, self.rec, self.numbers, self.last = call, views, rec, numbers, last
+        self.blocks, self.sizes, self.parts, self.lists = len(views["settled"]) // BLOCK, list(wrong_sizes(views)), [], None
+        if self.sizes or call in TWO:
+            return
+        card = views["settled"], views["waiting"], views["work"]
+        self.parts = list(wrong_counts(rec, card[0])) or list(wrong_lists(rec, *card))
+        if not self.parts and rec.mode == OPEN:
+            self.lists = lists(rec, card[0], card[2])
+
+    def cells(self, outcome, after):
+        answer = outcome[0]
+        number = "gone" if answer == 4 and self.rec.mode != DOWN else str(answer)
+        yield "causes", self.call, number
+        if answer == 1 and len(self.sizes) == 1:
+            yield "cause 1", self.sizes[0], self.call
+        if answer == 2 and len(self.parts) == 1:
+            yield "cause 2", self.parts[0], self.call
+        if 0 < answer < 10:
+            yield from (("first of two", number, str(later)) for later in self.later() if later > answer)
+        yield from (("cases", case, "") for case in self.cases(outcome, number, after))
+
+    def later(self):
+        """Rows that apply, be they the first or not, as far as the record and the arguments show it."""
+        if any(self.parts) or any(wrong_counts(self.rec, self.views["settled"])):
+            yield 2
+        if self.call in SIX and self.rec.mode in (CLOSED, DOWN):
+            yield 3 if self.rec.mode == CLOSED else 4
+        if self.call in ("put", "get") and not is_data(self.blocks, self.numbers[0]):
+            yield 6
+        if self.call == "put" and self.rec.opened == SLOTS and not is_data(self.blocks, self.numbers[0]):
+            yield 7
+        if self.call == "recover":
+            yield {OPEN: 5, DOWN: 4}.get(self.rec.mode, 0)
+            yield 0 if self.sizes else choice(self.blocks, self.views["settled"])[0]
+        if self.call == "cut" and (len(self.last) != self.rec.waiting or any(mark > 1 for mark in self.last)):
+            yield 10
+
+    def cases(self, outcome, number, after):
+        if self.call in ORDERS and number in ("0", "gone"):
+            yield ORDERS[self.call](self.rec, *outcome)
+        elif self.call in ("put", "get", "commit", "cut"):
+            yield from getattr(self, self.call)(outcome[0], after)
+        if outcome[0] == 0 and after.mode == OPEN:
+            yield from self.accepted()
+
+    def accepted(self):
+        for state, count in (("32 open", self.rec.opened), ("32 in the group", self.rec.grouped), ("32 in the log", self.rec.logged)):
+            if count == SLOTS and self.lists:
+                yield "accepted: " + state
+        if self.blocks in (LEAST, MOST - 1, MOST):
+            yield "accepted: N %d" % self.blocks
+
+    def edge(self, answer):
+        """Addresses at the edges of the data blocks."""
+        named = {FIRST_DATA: "34", self.blocks - 1: "N - 1", FIRST_DATA - 1: "33", self.blocks: "N", 2**32 - 1: "2^32 - 1"}
+        if answer in (0, 6) and self.numbers[0] in named:
+            yield "%s: %s" % (self.call, named[self.numbers[0]])
+
+    def put(self, answer, after):
+        if answer == 1 and not self.sizes:
+            yield "put: block " + ("short" if len(self.last) < BLOCK else "long")
+        yield from self.edge(answer)
+        if answer == 0 and self.numbers[0] in self.lists[0]:
+            yield "put: replaces" + (", 32 open" if after.opened == SLOTS else "")
+        elif answer == 0:
+            yield "put: adds" + (" the 32nd" if after.opened == SLOTS else "")
+
+    def get(self, answer, after):
+        yield from self.edge(answer)
+        if answer == 0:
+            address, (opened, grouped, logged) = self.numbers[0], self.lists
+            yield "get: " + ("open" if address in opened else "group" if address in grouped else
+                             "home" if address not in logged else "log" if logged.count(address) == 1 else "log, of two slots")
+
+    def commit(self, answer, after):
+        if answer == 0:
+            opened, grouped, _ = self.lists
+            replaced = sum(address in grouped for address in opened)
+            for case, holds in (("empty", not opened), ("replaces", replaced), ("joins", replaced < len(opened)),
+                                ("gives 32", opened and after.grouped == SLOTS)):
+                if holds:
+                    yield "commit: " + case
+
+    def cut(self, answer, after):
+        if answer == 10:
+            yield "cut: refused for " + ("a mark" if len(self.last) == self.rec.waiting else "the number of marks")
+        elif answer == 0 and self.rec.waiting in (0, PLACES):
+            yield "cut: " + ("34 wait" if self.rec.waiting else "nothing waits")
+
+
+class MetCards(Met):
+    """tally or alike."""
+
+    def later(self):
+        return ()
+
+    def cases(self, outcome, number, after):
+        answer, found = outcome
+        one, other = self.views["settled"], self.views.get("other")
+        if self.call == "alike":
+            yield from self.alike(answer, found, one, other)
+        elif answer == 0:
+            _, count, _, back = choice(self.blocks, one)
+            yield "tally: " + ("fallback list" if back else "whole log" if count else "no log")
+            if self.blocks == MOST:
+                yield "tally: N 65536"
+
+    def alike(self, answer, yes, one, other):
+        if answer:
+            yield "alike: %d by the %s" % (answer, "first" if chosen(one)[0] else "second")
+        elif not yes:
+            yield "alike: no" + (", other N" if len(one) != len(other) else "")
+        elif one is other or one != other:
+            yield "alike: yes, " + ("one card twice" if one is other else "other bytes")
+        if yes and self.blocks == MOST:
+            yield "alike: yes, N 65536"
+
+
+def met(call, views, rec, numbers, last):
+    return (MetCards if call in TWO else Met)(call, views, rec, numbers, last)

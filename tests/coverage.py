@@ -1,0 +1,96 @@
+"""The coverage table of the lockstep: each cause by each call that has it, and the cases that a run must meet. A hole fails."""
+
+TEN = ("format", "power", "put", "get", "commit", "abandon", "sync", "apply", "recover", "cut")
+TWO = ("tally", "alike")
+NUMBERS = ("0", "1", "2", "3", "4", "gone", "5", "6", "7", "8", "9", "10")
+
+# The numbers that each call may give; 4 is a record that was down, gone is power gone in the call.
+CAUSES = {
+    "format": "0 1", "power": "0 1 2", "put": "0 1 2 3 4 6 7", "get": "0 1 2 3 4 6", "commit": "0 1 2 3 4 7", "abandon": "0 1 2 3 4",
+    "sync": "0 1 2 3 4 gone", "apply": "0 1 2 3 4 gone", "recover": "0 1 2 4 gone 5 8 9", "cut": "0 1 2 10", "tally": "0 1 8 9",
+    "alike": "0 1 8 9",
+}
+
+# The parts of rows 1 and 2. A cell counts the calls at which that part alone applied.
+SIZES = ("record length", "settled length", "N under 35", "N over 65536", "waiting short", "waiting long", "work short", "work long")
+PARTS = ("mode", "open count", "group count", "log count", "waiting count", "waiting unless down", "N", "waiting address",
+         "open address", "group address", "log address", "twice in open", "twice in group")
+
+# Where two rows apply: the number given, and the later ones.
+FIRST = {"1": "2 3 4 5 6 10", "2": "3 4 5 6 8 9 10", "3": "6", "4": "6 8 9", "5": "8 9", "6": "7"}
+
+# The places at which orders end.
+IN_APPLY = ("home blocks wait", "home blocks flushed", "header waits")
+IN_SYNC = ("log blocks wait", "descriptor waits", "header waits")
+
+
+def prefixed(prefix, names):
+    return tuple(prefix + name for name in names)
+
+
+CASES = (
+    prefixed("sync: ", ("nothing to save", "done", "done, exactly enough power", "cut short at once"))
+    + prefixed("sync: cut short, ", IN_SYNC)
+    + prefixed("sync that applies: ", ("done", "done, exactly enough power", "cut short before its apply"))
+    + prefixed("sync that applies: cut short in its apply, ", IN_APPLY)
+    + ("sync that applies: cut short right after its apply",)
+    + prefixed("sync that applies: cut short after its apply, ", IN_SYNC)
+    + prefixed("apply: ", ("nothing to do", "done", "done, exactly enough power", "cut short at once"))
+    + prefixed("apply: cut short, ", IN_APPLY)
+    + prefixed("recover: ", ("whole", "whole at power 0", "fallback", "fallback, exactly enough power", "cut short at once",
+                             "cut short, header waits"))
+    + tuple("cut: %s header %s" % (whose, fate) for whose in ("sync's own", "sync's apply's", "apply's", "recover's")
+            for fate in ("kept", "lost"))
+    + prefixed("cut: ", ("nothing waits", "34 wait", "refused for the number of marks", "refused for a mark"))
+    + prefixed("demand 3, ", ("new: all kept", "new: a harmless loss", "old: log torn", "old: header lost", "old: no header",
+                              "the old disk found", "the new disk found"))
+    + prefixed("get: ", ("open", "group", "log", "log, of two slots", "home", "34", "N - 1", "33", "N", "2^32 - 1"))
+    + prefixed("put: ", ("34", "N - 1", "33", "N", "2^32 - 1", "adds", "adds the 32nd", "replaces", "replaces, 32 open", "block short",
+                         "block long"))
+    + prefixed("commit: ", ("empty", "joins", "replaces", "gives 32"))
+    + prefixed("accepted: ", ("32 open", "32 in the group", "32 in the log", "N 35", "N 65535", "N 65536"))
+    + prefixed("tally: ", ("no log", "whole log", "fallback list", "N 65536"))
+    + prefixed("alike: ", ("yes, one card twice", "yes, other bytes", "no", "no, other N", "yes, N 65536"))
+    + tuple("alike: %d by the %s" % (number, card) for number in (1, 8, 9) for card in ("first", "second"))
+)
+
+
+def required():
+    """Every cell that a run must fill: a table's name, a row and a column."""
+    for call, numbers in CAUSES.items():
+        yield from (("causes", call, number) for number in numbers.split())
+    for size in SIZES:
+        yield from (("cause 1", size, call) for call in TEN)
+    for size in SIZES[1:4]:
+        yield from (("cause 1", size, call) for call in TWO)
+    for part in PARTS:
+        yield from (("cause 2", part, call) for call in TEN[1:])
+    for number, later in FIRST.items():
+        yield from (("first of two", number, other) for other in later.split())
+    yield from (("cases", case, "") for case in CASES)
+
+
+def table(seen, name, rows, columns):
+    """Counts by row and column. A cell that no call can reach is blank."""
+    cells = {(row, column) for named, row, column in required() if named == name}
+    yield name.ljust(22) + "".join(column.rjust(8) for column in columns)
+    for row in rows:
+        counts = (str(seen[name, row, column]) if (row, column) in cells else "" for column in columns)
+        yield ("  " + row).ljust(22) + "".join(count.rjust(8) for count in counts).rstrip()
+
+
+def report(seen):
+    """The lines of the table."""
+    yield from table(seen, "causes", CAUSES, NUMBERS)
+    yield from table(seen, "cause 1", SIZES, TEN + TWO)
+    yield from table(seen, "cause 2", PARTS, TEN[1:])
+    yield from table(seen, "first of two", FIRST, NUMBERS)
+    yield "cases"
+    half = -(-len(CASES) // 2)
+    for left, right in zip(CASES[:half], CASES[half:] + ("",)):
+        cells = ["%-63s%7d" % (case, seen["cases", case, ""]) for case in (left, right) if case]
+        yield "  " + "   ".join(cells)
+
+
+def holes(seen):
+    return [cell for cell in required() if not seen[cell]]

@@ -1,0 +1,171 @@
+"""Demands 2 and 3 in document 01's words, on the C library itself: beside a list of calls from a format answering 0 stand the plain
+disk, the log written, and the old and the new disk of a sync cut short. Of the card it reads what the library left there."""
+from plain import BLOCK, DOWN, FIRST_DATA, OPEN, SLOTS, ZERO, Plain
+from model import fnv
+
+ENTRY = 4 + BLOCK
+
+
+class Difference(Exception):
+    pass
+
+
+def must(holds, what, *values):
+    if not holds:
+        raise Difference(what % values)
+
+
+class CutShort:
+    """A sync cut short: the new disk, the queue place of its own header write or None, and, after the next cut, whether it is new."""
+
+    def __init__(self, new, place):
+        self.new, self.place, self.decided = new, place, None
+
+
+class Witness:
+    def __init__(self, library, lent):
+        self.library, self.lent = library, lent
+        self.plain = Plain(lent["settled"].length // BLOCK)
+        self.written, self.waiting_header, self.expected = [], None, []
+        self.old, self.short, self.excepted, self.events = {}, None, False, []
+
+    # ---- what the library left
+
+    def record(self, field):
+        return self.lent["record"].number(4 * ("mode", "N", "open", "group", "n", "waiting", "power").index(field))
+
+    def log(self, count):
+        settled = self.lent["settled"]
+        return [(settled.number(BLOCK + 4 * i), settled.read(BLOCK * (2 + i), BLOCK)) for i in range(count)]
+
+    def group(self):
+        work, places = self.lent["work"], range(SLOTS, SLOTS + self.record("group"))
+        return [(work.number(ENTRY * i), work.read(ENTRY * i + 4, BLOCK)) for i in places]
+
+    def block(self, outcome):
+        answer, buffer, offset = outcome
+        return None if answer else self.lent["settled" if buffer == 1 else "work"].read(offset, BLOCK)
+
+    # ---- a call
+
+    def before(self, call):
+        self.mode, self.n = self.record("mode"), self.record("n")
+        if call == "sync":
+            self.stood, self.entries = self.log(self.n if self.mode == OPEN else 0), self.group() if self.mode == OPEN else []
+
+    def after(self, call, arguments, outcome):
+        same = True
+        if call == "cut" and outcome[0] == 0:
+            same = self.cut(arguments[0])
+        if self.excepted:
+            return
+        answer, orders, block = self.plain.step(call, arguments, same)
+        must(outcome[0] == answer, "the plain disk answers %d", answer)
+        if call in ("sync", "apply", "recover"):
+            must(outcome[1] == orders, "the plain disk hands back %d orders", orders)
+            self.ledger(call, *outcome)
+        if call == "get":
+            must(self.block(outcome) == block, "the plain disk has another block")
+        self.compare_record()
+        self.judge(call, outcome[0])
+
+    def compare_record(self):
+        for field in ("mode", "power", "waiting"):
+            must(self.record(field) == getattr(self.plain, field), "the plain disk's %s is %d", field, getattr(self.plain, field))
+        if self.plain.mode == OPEN:
+            must(self.record("n") == self.plain.n, "the plain disk's n is %d", self.plain.n)
+
+    # ---- the log written
+
+    def ledger(self, call, answer, orders):
+        """From the call and its orders: which list the card's header, or the header that waits, took its sum from."""
+        if answer not in (0, 4) or (answer == 4 and self.mode == DOWN):
+            return
+        if call == "recover":
+            self.recovered(answer, orders)
+        elif call == "apply":
+            self.emptied(orders, "apply's")
+        elif self.entries:
+            applied = self.n + 3 if self.n + len(self.entries) > SLOTS else 0
+            if applied:
+                self.emptied(orders, "sync's apply's")
+            self.appended(orders - applied, ([] if applied else self.stood) + self.entries)
+
+    def recovered(self, answer, orders):
+        if answer == 0:
+            taken = self.log(self.record("n"))
+            must(taken == self.expected, "the list taken is not the log written, or its first p entries")
+            self.written = taken
+        elif orders == 1:
+            self.waiting_header = 0, self.log(self.lent["settled"].number(8)), "recover's"
+
+    def emptied(self, orders, whose):
+        if orders == self.n + 2:
+            self.waiting_header = 0, [], whose
+        elif orders > self.n + 2:
+            self.written = []
+
+    def appended(self, orders, listed):
+        m = len(self.entries)
+        if orders == m + 2:
+            self.waiting_header = m + 1, listed, "sync's own"
+        elif orders == m + 3:
+            self.written = listed
+
+    def cut(self, marks):
+        """Whether the log found is the log written, by the header that the cut left."""
+        if self.waiting_header:
+            place, listed, whose = self.waiting_header
+            self.events.append("cut: %s header %s" % (whose, "kept" if marks[place] else "lost"))
+            if marks[place]:
+                self.written = listed
+        self.waiting_header = None
+        previous, count = (self.lent["settled"].number(at) for at in (8, 12))
+        found = self.log(count)
+        same = found == self.written
+        must(len(found) == len(self.written), "the log written has %d entries, the header says %d", len(self.written), count)
+        self.excepted = not same and total(found) == total(self.written)
+        self.expected = self.written if same else self.written[:previous]
+        if self.short and self.short.decided is None:
+            self.decide(marks, same)
+        return same
+
+    # ---- demand 3
+
+    def decide(self, marks, same):
+        """New exactly if the next cut kept the sync's own header write and the log found is the log written."""
+        place = self.short.place
+        kept = place is not None and marks[place] == 1
+        self.short.decided = kept and same
+        whole = place is not None and all(marks)
+        must(not whole or self.short.decided, "all writes of a sync were made and kept, and it is not new")
+        self.events.append("demand 3, " + ("new: all kept" if whole else "new: a harmless loss" if kept and same else
+                                           "old: log torn" if kept else "old: header lost" if place is not None else "old: no header"))
+
+    def judge(self, call, answer):
+        if call == "sync" and answer == 4 and self.mode == OPEN:
+            must(self.short is None, "two syncs cut short since the last finished sync or recovery")
+            short = self.plain.short
+            self.short = CutShort({**self.old, **dict(self.entries)}, short.m + 1 if short.own_header() else None)
+        if call == "recover" and answer == 0:
+            new = self.short is not None and self.short.decided
+            self.compare_disk(*((self.short.new, "new") if new else (self.old, "old")))
+        if call in ("sync", "recover") and answer == 0:
+            self.old, self.short = dict(self.plain.S), None
+
+    def compare_disk(self, disk, which):
+        """The disk found is every data block as a get right after the recovery gives it."""
+        for address in range(FIRST_DATA, self.plain.blocks):
+            outcome = self.library.call("get", self.lent, (address,))
+            must(outcome[0] == 0, "a get of %d after the recovery answers %d", address, outcome[0])
+            block = self.block(outcome)
+            must(block == disk.get(address, ZERO), "demand 3: block %d is not the %s disk's", address, which)
+            must(block == self.plain.get(address), "demand 2: block %d is not the plain disk's", address)
+        self.events.append("demand 3, the %s disk found" % which)
+
+
+def total(listed):
+    h = 14695981039346656037
+    for address, block in listed:
+        h = fnv(address.to_bytes(4, "little") + block, h)
+    return h

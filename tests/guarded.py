@@ -1,0 +1,110 @@
+"""The C library, called through ctypes, on memory between two pages that nobody may touch: a stray access ends the process."""
+import ctypes
+import mmap
+import subprocess
+
+PAGE = mmap.PAGESIZE
+NONE, READ, WRITE = 0, mmap.PROT_READ, mmap.PROT_READ | mmap.PROT_WRITE
+UNSET = 0xa5
+
+libc = ctypes.CDLL(None, use_errno=True)
+libc.mmap.restype = ctypes.c_void_p
+libc.mmap.argtypes = [ctypes.c_void_p, ctypes.c_size_t, ctypes.c_int, ctypes.c_int, ctypes.c_int, ctypes.c_long]
+libc.munmap.argtypes = [ctypes.c_void_p, ctypes.c_size_t]
+libc.mprotect.argtypes = [ctypes.c_void_p, ctypes.c_size_t, ctypes.c_int]
+libc.memcmp.argtypes = [ctypes.c_void_p, ctypes.c_void_p, ctypes.c_size_t]
+
+
+class Guarded:
+    """A copy of some bytes, flush against the page behind it or against the page before it. It is written only while lent so."""
+
+    def __init__(self, data, at_end):
+        self.length = len(data)
+        self.inner = -(-max(self.length, 1) // PAGE) * PAGE
+        self.base = libc.mmap(None, self.inner + 2 * PAGE, NONE, mmap.MAP_PRIVATE | mmap.MAP_ANONYMOUS, -1, 0)
+        if self.base in (None, ctypes.c_void_p(-1).value):
+            raise MemoryError("no memory for %d bytes" % self.length)
+        self.address = self.base + PAGE + (self.inner - self.length if at_end else 0)
+        self.access = NONE
+        self.fill(data)
+
+    def allow(self, access):
+        if access != self.access:
+            libc.mprotect(self.base + PAGE, self.inner, access)
+            self.access = access
+
+    def fill(self, data):
+        self.allow(WRITE)
+        ctypes.memmove(self.address, bytes(data), self.length)
+
+    def same(self, data):
+        """Whether it holds these bytes, which are a bytearray."""
+        view = (ctypes.c_char * self.length).from_buffer(data)
+        return libc.memcmp(self.address, ctypes.addressof(view), self.length) == 0
+
+    def read(self, at=0, size=None):
+        return ctypes.string_at(self.address + at, self.length - at if size is None else size)
+
+    def number(self, at=0, size=4):
+        return int.from_bytes(self.read(at, size), "little")
+
+    def close(self):
+        libc.munmap(self.base, self.inner + 2 * PAGE)
+
+
+# For each function: what it is lent, which of that it may write, how many numbers come next, the buffer behind them, and the
+# sizes of its out-parameters.
+CARD = ("record", "settled", "waiting", "work")
+FUNCTIONS = {
+    "format": (CARD, CARD, 0, None, ()),
+    "power": (CARD, ("record",), 1, None, ()),
+    "put": (CARD, ("record", "work"), 1, "block", ()),
+    "get": (CARD, (), 1, None, (4, 8)),
+    "commit": (CARD, ("record", "work"), 0, None, ()),
+    "abandon": (CARD, ("record",), 0, None, ()),
+    "sync": (CARD, ("record", "settled", "waiting"), 0, None, (4,)),
+    "apply": (CARD, ("record", "settled", "waiting"), 0, None, (4,)),
+    "recover": (CARD, ("record", "settled", "waiting"), 0, None, (4,)),
+    "cut": (CARD, ("record", "settled"), 0, "marks", ()),
+    "tally": (("settled",), (), 0, None, (8,)),
+    "alike": (("settled", "other"), (), 0, None, (4,)),
+}
+
+
+class Library:
+    """The twelve functions of an archive, or of a shared object made of one."""
+
+    def __init__(self, shared):
+        linked = ctypes.CDLL(str(shared))
+        self.functions = {}
+        for call, (lent, _, numbers, last, outs) in FUNCTIONS.items():
+            function = getattr(linked, "trapcard_" + call)
+            buffer = [ctypes.c_void_p, ctypes.c_size_t]
+            function.argtypes = (buffer * len(lent) + [ctypes.c_uint32] * numbers + (buffer if last else [])
+                                 + [ctypes.c_void_p] * len(outs))
+            function.restype = ctypes.c_uint32
+            self.functions[call] = function
+        self.outs = {size: Guarded(bytes([UNSET]) * size, True) for size in (4, 8)}
+
+    def call(self, call, lent, numbers=()):
+        """Lends the buffers (a dictionary by name) for one call. Its number, then its out-parameters."""
+        first, written, _, last, outs = FUNCTIONS[call]
+        words = []
+        for name in first:
+            lent[name].allow(WRITE if name in written else READ)
+            words += (lent[name].address, lent[name].length)
+        words += numbers
+        if last:
+            lent[last].allow(READ)
+            words += (lent[last].address, lent[last].length)
+        for size in outs:
+            self.outs[size].fill(bytes([UNSET]) * size)
+            words.append(self.outs[size].address)
+        answer = self.functions[call](*words)
+        return (answer, *(self.outs[size].number(size=size) for size in outs))
+
+
+def link(archive, shared):
+    """Makes a shared object of the whole archive."""
+    subprocess.run(["gcc", "-shared", "-Wl,--whole-archive", archive, "-Wl,--no-whole-archive", "-o", shared], check=True)
+    return Library(shared)

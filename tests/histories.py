@@ -1,0 +1,203 @@
+"""Lists of calls by chance: histories from a format on, and calls on made-up records and cards. A step is chosen by the record as it
+stands, and holds all that its call needs, so that a list of steps can be made again without these choices."""
+from collections import namedtuple
+
+from madeup import CARD_FAULTS, RECORD_FAULTS, TOP
+from model import BLOCK, CLOSED, DOWN, FIRST_DATA, OPEN, PLACES, RECORD, SLOTS, WAITING, WORK
+
+# odd: pairs of a lent buffer's name and another length for it.
+Step = namedtuple("Step", "call arguments odd", defaults=((), ()))
+NINE = ("power", "put", "get", "commit", "abandon", "sync", "apply", "recover", "cut")
+SIZES = (35, 36, 37, 40, 48, 66, 67, 70, 80, 100)
+LARGE_SIZES = (65535, 65536)
+
+
+def size(chance, large):
+    """Mostly a small card; which are the largest is decided by the history's index."""
+    if large:
+        return chance.choice(LARGE_SIZES)
+    return chance.choice(SIZES) if chance.random() < 0.96 else chance.randrange(35, 1200)
+
+
+# ---- arguments
+
+def address(chance, blocks):
+    """Mostly a data block, of few, so that some come again."""
+    if chance.random() < 0.04:
+        return chance.choice((0, FIRST_DATA - 1, blocks, TOP))
+    edge = chance.choice((FIRST_DATA, blocks - 1))
+    return edge if chance.random() < 0.2 else FIRST_DATA + chance.randrange(min(blocks - FIRST_DATA, 40))
+
+
+def block(chance):
+    """A byte that fills it, or the seed of noise; and its length."""
+    length = BLOCK if chance.random() < 0.97 else chance.choice((0, 511, 513, 1024))
+    return (chance.randrange(4) if chance.random() < 0.6 else chance.randrange(256, 1 << 16)), length
+
+
+def marks(chance, waiting):
+    """Mostly as many as wait. The last write that waits may be a header: it is kept more often than lost."""
+    kind = chance.random()
+    if kind < 0.05:
+        return bytes(chance.choice((0, 1)) for _ in range(max(0, waiting + chance.choice((-1, 1)))))
+    if kind < 0.1 and waiting:
+        return bytes(waiting - 1) + bytes([chance.choice((2, 255))])
+    if kind < 0.35:
+        return bytes([1]) * waiting
+    if kind < 0.5:
+        return bytes(waiting)
+    kept = bytearray(int(chance.random() < 0.8) for _ in range(waiting))
+    kept[-1:] = [int(kind < 0.8)] if waiting else []
+    return bytes(kept)
+
+
+def ends(rec):
+    """The powers at which a sync, an apply or a recovery ends at each of its kinds of order, as the paper counts them."""
+    n, m = rec.logged, rec.grouped
+    inner = (n, n + 1, n + 2, n + 3) if n else ()
+    before = n + 3 if n + m > SLOTS else 0
+    own = (before, before + 1, before + m, before + m + 1, before + m + 2, before + m + 3) if m else ()
+    return (0, 1, 2) + inner + own * 2
+
+
+def power(chance, rec):
+    """None, little, what ends the next call at a place of note, or plenty."""
+    places = ends(rec)
+    return chance.choice(places + (chance.randrange(max(places) + 1), TOP) + (1000,) * (len(places) // 2))
+
+
+def arguments(chance, call, rec, blocks):
+    if call == "power":
+        return (power(chance, rec),)
+    if call == "put":
+        return address(chance, blocks), block(chance)
+    if call == "get":
+        return (address(chance, blocks),)
+    if call == "cut":
+        return (marks(chance, min(rec.waiting, 2 * PLACES)),)
+    return ()
+
+
+def other_card(chance, blocks, large):
+    """What alike is lent beside the card, and on which side."""
+    kind = chance.choice(("itself", "copy", "copy", "laid", "made", "made"))
+    detail = ()
+    if kind == "copy":
+        detail = tuple((chance.randrange(BLOCK * blocks), chance.randrange(256)) for _ in range(chance.randrange(3)))
+    if kind == "made":
+        sizes = (blocks,) if large else (blocks, blocks, size(chance, False))
+        detail = chance.choice(sizes), chance.randrange(1 << 32), card_faults(chance, chance.choice((0, 0, 1, 1, 2)))
+    return kind, detail, chance.choice(("first", "second"))
+
+
+# ---- histories
+
+class History:
+    """The next steps of a history, by the mode that the last one left."""
+
+    def __init__(self, chance, blocks):
+        self.chance, self.blocks, self.group = chance, blocks, []
+
+    def steps(self, rec):
+        return {OPEN: self.when_open, CLOSED: self.when_closed, DOWN: self.when_down}[rec.mode](rec)
+
+    def any(self, rec):
+        call = self.chance.choice(NINE + ("tally", "alike"))
+        if call == "alike":
+            return [Step(call, other_card(self.chance, self.blocks, self.blocks in LARGE_SIZES))]
+        return [Step(call, arguments(self.chance, call, rec, self.blocks))]
+
+    def when_open(self, rec):
+        kind, chance = self.chance.random(), self.chance
+        if kind < 0.12:
+            return [Step("put", arguments(chance, "put", rec, self.blocks))]
+        if kind < 0.2:
+            return [Step("get", (address(chance, self.blocks),))]
+        if kind < 0.32:
+            return self.any(rec)
+        if kind < 0.9 and (rec.grouped == 0 or chance.random() < 0.15):
+            return self.many() if chance.random() < 0.2 else self.few()
+        return [Step("power", (power(chance, rec),)), Step(chance.choice(("sync", "sync", "sync", "apply")))]
+
+    def many(self):
+        """Puts that fill the open transaction or much of it, and their commit."""
+        chance = self.chance
+        count = min(self.blocks - FIRST_DATA, chance.choice((8, 16, SLOTS - 1, SLOTS, SLOTS + 1)))
+        first, fill = chance.randrange(FIRST_DATA, self.blocks - count + 1), chance.randrange(3)
+        more = [Step("put", (self.blocks, (fill, BLOCK)))] if chance.random() < 0.2 else []
+        return [Step("put", (first + i, (fill, BLOCK))) for i in range(count)] + more + [Step("commit")]
+
+    def few(self):
+        """A small group, often the last one again: then a write that a cut loses may leave the bytes that it had."""
+        chance = self.chance
+        if not self.group or chance.random() < 0.5:
+            self.group = [(address(chance, self.blocks), block(chance)) for _ in range(chance.choice((1, 1, 2, 3, 6)))]
+        return [Step("put", put) for put in self.group] + [Step("commit")]
+
+    def when_closed(self, rec):
+        if self.chance.random() < 0.25:
+            return self.any(rec)
+        return [Step("power", (self.chance.choice((0, 1, 2, 3, 1000)),)), Step("recover")]
+
+    def when_down(self, rec):
+        if self.chance.random() < 0.25:
+            return self.any(rec)
+        return [Step("cut", (marks(self.chance, rec.waiting),))]
+
+
+def lived(chance, bench, large):
+    """A history from a format that answers 0."""
+    blocks = size(chance, large)
+    history = History(chance, blocks)
+    yield Step("make", (blocks, chance.randrange(1 << 32), ()))
+    yield Step("format")
+    for _ in range(8 if large else 60):
+        yield from history.steps(bench.rec())
+    if large:
+        yield Step("tally")
+        yield Step("alike", ("laid", (), "second"))
+
+
+# ---- made-up records and cards
+
+def card_faults(chance, count):
+    return tuple(fault.__name__ for fault in chance.sample(CARD_FAULTS, count))
+
+
+def odd_length(chance, call, blocks, large):
+    """A lent buffer's name and a wrong length for it."""
+    if call in ("tally", "alike"):
+        name = "settled" if call == "tally" else chance.choice(("settled", "other"))
+    else:
+        name = chance.choice(("record", "settled", "waiting", "work"))
+    lengths = {"record": (0, RECORD - 1, RECORD + 1, 2 * RECORD), "waiting": (0, WAITING - 1, WAITING + 1, WAITING - 516, WAITING + 516),
+               "work": (0, WORK - 1, WORK + 1, WORK - 516, WORK + 516)}
+    if name in lengths:
+        return name, chance.choice(lengths[name])
+    if large:
+        return name, BLOCK * 65537
+    whole = BLOCK * blocks
+    return name, chance.choice((0, BLOCK, 34 * BLOCK, 35 * BLOCK - 1, whole - 1, whole + 1, whole + 100, whole - BLOCK, whole + BLOCK))
+
+
+def odd_lengths(chance, call, blocks):
+    """For one call in four a wrong length, or two; rarely that of a card too large."""
+    kind = chance.random()
+    if kind < 0.75:
+        return ()
+    large = chance.random() < 0.08
+    return tuple(dict(odd_length(chance, call, blocks, large) for _ in range(1 if large or kind < 0.95 else 2)).items())
+
+
+def made_up(chance, bench, large):
+    """A record and a card with nought to three faults, and calls on them."""
+    blocks, count = size(chance, large), chance.choice((0, 0, 1, 1, 1, 1, 2, 3))
+    pool = chance.choice((RECORD_FAULTS, RECORD_FAULTS, CARD_FAULTS, RECORD_FAULTS + CARD_FAULTS))
+    yield Step("make", (blocks, chance.randrange(1 << 32), tuple(fault.__name__ for fault in chance.sample(pool, count))))
+    calls = chance.choices(NINE + ("tally", "alike"), k=chance.randint(2, 12))
+    for call in calls + ["cut", "recover"] + (["format"] if chance.random() < 0.2 else []):
+        if call == "alike":
+            given = other_card(chance, blocks, large)
+        else:
+            given = arguments(chance, call, bench.rec(), blocks)
+        yield Step(call, given, () if large else odd_lengths(chance, call, blocks))

@@ -1,0 +1,64 @@
+"""Faults for the model, to see that the lockstep bites: those of document 01's "Faults to keep out", and two that only bytes show."""
+from contextlib import contextmanager
+from dataclasses import replace
+
+import model
+from model import BLOCK, EMPTY_SUM, SLOTS
+
+
+def checkpoint(rec, orders):
+    """apply's last flush is dropped"""
+    for address, block in model.log(orders.settled, rec.logged):
+        orders.write(address, block)
+    orders.flush()
+    orders.write(0, model.header(rec, 0, 0, EMPTY_SUM, EMPTY_SUM))
+    return replace(rec, logged=0, sum=EMPTY_SUM)
+
+
+def log_sum(log_entries, h=EMPTY_SUM):
+    """the sum starts afresh at the new entries"""
+    h = EMPTY_SUM
+    for address, block in log_entries:
+        h = model.fnv(address.to_bytes(4, "little") + block, h)
+    return h
+
+
+def choice(blocks, settled):
+    """the count is trusted without the sum"""
+    version, counted, previous, count = (model.number(settled, at) for at in (0, 4, 8, 12))
+    if version != 1 or counted != blocks or count > SLOTS or previous > count:
+        return 8, 0, 0, False
+    return 0, count, model.number(settled, 24, 8), False
+
+
+def get(rec, settled, waiting, work, address):
+    """get takes the first slot"""
+    answer, buffer, at = real_get(rec, settled, waiting, work, address)
+    logged = model.lists(rec, settled, work)[2] if answer == 0 else []
+    if buffer == 1 and address in logged:
+        at = BLOCK * (2 + logged.index(address))
+    return answer, buffer, at
+
+
+def settle(settled, waiting, marks):
+    """kept writes settle newest first"""
+    for i, mark in reversed(list(enumerate(marks))):
+        if mark:
+            at = BLOCK * model.number(waiting, model.ENTRY * i)
+            settled[at:at + BLOCK] = waiting[model.ENTRY * i + 4:model.ENTRY * (i + 1)]
+
+
+real_get = model.get
+IMPOSTORS = (checkpoint, log_sum, choice, get, settle)
+
+
+@contextmanager
+def planted(impostor):
+    """The model with one of its functions replaced."""
+    name = impostor.__name__
+    real = getattr(model, name)
+    setattr(model, name, impostor)
+    try:
+        yield
+    finally:
+        setattr(model, name, real)

@@ -1,0 +1,214 @@
+"""Made-up records and cards, by a seed and the names of the faults put in: each as no history of calls would leave it."""
+import random
+import struct
+
+from model import (BLOCK, CLOSED, DOWN, EMPTY_SUM, ENTRY, FIRST_DATA, OPEN, PLACES, SLOTS, WAITING, WORK, Record, encode, log, log_sum)
+
+TOP = 2**32 - 1
+RUN = 1 << 16
+
+
+def noise(chance, length):
+    """Bytes of any kind. A large card has them at both ends and here and there between, and is zero elsewhere."""
+    if length <= 2 * RUN:
+        return bytearray(chance.randbytes(length))
+    data = bytearray(length)
+    data[:RUN], data[-RUN:] = chance.randbytes(RUN), chance.randbytes(RUN)
+    for _ in range(200):
+        data[chance.randrange(length)] = chance.randrange(256)
+    return data
+
+
+def few(chance, most):
+    return min(most, chance.choice((0, 1, 2, 3, 5, 8, 16, 31, 32)))
+
+
+class Made:
+    """A record that fits its bytes and a card that a recovery takes, until a fault is put in."""
+
+    def __init__(self, blocks, chance):
+        self.chance, self.blocks = chance, blocks
+        self.settled, self.waiting, self.work = (noise(chance, n) for n in (BLOCK * blocks, WAITING, WORK))
+        self.mode, self.N, self.power = chance.choice((CLOSED, OPEN, OPEN, DOWN)), blocks, chance.choice((0, 1, 2, 3, 5, 9, 40, 80, TOP))
+        room = min(SLOTS, blocks - FIRST_DATA)
+        self.opened, self.grouped, self.logged = few(chance, room), few(chance, room), few(chance, SLOTS)
+        self.queued = chance.choice((few(chance, SLOTS), few(chance, SLOTS), PLACES)) if self.mode == DOWN else 0
+        self.count = chance.choice((self.logged, few(chance, SLOTS)))
+        self.previous = min(self.count, few(chance, SLOTS))
+        self.version, self.header_blocks, self.flips = 1, blocks, [0, 0]
+        self.list_addresses(room)
+
+    def data(self):
+        return self.chance.randrange(FIRST_DATA, self.blocks)
+
+    def stray(self):
+        """An address that is no data block."""
+        return self.chance.choice((0, 1, FIRST_DATA - 1, self.blocks, self.blocks + 1, TOP))
+
+    def list_addresses(self, room):
+        for first in (0, SLOTS):
+            for i, address in enumerate(self.chance.sample(range(FIRST_DATA, self.blocks), room)):
+                self.list_at(first + i, address)
+        for i in range(SLOTS):
+            self.log_at(i, self.data())
+        for i in range(PLACES):
+            self.wait_at(i, self.chance.choice((self.data(), self.chance.randrange(self.blocks), self.chance.randrange(FIRST_DATA))))
+
+    def list_at(self, place, address):
+        struct.pack_into("<I", self.work, ENTRY * place, address)
+
+    def log_at(self, slot, address):
+        struct.pack_into("<I", self.settled, BLOCK + 4 * slot, address)
+
+    def wait_at(self, place, address):
+        struct.pack_into("<I", self.waiting, ENTRY * place, address)
+
+    def spoil(self):
+        """Strays where no address is read: beyond the counts, and in work memory unless open."""
+        unread = self.mode != OPEN
+        for i in range(0 if unread else self.opened, SLOTS):
+            self.list_at(i, self.stray())
+        for i in range(0 if unread else self.grouped, SLOTS):
+            self.list_at(SLOTS + i, self.stray())
+        for i in range(max(self.logged, self.count), SLOTS):
+            self.log_at(i, self.stray())
+        for i in range(self.queued, PLACES):
+            self.wait_at(i, self.blocks)
+
+    def finished(self):
+        """The header's sums come last, and so does the record's."""
+        if self.chance.random() < 0.5:
+            self.spoil()
+        sums = [log_sum(log(self.settled, min(n, SLOTS))) ^ flip for n, flip in zip((self.previous, self.count), self.flips)]
+        struct.pack_into("<4I2Q", self.settled, 0, self.version, self.header_blocks, self.previous, self.count, *sums)
+        total = self.chance.choice((EMPTY_SUM, sums[1], self.chance.randrange(2**64)))
+        rec = Record(self.mode, self.N, self.opened, self.grouped, self.logged, self.queued, self.power, total)
+        return bytearray(encode(rec)), self.settled, self.waiting, self.work
+
+
+# ---- faults of the record
+
+def over(limit):
+    return lambda made: made.chance.choice((limit + 1, limit + 2, 255, TOP))
+
+
+def mode(made):
+    made.mode = over(DOWN)(made)
+
+
+def open_count(made):
+    made.opened = over(SLOTS)(made)
+
+
+def group_count(made):
+    made.grouped = over(SLOTS)(made)
+
+
+def log_count(made):
+    made.logged = over(SLOTS)(made)
+
+
+def waiting_count(made):
+    made.mode, made.queued = DOWN, over(PLACES)(made)
+
+
+def waiting_unless_down(made):
+    made.mode, made.queued = made.chance.choice((CLOSED, OPEN)), made.chance.randint(1, PLACES)
+
+
+def other_blocks(made):
+    made.N = made.chance.choice((made.blocks - 1, made.blocks + 1, 0, FIRST_DATA, TOP))
+
+
+def place(made, count, limit):
+    """One of the places in use, also where another fault made the count absurd."""
+    return made.chance.randrange(min(count, limit))
+
+
+def open_address(made):
+    made.mode, made.queued, made.opened = OPEN, 0, max(made.opened, 1)
+    made.list_at(place(made, made.opened, SLOTS), made.stray())
+
+
+def group_address(made):
+    made.mode, made.queued, made.grouped = OPEN, 0, max(made.grouped, 1)
+    made.list_at(SLOTS + place(made, made.grouped, SLOTS), made.stray())
+
+
+def log_address(made):
+    made.mode, made.queued, made.logged = OPEN, 0, max(made.logged, 1)
+    made.log_at(place(made, made.logged, SLOTS), made.stray())
+
+
+def waiting_address(made):
+    made.mode, made.queued = DOWN, max(made.queued, 1)
+    made.wait_at(place(made, made.queued, PLACES), made.chance.choice((made.blocks, made.blocks + 1, TOP)))
+
+
+def twice(made, first, count):
+    one, other = made.chance.sample(range(min(max(count, 2), SLOTS)), 2)
+    made.mode, made.queued = OPEN, 0
+    for at in (one, other):
+        made.list_at(first + at, made.blocks - 1)
+    return max(count, 2)
+
+
+def twice_in_open(made):
+    made.opened = twice(made, 0, made.opened)
+
+
+def twice_in_group(made):
+    made.grouped = twice(made, SLOTS, made.grouped)
+
+
+# ---- faults of the card
+
+def card_format(made):
+    made.version = made.chance.choice((0, 2, 257, TOP))
+
+
+def card_blocks(made):
+    made.header_blocks = made.chance.choice((made.blocks - 1, made.blocks + 1, TOP))
+
+
+def card_count(made):
+    made.count = over(SLOTS)(made)
+
+
+def card_previous(made):
+    made.previous = min(made.count + made.chance.choice((1, 2, 300)), TOP)
+
+
+def sum_of_count(made):
+    made.flips[1] = 1 << made.chance.randrange(64)
+
+
+def sum_of_previous(made):
+    made.flips[0] = 1 << made.chance.randrange(64)
+
+
+def neither_sum(made):
+    sum_of_count(made)
+    sum_of_previous(made)
+
+
+def stray_in_list(made):
+    made.count = max(made.count, 1)
+    made.log_at(place(made, made.count, SLOTS), made.stray())
+
+
+RECORD_FAULTS = (mode, open_count, group_count, log_count, waiting_count, waiting_unless_down, other_blocks, open_address, group_address,
+                 log_address, waiting_address, twice_in_open, twice_in_group)
+CARD_FAULTS = (card_format, card_blocks, card_count, card_previous, sum_of_count, sum_of_count, sum_of_previous, neither_sum, stray_in_list)
+FAULTS = {fault.__name__: fault for fault in RECORD_FAULTS + CARD_FAULTS}
+
+
+def made(blocks, seed, faults):
+    """The record and the three buffers. A faulty card is mostly one that a recovery meets closed."""
+    chance = random.Random(seed)
+    state = Made(blocks, chance)
+    if any(FAULTS[name] in CARD_FAULTS for name in faults) and chance.random() < 0.7:
+        state.mode, state.queued = CLOSED, 0
+    for name in faults:
+        FAULTS[name](state)
+    return state.finished()

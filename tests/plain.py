@@ -1,0 +1,133 @@
+"""The plain disk, from its own section of document 01: fed N, a call's arguments and, at a cut, whether the log found is the log
+written. It knows no bytes of a card."""
+
+CLOSED, OPEN, DOWN = 0, 1, 2
+BLOCK, SLOTS, FIRST_DATA = 512, 32, 34
+ZERO = bytes(BLOCK)
+
+
+class Short:
+    """The call cut short: its orders, and those of the apply before a sync's own (n + 3 of them, or 0)."""
+
+    def __init__(self, call, orders, n, m, applied):
+        self.call, self.orders, self.n, self.m, self.applied = call, orders, n, m, applied
+
+    def own_header(self):
+        """Whether a sync's own header write was carried out."""
+        return self.call == "sync" and self.orders - self.applied == self.m + 2
+
+    def queued(self):
+        """The number of writes that wait when the orders end here."""
+        orders = self.orders
+        if self.call == "apply" or (self.applied and orders < self.applied):
+            return orders if orders <= self.n else orders - self.n - 1
+        return orders - self.applied
+
+
+class Plain:
+    def __init__(self, blocks):
+        """As a format answering 0 leaves it."""
+        self.blocks, self.S, self.G, self.T = blocks, {}, {}, {}
+        self.n, self.F, self.mode, self.power, self.waiting, self.short = 0, 0, OPEN, 1000000, 0, None
+
+    def refusal(self, call, arguments):
+        if call == "put" and len(arguments[1]) != BLOCK:
+            return 1
+        if call == "power":
+            return 0
+        if call == "cut":
+            marks = arguments[0]
+            return 10 if len(marks) != self.waiting or any(m > 1 for m in marks) else 0
+        if call == "recover":
+            return {CLOSED: 0, OPEN: 5, DOWN: 4}[self.mode]
+        if self.mode != OPEN:
+            return 3 if self.mode == CLOSED else 4
+        if call in ("put", "get") and not FIRST_DATA <= arguments[0] < self.blocks:
+            return 6
+        if call == "put" and arguments[0] not in self.T and len(self.T) == SLOTS:
+            return 7
+        return 7 if call == "commit" and len(self.T.keys() | self.G.keys()) > SLOTS else 0
+
+    def step(self, call, arguments=(), found=True):
+        """The answer, the orders handed back, and the block of a get."""
+        answer = self.refusal(call, arguments)
+        if answer:
+            return answer, 0, None
+        if call == "power":
+            self.power = arguments[0]
+            return 0, 0, None
+        outcome = getattr(self, call)(*arguments, *([found] if call == "cut" else []))
+        if call == "get":
+            return 0, 0, outcome
+        return outcome + (None,) if outcome else (0, 0, None)
+
+    def put(self, address, block):
+        self.T[address] = bytes(block)
+
+    def get(self, address):
+        return next((listed[address] for listed in (self.T, self.G, self.S) if address in listed), ZERO)
+
+    def commit(self):
+        self.G.update(self.T)
+        self.T = {}
+
+    def abandon(self):
+        self.T = {}
+
+    def carried_out(self, call, orders, n=0, m=0, applied=0):
+        """Whether there is power for all these orders. Otherwise the call is cut short."""
+        if self.power >= orders:
+            self.power -= orders
+            return 0, orders
+        self.short = Short(call, self.power, n, m, applied)
+        self.mode, self.waiting = DOWN, self.short.queued()
+        self.power = 0
+        return 4, self.short.orders
+
+    def sync(self):
+        m = len(self.G)
+        if m == 0:
+            return 0, 0
+        applied = self.n + 3 if self.n + m > SLOTS else 0
+        outcome = self.carried_out("sync", applied + m + 3, self.n, m, applied)
+        if outcome[0] == 0:
+            self.S.update(self.G)
+            self.G = {}
+            self.n = m if applied else self.n + m
+        return outcome
+
+    def apply(self):
+        outcome = self.carried_out("apply", self.n + 3 if self.n else 0, self.n)
+        if outcome[0] == 0:
+            self.n = 0
+        return outcome
+
+    def recover(self):
+        outcome = self.carried_out("recover", 2 if self.F else 0)
+        if outcome[0] == 0:
+            self.F, self.mode = 0, OPEN
+        return outcome
+
+    def cut(self, marks, found):
+        if self.short:
+            self.choose(self.short, bool(marks) and marks[-1] == 1, found)
+        self.G, self.T = {}, {}
+        self.mode, self.waiting, self.short = CLOSED, 0, None
+
+    def choose(self, short, kept, found):
+        """By the last header write of the call cut short, which is the last write that waits."""
+        if short.call == "recover":
+            if short.orders == 1:
+                self.F = 0 if kept else 1
+            return
+        if short.call == "apply" or short.applied:
+            if short.orders == short.n + 2:
+                self.n, self.F = 0 if kept else self.n, 0
+            elif short.orders > short.n + 2:
+                self.n, self.F = 0, 0
+        if short.own_header():
+            if kept and found:
+                self.S.update(self.G)
+                self.n, self.F = self.n + short.m, 0
+            else:
+                self.F = 1 if kept else 0

@@ -1,0 +1,132 @@
+"""Plants faults in a copy of the archive's source, one at a time, and shows that the lockstep finds each.
+
+The copy is compiled without proof: Rattle's code is Rust's but for the clauses of contracts, which are left out, and rustc builds the
+shared object. First the copy without a fault must run like the archive. Those that break demand 2 or 3 are also to be found by the
+plain disk and the old and new disks alone, with nothing compared to the model. Not a part of the gate, since it needs rustc."""
+import re
+import shutil
+import subprocess
+import sys
+import tempfile
+from collections import namedtuple
+from pathlib import Path
+
+from bench import Bench
+from guarded import Library
+from lockstep import ROOT, SEED, Found, Run, compared, show
+from model import decode
+
+CRATES = ("cells", "fnv", "card", "journal", "store", "inspect", "firmware")
+CALLS = 20000
+CLAUSE = re.compile(r"^(ghost use .*|\s*(requires|ensures) \{.*\})\n", re.M)
+TYPE = re.compile(r"^(pub )?(struct|enum) ", re.M)
+
+Fault = namedtuple("Fault", "name file old new demands", defaults=(False,))
+FAULTS = (
+    Fault("apply's last flush is dropped", "journal/checkpoint", "Header::empty(blocks).order(f.queue, settled, waiting)\n",
+          "let mut b = [0u8; 512];\nHeader::empty(blocks).fill(&mut b);\nf.queue.write(waiting, 0, &b)\n", True),
+    Fault("the count is trusted without the sum", "journal/choice", "if good(settled, blocks, h.count, h.sum)", "if true", True),
+    Fault("the sum starts afresh at the new entries", "journal/append", "sum_group(log.sum, work, group)", "sum_group(fnv::START, work, group)",
+          True),
+    Fault("get takes the first slot", "journal/lookup", "return Found::At(i);", "let mut k = 0;\nwhile slot_address(settled, k) != a {\nk += 1;\n}\n"
+          "return Found::At(k);", True),
+    Fault("a recovery always falls back", "journal/choice", "if good(settled, blocks, h.count, h.sum)", "if false", True),
+    Fault("kept writes settle newest first", "card/queue", "settle_marked(settled, waiting, i, marks[i])",
+          "settle_marked(settled, waiting, marks.len() - 1 - i, marks[marks.len() - 1 - i])"),
+    Fault("put reads a byte behind its block", "firmware/calls", "let placed = decode(rec)",
+          "unsafe { std::ptr::read_volatile(block.as_ptr().add(block.len())) };\nlet placed = decode(rec)"),
+    Fault("commit writes a const byte with itself", "firmware/calls", "let committed = decode(rec)",
+          "unsafe { std::ptr::write_volatile(settled.as_ptr() as *mut u8, settled[0]) };\nlet committed = decode(rec)"),
+)
+
+
+class Blind(Bench):
+    """The library alone, along lists of calls from a format, beside the plain disk: the model is asked for nothing."""
+
+    def rec(self):
+        return decode(self.lent["record"].read())
+
+    def perform(self, step):
+        if not step.odd and step.call not in ("tally", "alike"):
+            super().perform(step)
+
+    def met(self, *_):
+        return None
+
+    def compare(self, *_):
+        pass
+
+
+def translated(folder):
+    """The crates' code as Rust."""
+    for crate in CRATES:
+        (folder / crate).mkdir()
+        for source in (ROOT / "crates" / crate / "src").glob("*.rt"):
+            code = TYPE.sub(r"#[derive(Clone, Copy)]\n\g<0>", CLAUSE.sub("", source.read_text()))
+            (folder / crate / source.with_suffix(".rs").name).write_text(code.replace("std::num::wrapping_add_u64", "u64::wrapping_add"))
+
+
+def built(folder):
+    """The shared object of the crates in a folder. Each crate is given those below it, by crates.txt."""
+    uses = dict(re.findall(r"^(\w+): *(.*)$", (ROOT / "crates.txt").read_text(), re.M))
+    for crate in CRATES:
+        kind, name = ("cdylib", "libtrapcard.so") if crate == "firmware" else ("rlib", "lib%s.rlib" % crate)
+        subprocess.run(["rustc", "--edition", "2021", "-O", "-A", "warnings", "--crate-name", crate, "--crate-type", kind,
+                        folder / crate / "lib.rs", "-L", folder, "-o", folder / name]
+                       + [word for use in uses[crate].split() for word in ("--extern", "%s=%s" % (use, folder / ("lib%s.rlib" % use)))],
+                       check=True)
+    return Library(folder / "libtrapcard.so")
+
+
+def plant(folder, fault):
+    source = folder / (fault.file + ".rs")
+    code = source.read_text()
+    if code.count(fault.old) != 1:
+        raise SystemExit("planted: %s: %r is not in %s once" % (fault.name, fault.old, fault.file))
+    source.write_text(code.replace(fault.old, fault.new))
+
+
+def found(fault, library, bench, how):
+    """Prints the calls that show a fault; whether there are any."""
+    run = Run(library, SEED, CALLS, bench=bench)
+    result = compared(run)
+    if not isinstance(result, Found):
+        print("planted: %s: NOT FOUND by %s" % (fault.name, how))
+        return False
+    print("planted: %s: found by %s" % (fault.name, how))
+    print("\n".join(show(run, result)))
+    return True
+
+
+def one(fault):
+    with tempfile.TemporaryDirectory() as name:
+        folder = Path(name)
+        translated(folder)
+        plant(folder, fault)
+        library = built(folder)
+        every = found(fault, library, Bench, "comparison")
+        return every and (not fault.demands or found(fault, library, Blind, "demands 2 and 3 alone"))
+
+
+def unharmed():
+    """The copy as it is: whatever is found later is the fault's."""
+    with tempfile.TemporaryDirectory() as name:
+        translated(Path(name))
+        library = built(Path(name))
+        for bench in (Bench, Blind):
+            result = compared(Run(library, SEED, CALLS, bench=bench))
+            if isinstance(result, Found):
+                raise SystemExit("planted: the copy without a fault differs: %s" % result.what)
+
+
+def main():
+    if not shutil.which("rustc"):
+        raise SystemExit("missing: rustc, which compiles the copy of the sources")
+    unharmed()
+    missed = [fault.name for fault in FAULTS if not one(fault)]
+    print("planted: %d faults in a copy of the sources, %d found" % (len(FAULTS), len(FAULTS) - len(missed)))
+    return 1 if missed else 0
+
+
+if __name__ == "__main__":
+    sys.exit(main())
