@@ -10,8 +10,10 @@ use store::record::Record;
 ghost use mathlib.Core.Path.{_≡_};
 ghost use Prim.Native.Nat.{_+_, _≤_, _<_};
 
-// How many data blocks there are. The save has the first of them, one in the middle and the last.
+// How many data blocks there are, and how many a save has. The one that is cut has the first of them, one in the middle, the last.
 const DATA: u32 = BLOCKS - FIRST_DATA;
+
+const SAVED: u32 = 3;
 
 const MIDDLE: u32 = 48;
 
@@ -24,14 +26,22 @@ fn byte(address: u32, age: u32) -> u8
     (address + 64 * age) as u8
 }
 
-// The first data blocks, put at an age and committed.
-fn group(r: Record, s: &Settled, w: &Waiting, k: &mut Work, count: u32, age: u32) -> Record
-    requires { ⌜ (count ≤ 30) × (age < 3) ⌝ }
+// Data blocks from an address on, put at an age and committed.
+fn group(
+    r: Record,
+    s: &Settled,
+    w: &Waiting,
+    k: &mut Work,
+    from: u32,
+    count: u32,
+    age: u32,
+) -> Record
+    requires { ⌜ (from + count ≤ 64) × (age < 3) ⌝ }
 {
     let mut now = r;
     let mut i = 0;
     while i < count {
-        now = put(now, s, w, k, FIRST_DATA + i, age);
+        now = put(now, s, w, k, from + i, age);
         i += 1;
     }
     let a = now.commit(s, w, k);
@@ -47,15 +57,36 @@ fn put(r: Record, s: &Settled, w: &Waiting, k: &mut Work, address: u32, age: u32
 }
 
 // The same, saved.
-fn save(r: Record, s: &mut Settled, w: &mut Waiting, k: &mut Work, count: u32, age: u32) -> Record
-    requires { ⌜ (count ≤ 30) × (age < 3) ⌝ }
+fn save(
+    r: Record,
+    s: &mut Settled,
+    w: &mut Waiting,
+    k: &mut Work,
+    from: u32,
+    count: u32,
+    age: u32,
+) -> Record
+    requires { ⌜ (from + count ≤ 64) × (age < 3) ⌝ }
 {
-    let grouped = group(r, s, w, k, count, age);
+    let grouped = group(r, s, w, k, from, count, age);
     let saved = grouped.sync(s, w, k);
     saved.rec
 }
 
-// The three blocks of the save, put and committed.
+// So many saves of three blocks each, one behind the other, at age 1.
+fn log(r: Record, s: &mut Settled, w: &mut Waiting, k: &mut Work, saves: u32) -> Record
+    requires { ⌜ saves ≤ 10 ⌝ }
+{
+    let mut now = r;
+    let mut i = 0;
+    while i < saves {
+        now = save(now, s, w, k, FIRST_DATA + SAVED * i, SAVED, 1);
+        i += 1;
+    }
+    now
+}
+
+// The three blocks of the save that is cut, put and committed.
 fn to_save(r: Record, s: &Settled, w: &Waiting, k: &mut Work) -> Record {
     let one = put(r, s, w, k, FIRST_DATA, 2);
     let two = put(one, s, w, k, MIDDLE, 2);
@@ -67,36 +98,36 @@ fn to_save(r: Record, s: &Settled, w: &Waiting, k: &mut Work) -> Record {
 // A card whose home blocks all have age 0, and no log.
 fn home(s: &mut Settled, w: &mut Waiting, k: &mut Work) -> Record {
     let made = Record::fresh(BLOCKS).format(s, w, k);
-    let saved = save(made.rec, s, w, k, DATA, 0);
+    let saved = save(made.rec, s, w, k, FIRST_DATA, DATA, 0);
     let applied = saved.apply(s, w, k);
     applied.rec
 }
 
-// A card with so many entries in its log, and the save in its group.
+// A card with so many saves in its log, and one more in its group.
 pub(crate) struct Scenario {
     pub rec: Record,
-    pub logged: u32,
+    pub saves: u32,
 }
 
-pub(crate) fn ready(s: &mut Settled, w: &mut Waiting, k: &mut Work, logged: u32) -> Scenario
-    requires { ⌜ logged ≤ 30 ⌝ }
-    ensures { λ r. ⌜ r .logged ≡ logged ⌝ }
+pub(crate) fn ready(s: &mut Settled, w: &mut Waiting, k: &mut Work, saves: u32) -> Scenario
+    requires { ⌜ saves ≤ 10 ⌝ }
+    ensures { λ r. ⌜ r .saves ≡ saves ⌝ }
 {
     let empty = home(s, w, k);
-    let old = save(empty, s, w, k, logged, 1);
+    let old = log(empty, s, w, k, saves);
     let rec = to_save(old, s, w, k);
-    Scenario { rec, logged }
+    Scenario { rec, saves }
 }
 
 // The age of a data block before the save, and after it.
-fn age(address: u32, logged: u32, after: bool) -> u32
-    requires { ⌜ logged ≤ 30 ⌝ }
+fn age(address: u32, saves: u32, after: bool) -> u32
+    requires { ⌜ saves ≤ 10 ⌝ }
     ensures { λ r. ⌜ r < 3 ⌝ }
 {
     if after && (address == FIRST_DATA || address == MIDDLE || address == LAST) {
         return 2;
     }
-    if address < FIRST_DATA + logged {
+    if address < FIRST_DATA + SAVED * saves {
         return 1;
     }
     0
@@ -111,12 +142,12 @@ fn has<'a>(r: Record, s: &'a Settled, w: &Waiting, k: &'a Work, address: u32, ag
 }
 
 // Whether every data block is as before the save, or as after it.
-fn all<'a>(r: Record, s: &'a Settled, w: &Waiting, k: &'a Work, logged: u32, after: bool) -> bool
-    requires { ⌜ logged ≤ 30 ⌝ }
+fn all<'a>(r: Record, s: &'a Settled, w: &Waiting, k: &'a Work, saves: u32, after: bool) -> bool
+    requires { ⌜ saves ≤ 10 ⌝ }
 {
     let mut address = FIRST_DATA;
     while address < BLOCKS {
-        if !has(r, s, w, k, address, age(address, logged, after)) {
+        if !has(r, s, w, k, address, age(address, saves, after)) {
             return false;
         }
         address += 1;
@@ -125,13 +156,13 @@ fn all<'a>(r: Record, s: &'a Settled, w: &Waiting, k: &'a Work, logged: u32, aft
 }
 
 // What is found: old, new, or something else.
-pub(crate) fn letter<'a>(r: Record, s: &'a Settled, w: &Waiting, k: &'a Work, logged: u32) -> u8
-    requires { ⌜ logged ≤ 30 ⌝ }
+pub(crate) fn letter<'a>(r: Record, s: &'a Settled, w: &Waiting, k: &'a Work, saves: u32) -> u8
+    requires { ⌜ saves ≤ 10 ⌝ }
 {
-    if all(r, s, w, k, logged, false) {
+    if all(r, s, w, k, saves, false) {
         return b'o';
     }
-    if all(r, s, w, k, logged, true) {
+    if all(r, s, w, k, saves, true) {
         return b'n';
     }
     b'?'

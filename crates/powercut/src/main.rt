@@ -1,7 +1,7 @@
 // The map of power cuts: a save of three blocks, lost at every order with every set of kept writes.
 //
-// The card has 64 blocks. `append` saves behind a log of 3 entries, in 6 orders; `apply` behind a log of 30, which has no room, so
-// that the save applies it first, in 39. A line is the scenario, the power of the save, and a character for each set of kept writes
+// The card has 64 blocks. `append` saves behind a log of one save, in 6 orders; `apply` behind a log of ten, 30 entries, which has no
+// room, so that the save applies it first, in 39. A line is the scenario, the power of the save, and a character for each set of kept writes
 // of the cut that follows, in the order of `sets`. A character is what is found in the end: `o`, every data block is old; `n`, the
 // three are new and the others old; `?`, anything else. Behind each cut stands a recovery with all its power, and each cut inside
 // it: with power for 0, 1 and 2 orders, with every set of its own kept writes, and a recovery then. If these differ it is `?`.
@@ -26,7 +26,7 @@ fn main() {
     let mut work = [0u8; WORK];
     let append = map(
         b"append",
-        3,
+        1,
         6,
         &mut start,
         &mut settled,
@@ -35,7 +35,7 @@ fn main() {
     );
     let apply = map(
         b"apply",
-        30,
+        10,
         39,
         &mut start,
         &mut settled,

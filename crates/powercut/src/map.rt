@@ -44,7 +44,7 @@ fn with_sets(
     orders: u32,
     before: u8,
 ) -> u8
-    requires { ⌜ c .logged ≤ 30 ⌝ }
+    requires { ⌜ c .saves ≤ 10 ⌝ }
 {
     let n = sets_of(recovered(c.rec, start, s, w, k, loss, orders));
     let mut found = before;
@@ -52,7 +52,7 @@ fn with_sets(
     while set < n {
         let again = Loss { orders, set };
         let last = recovered_again(c.rec, start, s, w, k, loss, again);
-        found = both(found, letter(last, s, w, k, c.logged));
+        found = both(found, letter(last, s, w, k, c.saves));
         set += 1;
     }
     found
@@ -60,10 +60,10 @@ fn with_sets(
 
 // What is found behind a loss: by a recovery with all its power, and by the one behind every cut inside it.
 fn found(c: Scenario, start: &Settled, s: &mut Settled, w: &mut Waiting, k: &Work, loss: Loss) -> u8
-    requires { ⌜ c .logged ≤ 30 ⌝ }
+    requires { ⌜ c .saves ≤ 10 ⌝ }
 {
     let first = recovered(c.rec, start, s, w, k, loss, ENOUGH);
-    let mut found = letter(first, s, w, k, c.logged);
+    let mut found = letter(first, s, w, k, c.saves);
     let mut orders = 0;
     while orders <= ENOUGH {
         found = with_sets(c, start, s, w, k, loss, orders, found);
@@ -81,7 +81,7 @@ fn characters(
     k: &Work,
     orders: u32,
 ) -> bool
-    requires { ⌜ c .logged ≤ 30 ⌝ }
+    requires { ⌜ c .saves ≤ 10 ⌝ }
 {
     let n = sets_of(saved(c.rec, start, s, w, k, orders));
     let mut whole = true;
@@ -104,7 +104,7 @@ fn line(
     k: &Work,
     orders: u32,
 ) -> bool
-    requires { ⌜ c .logged ≤ 30 ⌝ }
+    requires { ⌜ c .saves ≤ 10 ⌝ }
 {
     io::write_all(STDOUT_FILENO, name);
     io::write_all(STDOUT_FILENO, b" ");
@@ -115,19 +115,19 @@ fn line(
     whole
 }
 
-// A scenario: its name, the entries in its log, the orders of its save. Whether there is no `?`.
+// A scenario: its name, the saves in its log, the orders of its save. Whether there is no `?`.
 pub(crate) fn map(
     name: &[u8],
-    logged: u32,
+    saves: u32,
     most: u32,
     start: &mut Settled,
     s: &mut Settled,
     w: &mut Waiting,
     k: &mut Work,
 ) -> bool
-    requires { ⌜ (logged ≤ 30) × (most ≤ 39) ⌝ }
+    requires { ⌜ (saves ≤ 10) × (most ≤ 39) ⌝ }
 {
-    let c = ready(s, w, k, logged);
+    let c = ready(s, w, k, saves);
     copy(start, s);
     let mut whole = true;
     let mut orders = 0;

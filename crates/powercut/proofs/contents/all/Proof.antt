@@ -6,10 +6,10 @@ use Rattle.powercut.proofs.contents.all.Statement.{statement}
 use Rattle.powercut.proofs.contents.all.Tie as tie
 
 abbrev Inv-loop : tie.InvT-loop
-Inv-loop r s w k logged after address₀ address = address ≤ 64
+Inv-loop r s w k saves after address₀ address = address ≤ 64
 
 abbrev μ-loop : tie.MeasureT-loop
-μ-loop r s w k logged after address₀ address = 64 - address
+μ-loop r s w k saves after address₀ address = 64 - address
 
 loop-holds : tie.Need-loop-holds Inv-loop μ-loop
 loop-holds c = omega arith

@@ -6,10 +6,10 @@ use Rattle.powercut.proofs.contents.group.Statement.{statement}
 use Rattle.powercut.proofs.contents.group.Tie as tie
 
 abbrev Inv-loop : tie.InvT-loop
-Inv-loop s w k₀ count age now₀ i₀ k now i = i ≤ count
+Inv-loop s w k₀ from count age now₀ i₀ k now i = i ≤ count
 
 abbrev μ-loop : tie.MeasureT-loop
-μ-loop s w k₀ count age now₀ i₀ k now i = count - i
+μ-loop s w k₀ from count age now₀ i₀ k now i = count - i
 
 loop-holds : tie.Need-loop-holds Inv-loop μ-loop
 loop-holds c = omega arith

@@ -6,10 +6,10 @@ use Rattle.powercut.proofs.map.map.Statement.{statement}
 use Rattle.powercut.proofs.map.map.Tie as tie
 
 abbrev Inv-loop : tie.InvT-loop
-Inv-loop name logged most start s₀ w₀ k c whole₀ orders₀ s w whole orders = orders ≤ most + 1
+Inv-loop name saves most start s₀ w₀ k c whole₀ orders₀ s w whole orders = orders ≤ most + 1
 
 abbrev μ-loop : tie.MeasureT-loop
-μ-loop name logged most start s₀ w₀ k c whole₀ orders₀ s w whole orders = most + 1 - orders
+μ-loop name saves most start s₀ w₀ k c whole₀ orders₀ s w whole orders = most + 1 - orders
 
 ready-requires : tie.Need-ready-requires Inv-loop μ-loop
 ready-requires c κs = search needs
