@@ -8,7 +8,9 @@ use cells::bytes::same;
 use journal::FIRST_DATA;
 use store::record::Record;
 ghost use mathlib.Core.Path.{_≡_};
-ghost use Prim.Native.Nat.{_+_, _≤_, _<_};
+ghost use Prim.Native.Nat.{_+_, _*_, _≤_, _<_};
+ghost use Rattle.store.specs.CodeState.{stateOf};
+ghost use Rattle.powercut.specs.Contents.{ofSave, oldAge, ageOf, holds, hasOther, letterOf};
 
 // How many data blocks there are, and how many a save has. The one that is cut has the first of them, one in the middle, the last.
 const DATA: u32 = BLOCKS - FIRST_DATA;
@@ -22,6 +24,7 @@ const LAST: u32 = BLOCKS - 1;
 // The byte of a block: 34 to 63, 98 to 127, 162 to 191.
 fn byte(address: u32, age: u32) -> u8
     requires { ⌜ (address < 64) × (age < 3) ⌝ }
+    ensures { λ r. ⌜ r ≡ address + 64 * age ⌝ }
 {
     (address + 64 * age) as u8
 }
@@ -119,50 +122,85 @@ pub(crate) fn ready(s: &mut Settled, w: &mut Waiting, k: &mut Work, saves: u32) 
     Scenario { rec, saves }
 }
 
-// The age of a data block before the save, and after it.
-fn age(address: u32, saves: u32, after: bool) -> u32
-    requires { ⌜ saves ≤ 10 ⌝ }
-    ensures { λ r. ⌜ r < 3 ⌝ }
+// Whether the save has a block.
+fn of_save(address: u32) -> bool
+    ensures { λ r. ⌜ r ≡ ofSave address ⌝ }
 {
-    if after && (address == FIRST_DATA || address == MIDDLE || address == LAST) {
-        return 2;
+    if address == FIRST_DATA {
+        return true;
     }
+    if address == MIDDLE {
+        return true;
+    }
+    address == LAST
+}
+
+// The age of a data block before the save.
+fn old_age(address: u32, saves: u32) -> u32
+    requires { ⌜ saves ≤ 10 ⌝ }
+    ensures { λ r. ⌜ (r ≡ oldAge address saves) × (r < 3) ⌝ }
+{
     if address < FIRST_DATA + SAVED * saves {
         return 1;
     }
     0
 }
 
+// Before the save, or after it.
+fn age(address: u32, saves: u32, after: bool) -> u32
+    requires { ⌜ saves ≤ 10 ⌝ }
+    ensures { λ r. ⌜ (r ≡ ageOf address saves after) × (r < 3) ⌝ }
+{
+    if !after {
+        return old_age(address, saves);
+    }
+    if of_save(address) {
+        return 2;
+    }
+    old_age(address, saves)
+}
+
 // Whether a get gives the block of that age.
-fn has<'a>(r: Record, s: &'a Settled, w: &Waiting, k: &'a Work, address: u32, age: u32) -> bool
+fn has<'a>(r: Record, s: &'a [u8], w: &[u8], k: &'a [u8], address: u32, age: u32) -> bool
     requires { ⌜ (address < 64) × (age < 3) ⌝ }
+    ensures { λ b. ⌜ b ≡ holds address age (stateOf r (now (s .entry)) (now (w .entry)) (now (k .entry))) ⌝ }
 {
     let block = [byte(address, age); BLOCK];
     same(r.get(s, w, k, address), &block)
 }
 
-// Whether every data block is as before the save, or as after it.
-fn all<'a>(r: Record, s: &'a Settled, w: &Waiting, k: &'a Work, saves: u32, after: bool) -> bool
+// Whether a data block is not as before the save, or not as after it.
+fn has_other<'a>(
+    r: Record,
+    s: &'a Settled,
+    w: &Waiting,
+    k: &'a Work,
+    saves: u32,
+    after: bool,
+) -> bool
     requires { ⌜ saves ≤ 10 ⌝ }
+    ensures { λ b. ⌜ b ≡ hasOther saves after (stateOf r (now (s .entry)) (now (w .entry)) (now (k .entry))) ⌝ }
 {
-    let mut address = FIRST_DATA;
-    while address < BLOCKS {
+    let mut i = DATA;
+    while 0 < i {
+        i -= 1;
+        let address = FIRST_DATA + i;
         if !has(r, s, w, k, address, age(address, saves, after)) {
-            return false;
+            return true;
         }
-        address += 1;
     }
-    true
+    false
 }
 
 // What is found: old, new, or something else.
 pub(crate) fn letter<'a>(r: Record, s: &'a Settled, w: &Waiting, k: &'a Work, saves: u32) -> u8
     requires { ⌜ saves ≤ 10 ⌝ }
+    ensures { λ c. ⌜ c ≡ letterOf saves (stateOf r (now (s .entry)) (now (w .entry)) (now (k .entry))) ⌝ }
 {
-    if all(r, s, w, k, saves, false) {
+    if !has_other(r, s, w, k, saves, false) {
         return b'o';
     }
-    if all(r, s, w, k, saves, true) {
+    if !has_other(r, s, w, k, saves, true) {
         return b'n';
     }
     b'?'
