@@ -1,0 +1,15 @@
+-- Up to 5 waiting writes the map tries every set of kept writes.
+use Prim.Native.Nat.{ℕ, zero, suc, _≤_}
+use mathlib.Core.Path.{_≡_, refl}
+use native.Mathlib.Omega.{arith}
+use Rattle.powercut.specs.Sets.{EverySet, setCount, keeps, mark, marks, allMarks}
+
+pub every-set : EverySet
+unfolding setCount keeps mark marks allMarks
+every-set zero h = refl
+every-set (suc zero) h = refl
+every-set (suc (suc zero)) h = refl
+every-set (suc (suc (suc zero))) h = refl
+every-set (suc (suc (suc (suc zero)))) h = refl
+every-set (suc (suc (suc (suc (suc zero))))) h = refl
+every-set (suc (suc (suc (suc (suc (suc n)))))) h = absurd (omega arith)

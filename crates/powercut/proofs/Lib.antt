@@ -1,0 +1,2 @@
+-- The laws of the map.
+pub mod EverySet

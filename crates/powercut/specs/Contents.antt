@@ -1,0 +1,44 @@
+-- What the data blocks hold, and the character for what is found.
+use Prim.Native.Nat.{ℕ, _+_, _*_}
+use mathlib.Core.Bool.{Bool, true, false, cond, not, _&&_, _||_}
+use mathlib.Core.List.{List}
+use lib.Dec.{eqb, ltb}
+use lib.ListN.{replicate}
+use Rattle.cells.specs.Entry.{blockBytes}
+use Rattle.cells.specs.Same.{same}
+use Rattle.journal.specs.Layout.{firstData}
+use Rattle.store.specs.State.{State}
+use Rattle.store.specs.Causes.{some}
+use Rattle.store.specs.Get.{getPlace, bytesAt}
+
+-- a block is filled with one byte, by its address and its age: 0 at home, 1 in the log, 2 in the save
+abbrev pub filled : ℕ → ℕ → List ℕ
+filled address age = replicate blockBytes (address + 64 * age)
+
+-- the blocks of the save: the first data block, one in the middle, the last
+abbrev pub ofSave : ℕ → Bool
+ofSave address = eqb address firstData || eqb address 48 || eqb address 63
+
+-- the age of a data block before the save, where the log has so many saves of three blocks
+unfoldable pub oldAge : ℕ → ℕ → ℕ
+oldAge address saves = cond (ltb address (firstData + 3 * saves)) 1 0
+
+-- before the save, or after it
+unfoldable pub ageOf : ℕ → ℕ → Bool → ℕ
+ageOf address saves after = cond (after && ofSave address) 2 (oldAge address saves)
+
+-- a get hands out the block of an age
+abbrev pub holds : ℕ → ℕ → State → Bool
+holds address age st = same (bytesAt (getPlace address st) st) (filled address age)
+
+-- the i-th data block is not as before the save, or not as after it
+abbrev pub isOther : ℕ → Bool → State → ℕ → Bool
+isOther saves after st i = not (holds (firstData + i) (ageOf (firstData + i) saves after) st)
+
+-- one of the 30 data blocks is
+abbrev pub hasOther : ℕ → Bool → State → Bool
+hasOther saves after st = some (isOther saves after st) 30
+
+-- `o`: all are old; `n`: all are new; `?`: anything else
+unfoldable pub letterOf : ℕ → State → ℕ
+letterOf saves st = cond (hasOther saves false st) (cond (hasOther saves true st) 63 110) 111

@@ -1,0 +1,3 @@
+-- The map of power cuts: what it tries, and what its characters say.
+pub mod Contents
+pub mod Sets

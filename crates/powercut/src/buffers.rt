@@ -1,0 +1,14 @@
+// The buffers of a card of 64 blocks.
+use cells::BLOCK;
+use store::WAITING;
+use store::WORK;
+
+pub(crate) const BLOCKS: u32 = 64;
+
+pub(crate) const SETTLED: usize = BLOCK * BLOCKS as usize;
+
+pub type Settled = [u8; SETTLED];
+
+pub type Waiting = [u8; WAITING];
+
+pub type Work = [u8; WORK];

@@ -1,0 +1,89 @@
+// Power losses: of the save, and of the recovery that follows. Each experiment starts from the same card.
+use crate::buffers::Settled;
+use crate::buffers::Waiting;
+use crate::buffers::Work;
+use crate::sets;
+use card::PLACES;
+use cells::bytes::copy;
+use store::record::Record;
+ghost use mathlib.Core.Path.{_≡_};
+ghost use Prim.Native.Nat.{_≤_};
+ghost use Rattle.card.specs.Card.{places};
+ghost use Rattle.store.specs.CodeState.{stateOf};
+ghost use Rattle.store.specs.Saves.{cutCall};
+ghost use Rattle.powercut.specs.Sets.{marks};
+
+// The orders that happen before it, and the number of the set of writes that it keeps.
+pub(crate) struct Loss {
+    pub orders: u32,
+    pub set: u32,
+}
+
+// The power that suffices for any recovery.
+pub(crate) const ENOUGH: u32 = 2;
+
+// The save with power for so many orders.
+pub(crate) fn saved(
+    r: Record,
+    start: &Settled,
+    s: &mut Settled,
+    w: &mut Waiting,
+    k: &Work,
+    orders: u32,
+) -> Record {
+    copy(s, start);
+    let powered = r.power(s, w, k, orders);
+    let save = powered.rec.sync(s, w, k);
+    save.rec
+}
+
+// The cut with a set. A record with more waiting writes than there are places stays as it is.
+fn cut(r: Record, s: &mut Settled, w: &Waiting, k: &Work, set: u32) -> Record
+    ensures { λ q. ⌜ (r .waiting ≤ places → stateOf q (now (s .exit)) (now (w .entry)) (now (k .entry)) ≡ cutCall (marks (r .waiting) set) (stateOf r (now (s .entry)) (now (w .entry)) (now (k .entry))) .state) ⌝ }
+{
+    let n = r.waiting;
+    if PLACES < n as usize {
+        return r;
+    }
+    let mut marks = [0u8; PLACES];
+    sets::marks(n, set, &mut marks);
+    let end = n as usize;
+    let a = r.cut(s, w, k, &marks[..end]);
+    a.rec
+}
+
+// The cut, then a recovery with power for so many orders.
+fn booted(r: Record, s: &mut Settled, w: &mut Waiting, k: &Work, set: u32, orders: u32) -> Record {
+    let closed = cut(r, s, w, k, set);
+    let powered = closed.power(s, w, k, orders);
+    let recovered = powered.rec.recover(s, w, k);
+    recovered.rec
+}
+
+// The save lost, then a recovery with power for so many orders.
+pub(crate) fn recovered(
+    r: Record,
+    start: &Settled,
+    s: &mut Settled,
+    w: &mut Waiting,
+    k: &Work,
+    loss: Loss,
+    orders: u32,
+) -> Record {
+    let save = saved(r, start, s, w, k, loss.orders);
+    booted(save, s, w, k, loss.set, orders)
+}
+
+// The save lost, the recovery lost, then a recovery with all its power.
+pub(crate) fn recovered_again(
+    r: Record,
+    start: &Settled,
+    s: &mut Settled,
+    w: &mut Waiting,
+    k: &Work,
+    loss: Loss,
+    again: Loss,
+) -> Record {
+    let first = recovered(r, start, s, w, k, loss, again.orders);
+    booted(first, s, w, k, again.set, ENOUGH)
+}

@@ -1,0 +1,58 @@
+// The sets of kept writes that a cut is tried with, by number. Write i is the i-th waiting one, oldest first, from 0.
+//
+// Up to 5 waiting writes: all sets. Set j keeps write i if bit i of j is 1, so the first keeps none and the last keeps all.
+// More than 5, n of them: 0 keeps none; 1 to n keep one alone, oldest first; n + 1 to 2n lose one alone; 2n + 1 keeps all.
+ghost use mathlib.Core.Path.{_≡_};
+ghost use Prim.Native.Nat.{_+_, _≤_, _<_};
+ghost use lib.ListN.{length, take};
+ghost use Rattle.powercut.specs.Sets as Sets;
+
+// Up to how many waiting writes all sets are tried.
+const FEW: u32 = 5;
+
+// How many sets there are for n waiting writes.
+pub(crate) fn count(n: u32) -> u32
+    requires { ⌜ n ≤ 34 ⌝ }
+    ensures { λ r. ⌜ r ≡ Sets.setCount n ⌝ }
+{
+    if n <= FEW {
+        return 1 << n;
+    }
+    2 * n + 2
+}
+
+// Whether a set keeps write i of n.
+fn keeps(n: u32, set: u32, i: u32) -> bool
+    requires { ⌜ (n ≤ 34) × (i < n) ⌝ }
+    ensures { λ r. ⌜ r ≡ Sets.keeps n set i ⌝ }
+{
+    if n <= FEW {
+        return (set >> i) % 2 == 1;
+    }
+    if set <= n {
+        return set == i + 1;
+    }
+    set != n + 1 + i
+}
+
+fn mark(n: u32, set: u32, i: u32) -> u8
+    requires { ⌜ (n ≤ 34) × (i < n) ⌝ }
+    ensures { λ r. ⌜ r ≡ Sets.mark n set i ⌝ }
+{
+    if keeps(n, set, i) {
+        return 1;
+    }
+    0
+}
+
+// The marks of a set, in front of the buffer.
+pub(crate) fn marks(n: u32, set: u32, to: &mut [u8])
+    requires { ⌜ (n ≤ 34) × (length (now to) ≡ 34) ⌝ }
+    ensures { λ _. ⌜ take n (now (to .exit)) ≡ Sets.marks n set ⌝ }
+{
+    let mut i = 0;
+    while i < n {
+        to[i as usize] = mark(n, set, i);
+        i += 1;
+    }
+}

@@ -1,0 +1,127 @@
+"""Draws the map of power cuts, docs/powercut.svg, from what the program `powercut` writes (crates/powercut/stdout).
+
+usage: python3 -B docs/powercut.py >docs/powercut.svg
+
+A row is a power, a cell a set of kept writes. Fails if a cell is neither old nor new."""
+import sys
+from pathlib import Path
+
+MAP = Path(__file__).resolve().parent.parent / "crates/powercut/stdout"
+COLOURS = {"o": "#4a7fb5", "n": "#f08a24"}
+INK, FAINT = "#222", "#777"
+CELL, LEFT, TOP, WIDTH = 11, 92, 96, 1010
+
+# The orders of a save, a word for each; row p is the loss behind the first p of them.
+SAVE = ["log block"] * 3 + ["descriptor", "header", "flush"]
+APPLY = ["home block"] * 30 + ["flush", "header of the empty log", "flush"]
+SCENARIOS = {
+    "append": ("The log has room: 6 orders", SAVE),
+    "apply": ("The log has no room and is applied first: 39 orders", APPLY + SAVE),
+}
+FEW = 5  # up to so many waiting writes every set is tried
+
+
+def rows():
+    """The characters of each scenario's lines, by power."""
+    *lines, last = MAP.read_text().splitlines()
+    found = {name: [] for name in SCENARIOS}
+    for line in lines:
+        name, power, cells = line.split(" ")
+        if int(power) != len(found[name]) or set(cells) - set(COLOURS):
+            sys.exit(f"{MAP.name}: {line}")
+        found[name].append(cells)
+    if last != "every save is whole" or any(len(found[n]) != len(SCENARIOS[n][1]) + 1 for n in found):
+        sys.exit(f"{MAP.name}: {last}")
+    return found
+
+
+def text(x, y, words, size=12, fill=INK, anchor="start", weight="normal"):
+    return (f'<text x="{x}" y="{y}" font-size="{size}" fill="{fill}" text-anchor="{anchor}" '
+            f'font-weight="{weight}">{words}</text>')
+
+
+def boxes(places, y, paint):
+    """Cells of one row that look the same, one path."""
+    side = CELL - 1
+    return f'<path d="{"".join(f"M{x} {y}h{side}v{side}h-{side}z" for x in places)}" {paint}/>'
+
+
+def phases(orders):
+    """Runs of equal orders: the word, the first row and the last row behind which they lie."""
+    runs = []
+    for row, word in enumerate(orders, 1):
+        if runs and runs[-1][0] == word:
+            runs[-1][2] = row
+        else:
+            runs.append([word, row, row])
+    return runs
+
+
+def label(word, first, last):
+    if first < last:
+        return f"{last - first + 1} {word}s written"
+    return "flushed" if word == "flush" else f"{word} written"
+
+
+def panel(y, head, orders, lines):
+    """A scenario from y on: its head, a row for each power, and what the last order before the loss was."""
+    out = [text(LEFT, y, head, 14, weight="bold"), text(LEFT - 8, y, "orders", 10, FAINT, "end")]
+    y += 12
+    for power, cells in enumerate(lines):
+        at = y + CELL * power
+        out.append(text(LEFT - 8, at + 9, power, 9, FAINT, "end"))
+        for letter, colour in COLOURS.items():
+            places = [LEFT + CELL * i for i, c in enumerate(cells) if c == letter]
+            out += [boxes(places, at, f'fill="{colour}"')] if places else []
+    side = LEFT + CELL * max(map(len, lines)) + 10
+    out.append(text(side + 8, y + 9, "nothing written", 10, FAINT))
+    for word, first, last in phases(orders):
+        top, bottom = y + CELL * first, y + CELL * (last + 1) - 1
+        bold = word.startswith("header")
+        out.append(f'<path d="M{side} {top}h4V{bottom}h-4" fill="none" stroke="{INK if bold else FAINT}"/>')
+        done = ": the save is done" if last == len(orders) else ""
+        out.append(text(side + 8, (top + bottom) / 2 + 3.5, label(word, first, last) + done, 10, INK if bold else FAINT,
+                        weight="bold" if bold else "normal"))
+    return out, y + CELL * len(lines)
+
+
+def legend(y, counts):
+    items = [(f"all three blocks {word}: {counts[c]:,} cuts", f'fill="{COLOURS[c]}"') for c, word in [("o", "old"), ("n", "new")]]
+    items.append(("a mixture, or anything else: none", f'fill="none" stroke="{FAINT}" stroke-dasharray="2"'))
+    out = []
+    for i, (words, paint) in enumerate(items):
+        out += [boxes([LEFT + 240 * i], y - 9, paint), text(LEFT + 240 * i + 16, y, words)]
+    return out
+
+
+def notes(y):
+    lines = [
+        "A row is a power loss behind so many orders of the save. A cell is a set of the waiting writes that the card kept.",
+        f"Up to {FEW} waiting: every set, none first and all last. More: none, each alone kept, each alone lost, all.",
+        "New exactly where the save's own header was kept or flushed and the log found is the log written.",
+        "Each cell stands for the recovery behind that cut and for every cut inside the recovery, recovered again.",
+    ]
+    return [text(LEFT, y + 16 * i, line, 11, FAINT) for i, line in enumerate(lines)]
+
+
+def main():
+    found = rows()
+    counts = {c: sum(line.count(c) for lines in found.values() for line in lines) for c in COLOURS}
+    out = [text(LEFT, 34, "A save of three blocks, cut at every order", 20, weight="bold")]
+    out += legend(62, counts)
+    y = TOP
+    for name, (head, orders) in SCENARIOS.items():
+        drawn, y = panel(y, head, orders, found[name])
+        out += drawn
+        y += 34
+    out += notes(y)
+    height = y + 64
+    print(f'<svg xmlns="http://www.w3.org/2000/svg" viewBox="0 0 {WIDTH} {height}" width="{WIDTH}" height="{height}" '
+          'font-family="Helvetica, Arial, sans-serif">')
+    print(f"<title>The map of power cuts: {counts['o']} cuts find the old blocks, {counts['n']} the new, none a mixture</title>")
+    print(f'<rect width="{WIDTH}" height="{height}" fill="#fff"/>')
+    print("\n".join(out))
+    print("</svg>")
+
+
+main()
