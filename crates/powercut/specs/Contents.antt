@@ -6,6 +6,7 @@ use lib.Dec.{eqb, ltb}
 use lib.ListN.{replicate}
 use Rattle.cells.specs.Entry.{blockBytes}
 use Rattle.cells.specs.Same.{same}
+use Rattle.journal.specs.Geometry.{trap}
 use Rattle.journal.specs.Layout.{firstData}
 use Rattle.store.specs.State.{State}
 use Rattle.store.specs.Causes.{some}
@@ -17,11 +18,11 @@ filled address age = replicate blockBytes (address + 64 * age)
 
 -- the blocks of the save: the first data block, one in the middle, the last
 abbrev pub ofSave : ℕ → Bool
-ofSave address = eqb address firstData || eqb address 48 || eqb address 63
+ofSave address = eqb address (firstData trap) || eqb address 48 || eqb address 63
 
 -- the age of a data block before the save, where the log has so many saves of three blocks
 unfoldable pub oldAge : ℕ → ℕ → ℕ
-oldAge address saves = cond (ltb address (firstData + 3 * saves)) 1 0
+oldAge address saves = cond (ltb address (firstData trap + 3 * saves)) 1 0
 
 -- before the save, or after it
 unfoldable pub ageOf : ℕ → ℕ → Bool → ℕ
@@ -29,11 +30,11 @@ ageOf address saves after = cond (after && ofSave address) 2 (oldAge address sav
 
 -- a get hands out the block of an age
 abbrev pub holds : ℕ → ℕ → State → Bool
-holds address age st = same (bytesAt (getPlace address st) st) (filled address age)
+holds address age st = same (bytesAt (getPlace trap address st) st) (filled address age)
 
 -- the i-th data block is not as before the save, or not as after it
 abbrev pub isOther : ℕ → Bool → State → ℕ → Bool
-isOther saves after st i = not (holds (firstData + i) (ageOf (firstData + i) saves after) st)
+isOther saves after st i = not (holds (firstData trap + i) (ageOf (firstData trap + i) saves after) st)
 
 -- one of the 30 data blocks is
 abbrev pub hasOther : ℕ → Bool → State → Bool

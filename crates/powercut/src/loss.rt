@@ -3,14 +3,14 @@ use crate::buffers::Settled;
 use crate::buffers::Waiting;
 use crate::buffers::Work;
 use crate::sets;
-use card::PLACES;
 use cells::bytes::copy;
+use journal::PLACES;
 use store::record::Record;
 ghost use mathlib.Core.Path.{_≡_};
 ghost use Prim.Native.Nat.{_≤_};
-ghost use Rattle.card.specs.Card.{places};
 ghost use Rattle.store.specs.CodeState.{stateOf};
-ghost use Rattle.store.specs.Saves.{cutCall};
+ghost use Rattle.store.specs.Cut.{cutCall};
+ghost use Rattle.journal.specs.Geometry.{trap};
 ghost use Rattle.powercut.specs.Sets.{marks};
 
 // The orders that happen before it, and the number of the set of writes that it keeps.
@@ -39,7 +39,7 @@ pub(crate) fn saved(
 
 // The cut with a set. A record with more waiting writes than there are places stays as it is.
 fn cut(r: Record, s: &mut Settled, w: &Waiting, k: &Work, set: u32) -> Record
-    ensures { λ q. ⌜ (r .waiting ≤ places → stateOf q (now (s .exit)) (now (w .entry)) (now (k .entry)) ≡ cutCall (marks (r .waiting) set) (stateOf r (now (s .entry)) (now (w .entry)) (now (k .entry))) .state) ⌝ }
+    ensures { λ q. ⌜ (r .waiting ≤ trap .places → stateOf q (now (s .exit)) (now (w .entry)) (now (k .entry)) ≡ cutCall trap (marks (r .waiting) set) (stateOf r (now (s .entry)) (now (w .entry)) (now (k .entry))) .state) ⌝ }
 {
     let n = r.waiting;
     if PLACES < n as usize {

@@ -10,6 +10,7 @@ use Rattle.cells.specs.Same.{same}
 use Rattle.store.specs.CodeState.{stateOf}
 use Rattle.store.specs.Get.{getPlace, bytesAt}
 use Rattle.store.proofs.Places.{part-bytes}
+use Rattle.journal.specs.Geometry.{trap}
 use Rattle.powercut.proofs.contents.has.Statement.{statement}
 use Rattle.powercut.proofs.contents.has.Tie as tie
 
@@ -33,8 +34,8 @@ returns : tie.Need-returns
 returns c =
     let a = c .before .before .before .before .before .before .before .args in
     let st = stateOf (a .r) (a .s .now) (a .w .now) (a .k .now) in
-    let part : c .before .before .get .result .now ≡ bytesAt (getPlace (a .address) st) st =
-    ap (λ (v : View). v .bytes) (c .before .before .get .ensures) ∙ part-bytes (getPlace (a .address) st) (a .r) (a .s) (a .k) (a .w .now) in
+    let part : c .before .before .get .result .now ≡ bytesAt (getPlace trap (a .address) st) st =
+    ap (λ (v : View). v .bytes) (c .before .before .get .ensures) ∙ part-bytes (getPlace trap (a .address) st) (a .r) (a .s) (a .k) (a .w .now) in
     compared (c .same .result) _ _ _ _ (c .same .ensures) part (c .before .before .before .byte .ensures)
 
 pub has-spec : {M : Type 1} → statement M

@@ -4,6 +4,7 @@ use mathlib.Core.Path.{_≡_, refl, sym, ap, _∙_}
 use mathlib.Core.Bool.{Bool, not}
 use native.Mathlib.Omega.{arith}
 use borrow.Author.Needs.{needs}
+use Rattle.journal.specs.Geometry.{trap}
 use Rattle.store.specs.State.{State}
 use Rattle.store.specs.CodeState.{stateOf}
 use Rattle.store.specs.Causes.{some}
@@ -39,6 +40,7 @@ has-requires : tie.Need-has-requires Inv-loop μ-loop
 has-requires c κs = (omega arith, c .age .ensures .1)
 
 returns : tie.Need-returns Inv-loop μ-loop
+unfolding trap
 returns c =
     let l = c .before .before .before .before .before .before .before .loop in
     let a = c .before .before .before .before .before .before .before .before .args in
@@ -49,6 +51,7 @@ loop-less : tie.Need-loop-less Inv-loop μ-loop
 loop-less c = omega arith
 
 loop-again : tie.Need-loop-again Inv-loop μ-loop
+unfolding trap
 loop-again c =
     let l = c .before .before .before .before .before .before .before .loop in
     let a = c .before .before .before .before .before .before .before .before .args in (

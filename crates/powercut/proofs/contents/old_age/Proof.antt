@@ -1,6 +1,7 @@
 -- `powercut::contents::old_age` meets its contract.
 use native.Mathlib.Omega.{arith}
 use borrow.Author.Tests.{lt-ltb, le-ltb}
+use Rattle.journal.specs.Geometry.{trap}
 use Rattle.powercut.specs.Contents.{oldAge}
 use borrow.Author.Needs.{needs}
 use Rattle.powercut.proofs.contents.old_age.Statement.{statement}
@@ -13,11 +14,11 @@ add-if1 : tie.Need-add-if1
 add-if1 c = search needs
 
 returns : tie.Need-returns
-unfolding oldAge
+unfolding oldAge trap
 returns c = (rw (lt-ltb _ _ (c .if1 .taken)), omega arith)
 
 returns-2 : tie.Need-returns-2
-unfolding oldAge
+unfolding oldAge trap
 returns-2 c = (rw (le-ltb _ _ (c .if1 .left)), omega arith)
 
 pub old-age-spec : {M : Type 1} → statement M

@@ -6,20 +6,22 @@ use native.Mathlib.Omega.{arith}
 use lib.ListN.{length}
 use Rattle.cells.specs.Upto.Laws.{length-upTo}
 use Rattle.store.specs.State.{State, Outcome}
-use Rattle.store.specs.Saves.{cutCall}
+use Rattle.store.specs.Cut.{cutCall}
+use Rattle.journal.specs.Geometry.{trap}
 use Rattle.powercut.specs.Sets as Sets
 use borrow.Author.Needs.{needs}
 use Rattle.powercut.proofs.loss.cut.Statement.{statement}
 use Rattle.powercut.proofs.loss.cut.Tie as tie
 
 -- a cut by marks that are equal
-marked : (o : Outcome) (ms ns : List ℕ) (st : State) → o ≡ cutCall ms st → ms ≡ ns → o .state ≡ cutCall ns st .state
-marked o ms ns st e h = ap (λ (x : Outcome). x .state) e ∙ ap (λ (l : List ℕ). cutCall l st .state) h
+marked : (o : Outcome) (ms ns : List ℕ) (st : State) → o ≡ cutCall trap ms st → ms ≡ ns → o .state ≡ cutCall trap ns st .state
+marked o ms ns st e h = ap (λ (x : Outcome). x .state) e ∙ ap (λ (l : List ℕ). cutCall trap l st .state) h
 
 cast-if1 : tie.Need-cast-if1
 cast-if1 c = search needs
 
 returns : tie.Need-returns
+unfolding trap
 returns c p = absurd (omega (arith, p))
 
 slice-aggregate-marks : tie.Need-slice-aggregate-marks
