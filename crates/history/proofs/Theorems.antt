@@ -20,19 +20,19 @@ use Rattle.history.specs.Statements.{Sound, Safety, Refinement, ReadBack
 use Rattle.history.specs.Refusals.{Refusals}
 use Rattle.history.specs.Linked.{Linked}
 use Rattle.history.specs.Scripts.{ScriptsAreHistories}
-use Rattle.history.proofs.CauseLaws.{cause-one, cause-two, cause-passes}
-use Rattle.history.proofs.Relation.{Safe}
-use Rattle.history.proofs.Steps.{same-cause, dispatch-refused, plain-served}
-use Rattle.history.proofs.SimpleSteps.{is-open}
-use Rattle.history.proofs.SyncStep.{logged}
-use Rattle.history.proofs.ListInduction.{step, after-sim, after-safe, begun-sim, begun-safe}
-use Rattle.history.proofs.PlainAnswers.{Either, served-answer}
-use Rattle.history.proofs.ReadsBack as ReadsBack
-use Rattle.history.proofs.Atomicity as Atomicity
-use Rattle.history.proofs.RefusalsProof as RefusalsProof
-use Rattle.history.proofs.FaceRefusals as FaceRefusals
-use Rattle.history.proofs.Links as Links
-use Rattle.history.proofs.ScriptsProof as ScriptsProof
+use Rattle.history.proofs.Relation.CauseLaws.{cause-one, cause-two, cause-passes}
+use Rattle.history.proofs.Relation.Sim.{Safe}
+use Rattle.history.proofs.Steps.Shown.{same-cause, dispatch-refused, plain-served}
+use Rattle.history.proofs.Steps.Local.{is-open}
+use Rattle.history.proofs.Steps.Sync.{logged}
+use Rattle.history.proofs.Steps.ListInduction.{step, after-sim, after-safe, begun-sim, begun-safe}
+use Rattle.history.proofs.Relation.PlainAnswers.{Either, served-answer}
+use Rattle.history.proofs.Atomicity.ReadsBack as ReadsBack
+use Rattle.history.proofs.Atomicity.Splits as Atomicity
+use Rattle.history.proofs.Boundary.Refusals as RefusalsProof
+use Rattle.history.proofs.Boundary.FaceRefusals as FaceRefusals
+use Rattle.history.proofs.Boundary.Links as Links
+use Rattle.history.proofs.Boundary.Scripts as ScriptsProof
 
 -- ---- Safety
 

@@ -44,10 +44,10 @@ use Rattle.store.proofs.Calls.{call-done}
 use Rattle.store.proofs.Causes.{sizes-facts}
 use Rattle.history.specs.Dispatch.{called}
 use Rattle.history.specs.Refusals.{ordersOf, untouched, innerDone, Gone, Answers}
-use Rattle.history.proofs.WorkLists.{data-short}
-use Rattle.history.proofs.CauseLaws.{idle, record-facts, cause-passes, IsOpen, cause-opened}
-use Rattle.history.proofs.Forms.{left, AppliedFirst, Form, quiet, gives, unless-either, form, called-refused}
-use Rattle.history.proofs.CallEnds.{carried-done, carried-short}
+use Rattle.history.proofs.Relation.WorkLists.{data-short}
+use Rattle.history.proofs.Relation.CauseLaws.{idle, record-facts, cause-passes, IsOpen, cause-opened}
+use Rattle.history.proofs.Relation.Forms.{left, AppliedFirst, Form, quiet, gives, unless-either, form, called-refused}
+use Rattle.history.proofs.Steps.CallEnds.{carried-done, carried-short}
 
 -- ---- batches in a row leave a block alone that none of them writes to
 

@@ -34,15 +34,15 @@ use Rattle.history.specs.Dispatch.{dispatch}
 use Rattle.history.specs.Ledger.{Ledger, recoverHeaders, noted, entered, taken, logFound, sameLog}
 use Rattle.history.specs.History.{World, begun, next, after, storeNext, ledgerNext, foundWritten, acceptedCut, exception}
 use Rattle.history.specs.Statements.{noCut, Taken, ReadBack, WrittenSummed}
-use Rattle.history.proofs.CauseLaws.{cause-passes}
-use Rattle.history.proofs.Relation.{OpenSim, ClosedSim, DownSim, Sim, Safe}
-use Rattle.history.proofs.PlainLaws.{recover-whole, recover-fallback, recover-short}
-use Rattle.history.proofs.Steps.{plainNext, WorldSim, same-cause, dispatch-refused, entered-refused, plain-served, noted-none, small-N, choose-fallback}
-use Rattle.history.proofs.SimpleSteps.{is-open}
-use Rattle.history.proofs.CutStep.{served-cut, store-cut}
-use Rattle.history.proofs.RecoverStep.{is-closed}
-use Rattle.history.proofs.ListInduction.{step, next-sim, next-safe, after-sim, after-safe, begun-sim, begun-safe, clean-first, clean-before}
-use Rattle.history.proofs.PlainAnswers.{when-open, save-end, save-mode, LocalKind, powers, opens, local-kind}
+use Rattle.history.proofs.Relation.CauseLaws.{cause-passes}
+use Rattle.history.proofs.Relation.Sim.{OpenSim, ClosedSim, DownSim, Sim, Safe}
+use Rattle.history.proofs.Relation.PlainLaws.{recover-whole, recover-fallback, recover-short}
+use Rattle.history.proofs.Steps.Shown.{plainNext, WorldSim, same-cause, dispatch-refused, entered-refused, plain-served, noted-none, small-N, choose-fallback}
+use Rattle.history.proofs.Steps.Local.{is-open}
+use Rattle.history.proofs.Steps.Cut.{served-cut, store-cut}
+use Rattle.history.proofs.Steps.Recover.{is-closed}
+use Rattle.history.proofs.Steps.ListInduction.{step, next-sim, next-safe, after-sim, after-safe, begun-sim, begun-safe, clean-first, clean-before}
+use Rattle.history.proofs.Relation.PlainAnswers.{when-open, save-end, save-mode, LocalKind, powers, opens, local-kind}
 
 -- ---- a call after which the record is closed, that was no accepted cut, found it so
 

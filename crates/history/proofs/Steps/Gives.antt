@@ -31,12 +31,12 @@ use Rattle.history.specs.Dispatch.{dispatch}
 use Rattle.history.specs.Ledger.{PlannedHeader, nothing, noted}
 use Rattle.history.specs.History.{World, ledgerNext, foundWritten}
 use Rattle.journal.proofs.Logs.{allData-all}
-use Rattle.history.proofs.Plans.{Plan, planned, takes, settles, Fits, Asked, Throughout, length-planned, length-settles, plan-done, Stopped, plan-short}
-use Rattle.history.proofs.Lists.{Data, Distinct}
-use Rattle.history.proofs.CauseLaws.{RecordFacts, facts-sizes, record-facts, facts-record}
-use Rattle.history.proofs.Relation.{Basics, Sim, CutLeads}
-use Rattle.history.proofs.Steps.{StepOK, sim-step, sim-at, small-N}
-use Rattle.history.proofs.CallEnds.{carried-done, carried-short}
+use Rattle.history.proofs.Steps.Plans.{Plan, planned, takes, settles, Fits, Asked, Throughout, length-planned, length-settles, plan-done, Stopped, plan-short}
+use Rattle.history.proofs.Relation.Lists.{Data, Distinct}
+use Rattle.history.proofs.Relation.CauseLaws.{RecordFacts, facts-sizes, record-facts, facts-record}
+use Rattle.history.proofs.Relation.Sim.{Basics, Sim, CutLeads}
+use Rattle.history.proofs.Steps.Shown.{StepOK, sim-step, sim-at, small-N}
+use Rattle.history.proofs.Steps.CallEnds.{carried-done, carried-short}
 
 -- ---- sizes stay
 

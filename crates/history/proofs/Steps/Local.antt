@@ -34,11 +34,11 @@ use Rattle.history.specs.Plain.{Plain, Done, insert, merge, refusal, wit
 use Rattle.history.specs.Dispatch.{dispatch, blockOf}
 use Rattle.history.specs.Ledger.{Ledger, entered}
 use Rattle.history.specs.History.{World, foundWritten}
-use Rattle.history.proofs.Lists.{Distinct, Data, distinct-insert, all-insert, distinct-merge, all-merge}
-use Rattle.history.proofs.WorkLists.{data-short, put-open, newcomers-merge, joined-group, newest-get}
-use Rattle.history.proofs.CauseLaws.{facts-sizes, record-facts, facts-record, cause-passes}
-use Rattle.history.proofs.Relation.{OpenSim, ClosedSim, DownSim, Sim}
-use Rattle.history.proofs.Steps.{WorldSim, StepOK, sim-step, sim-at, small-N, same-cause, refused-step, plain-served}
+use Rattle.history.proofs.Relation.Lists.{Distinct, Data, distinct-insert, all-insert, distinct-merge, all-merge}
+use Rattle.history.proofs.Relation.WorkLists.{data-short, put-open, newcomers-merge, joined-group, newest-get}
+use Rattle.history.proofs.Relation.CauseLaws.{facts-sizes, record-facts, facts-record, cause-passes}
+use Rattle.history.proofs.Relation.Sim.{OpenSim, ClosedSim, DownSim, Sim}
+use Rattle.history.proofs.Steps.Shown.{WorldSim, StepOK, sim-step, sim-at, small-N, same-cause, refused-step, plain-served}
 
 -- ---- a call that is done at once
 

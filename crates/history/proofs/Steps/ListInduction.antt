@@ -33,15 +33,15 @@ use Rattle.history.specs.Plain.{fresh}
 use Rattle.history.specs.Dispatch.{dispatch}
 use Rattle.history.specs.Ledger.{Ledger, entered}
 use Rattle.history.specs.History.{World, begun, next, after, exception}
-use Rattle.history.proofs.CauseLaws.{facts-sizes, facts-record, cause-passes}
-use Rattle.history.proofs.EvenLedgers.{even-refl, even-trans, entered-even}
-use Rattle.history.proofs.Relation.{Safe}
-use Rattle.history.proofs.Steps.{WorldSim, StepOK}
-use Rattle.history.proofs.SimpleSteps.{power-step, put-step, get-step, commit-step, abandon-step}
-use Rattle.history.proofs.CutStep.{cut-step}
-use Rattle.history.proofs.ApplyStep.{apply-step}
-use Rattle.history.proofs.RecoverStep.{recover-step}
-use Rattle.history.proofs.SyncStep.{sync-step}
+use Rattle.history.proofs.Relation.CauseLaws.{facts-sizes, facts-record, cause-passes}
+use Rattle.history.proofs.Relation.EvenLedgers.{even-refl, even-trans, entered-even}
+use Rattle.history.proofs.Relation.Sim.{Safe}
+use Rattle.history.proofs.Steps.Shown.{WorldSim, StepOK}
+use Rattle.history.proofs.Steps.Local.{power-step, put-step, get-step, commit-step, abandon-step}
+use Rattle.history.proofs.Steps.Cut.{cut-step}
+use Rattle.history.proofs.Steps.Apply.{apply-step}
+use Rattle.history.proofs.Steps.Recover.{recover-step}
+use Rattle.history.proofs.Steps.Sync.{sync-step}
 
 -- ---- one call
 

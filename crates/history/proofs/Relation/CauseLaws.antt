@@ -29,8 +29,8 @@ use Rattle.store.specs.Causes.{wrongSizes, wrongCounts, wrongWaiting, wrongList
 use Rattle.store.proofs.Causes.{restOf, readsRecord, needsOpen, ownRows, own-over, other, SizeFacts, sizes-facts, counts-facts, waiting-facts, Passes, cause-passes as Causes·cause-passes}
 use Rattle.history.specs.Call.{Call, requestOf, local, save, cut, recover}
 use Rattle.history.specs.Plain.{Plain, refusal}
-use Rattle.history.proofs.Lists.{none-some, find-has, Distinct, twice-distinct, distinct-twice, Data, strays-all, all-strays}
-use Rattle.history.proofs.WorkLists.{newcomers-merge}
+use Rattle.history.proofs.Relation.Lists.{none-some, find-has, Distinct, twice-distinct, distinct-twice, Data, strays-all, all-strays}
+use Rattle.history.proofs.Relation.WorkLists.{newcomers-merge}
 
 -- ---- 1: the sizes
 

@@ -22,11 +22,11 @@ use Rattle.store.proofs.Causes.{SizeFacts, sizes-facts}
 use Rattle.history.specs.Plain.{Plain}
 use Rattle.history.specs.Ledger.{Ledger}
 use Rattle.journal.proofs.Logs.{from-whole, entries-whole, all-allData}
-use Rattle.history.proofs.Lists.{Data}
-use Rattle.history.proofs.WorkLists.{data-short}
-use Rattle.history.proofs.CauseLaws.{RecordFacts, ListFacts, record-facts, idle}
-use Rattle.history.proofs.Relation.{Basics, OpenSim}
-use Rattle.history.proofs.Steps.{small-N, big-N}
+use Rattle.history.proofs.Relation.Lists.{Data}
+use Rattle.history.proofs.Relation.WorkLists.{data-short}
+use Rattle.history.proofs.Relation.CauseLaws.{RecordFacts, ListFacts, record-facts, idle}
+use Rattle.history.proofs.Relation.Sim.{Basics, OpenSim}
+use Rattle.history.proofs.Steps.Shown.{small-N, big-N}
 
 module _ (geo : Geometry) where
   module _ (st : State) (l : Ledger) (d : Plain) (b : Basics geo st d) (o : OpenSim geo st l d) where

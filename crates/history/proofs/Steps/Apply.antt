@@ -24,17 +24,17 @@ use Rattle.history.specs.Plain.{ofApply, Done, refusal, plainStep, plain
 use Rattle.history.specs.Dispatch.{dispatch}
 use Rattle.history.specs.Ledger.{applyHeaders, noted, entered, applyHeader}
 use Rattle.history.specs.History.{World, ledgerNext, foundWritten}
-use Rattle.history.proofs.Plans.{Plan, planned, takes, Throughout, throughout-map}
-use Rattle.history.proofs.CauseLaws.{RecordFacts, record-facts, cause-passes}
-use Rattle.history.proofs.Relation.{Basics, OpenSim, leads-still}
-use Rattle.history.proofs.PlainLaws.{apply-laid, apply-nothing, apply-finished, apply-short, choose-apply}
-use Rattle.history.proofs.Steps.{WorldSim, StepOK, sim-step, sim-at, same-cause, refused-step, plain-served, noted-none}
-use Rattle.history.proofs.SimpleSteps.{is-open}
-use Rattle.history.proofs.Notes.{note-past, noted-end}
-use Rattle.history.proofs.GivesStep.{openPlain, countable, open-listed, group-listed, CutsAt, Gives, gives-step}
-use Rattle.history.proofs.OpenFacts.{none-waits}
-use Rattle.history.proofs.Worlds.{settledLedger, plainNow, openWorld, Opened, opened-sim, open-step}
-use Rattle.history.proofs.Checkpoints.{checkpoint, checkpoint-orders, checkpoint-takes, checkpoint-fits, CheckpointCuts, checkpoint-cuts, emptied-card}
+use Rattle.history.proofs.Steps.Plans.{Plan, planned, takes, Throughout, throughout-map}
+use Rattle.history.proofs.Relation.CauseLaws.{RecordFacts, record-facts, cause-passes}
+use Rattle.history.proofs.Relation.Sim.{Basics, OpenSim, leads-still}
+use Rattle.history.proofs.Relation.PlainLaws.{apply-laid, apply-nothing, apply-finished, apply-short, choose-apply}
+use Rattle.history.proofs.Steps.Shown.{WorldSim, StepOK, sim-step, sim-at, same-cause, refused-step, plain-served, noted-none}
+use Rattle.history.proofs.Steps.Local.{is-open}
+use Rattle.history.proofs.Steps.Notes.{note-past, noted-end}
+use Rattle.history.proofs.Steps.Gives.{openPlain, countable, open-listed, group-listed, CutsAt, Gives, gives-step}
+use Rattle.history.proofs.Relation.OpenFacts.{none-waits}
+use Rattle.history.proofs.Steps.Worlds.{settledLedger, plainNow, openWorld, Opened, opened-sim, open-step}
+use Rattle.history.proofs.Steps.Checkpoints.{checkpoint, checkpoint-orders, checkpoint-takes, checkpoint-fits, CheckpointCuts, checkpoint-cuts, emptied-card}
 
 module _ (geo : Geometry) where
   -- a call that changes nothing

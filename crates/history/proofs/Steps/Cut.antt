@@ -31,10 +31,10 @@ use Rattle.history.specs.Plain.{Plain, Done, plainStep, none, still, clo
 use Rattle.history.specs.Dispatch.{dispatch}
 use Rattle.history.specs.Ledger.{Ledger, nothing, settledBy, resolved, entered, logFound, sameLog, collides}
 use Rattle.history.specs.History.{World, storeNext, ledgerNext, foundWritten, acceptedCut, exception}
-use Rattle.history.proofs.CauseLaws.{facts-sizes, record-facts, facts-record, idle}
-use Rattle.history.proofs.Relation.{Basics, OpenSim, ClosedSim, DownSim, Sim, cutSettled, cutWritten, cutVerdict, CutLeads}
-use Rattle.history.proofs.PlainLaws.{choose-none}
-use Rattle.history.proofs.Steps.{WorldSim, StepOK, sim-at, big-N, same-cause, refused-step, plain-served}
+use Rattle.history.proofs.Relation.CauseLaws.{facts-sizes, record-facts, facts-record, idle}
+use Rattle.history.proofs.Relation.Sim.{Basics, OpenSim, ClosedSim, DownSim, Sim, cutSettled, cutWritten, cutVerdict, CutLeads}
+use Rattle.history.proofs.Relation.PlainLaws.{choose-none}
+use Rattle.history.proofs.Steps.Shown.{WorldSim, StepOK, sim-at, big-N, same-cause, refused-step, plain-served}
 
 -- ---- every cut leads to what the plain disk chooses
 

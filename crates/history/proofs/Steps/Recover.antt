@@ -36,13 +36,13 @@ use Rattle.history.specs.Call.{get, recover}
 use Rattle.history.specs.Plain.{Plain, ofRecover, refusal, plainStep, plainRecover, headerKept, unchanged}
 use Rattle.history.specs.Ledger.{Ledger, waits, recoverHeaders, noted, entered, taken, resolved}
 use Rattle.history.specs.History.{World, foundWritten}
-use Rattle.history.proofs.CauseLaws.{RecordFacts, record-facts, cause-passes}
-use Rattle.history.proofs.Plans.{Plan, Asked, for-one}
-use Rattle.history.proofs.Relation.{OpenSim, ClosedSim, DownSim, Sim, leads-still}
-use Rattle.history.proofs.PlainLaws.{recover-whole, recover-fallback, recover-short, choose-recover-none, choose-recover, kept-mark}
-use Rattle.history.proofs.Steps.{WorldSim, StepOK, same-cause, refused-step, plain-served, noted-none, small-N, big-N, choose-whole, choose-fallback}
-use Rattle.history.proofs.GivesStep.{none-listed, countable, CutsAt, Gives, gives-step}
-use Rattle.history.proofs.Worlds.{settledLedger, plainShut, closedWorld, Closed, closed-sim, idle-closed, closed-world, shut}
+use Rattle.history.proofs.Relation.CauseLaws.{RecordFacts, record-facts, cause-passes}
+use Rattle.history.proofs.Steps.Plans.{Plan, Asked, for-one}
+use Rattle.history.proofs.Relation.Sim.{OpenSim, ClosedSim, DownSim, Sim, leads-still}
+use Rattle.history.proofs.Relation.PlainLaws.{recover-whole, recover-fallback, recover-short, choose-recover-none, choose-recover, kept-mark}
+use Rattle.history.proofs.Steps.Shown.{WorldSim, StepOK, same-cause, refused-step, plain-served, noted-none, small-N, big-N, choose-whole, choose-fallback}
+use Rattle.history.proofs.Steps.Gives.{none-listed, countable, CutsAt, Gives, gives-step}
+use Rattle.history.proofs.Steps.Worlds.{settledLedger, plainShut, closedWorld, Closed, closed-sim, idle-closed, closed-world, shut}
 
 recover-no-get : (a : ℕ) → recover ≡ get a → ⊥
 recover-no-get a e = let z : _≡_ {A = ℕ} 0 1 = cc in omega arith

@@ -39,12 +39,12 @@ use Rattle.history.specs.Ledger.{Ledger, entered}
 use Rattle.history.specs.History.{World, begun, next, after, foundWritten}
 use Rattle.history.specs.Linked.{faceNext, faceAfter, Passable, AllPassable, BytesOf, Links, Linked}
 use Rattle.store.proofs.Causes.{needsOpen}
-use Rattle.history.proofs.CauseLaws.{record-facts, cause-passes}
-use Rattle.history.proofs.Relation.{OpenSim, ClosedSim, DownSim, Safe}
-use Rattle.history.proofs.Steps.{same-cause, dispatch-refused, plain-refused, plain-served}
-use Rattle.history.proofs.SimpleSteps.{is-open}
-use Rattle.history.proofs.ListInduction.{step, next-safe, begun-safe, formatted-now}
-use Rattle.history.proofs.PlainAnswers.{save-end, save-power, LocalKind, powers, opens, local-kind}
+use Rattle.history.proofs.Relation.CauseLaws.{record-facts, cause-passes}
+use Rattle.history.proofs.Relation.Sim.{OpenSim, ClosedSim, DownSim, Safe}
+use Rattle.history.proofs.Steps.Shown.{same-cause, dispatch-refused, plain-refused, plain-served}
+use Rattle.history.proofs.Steps.Local.{is-open}
+use Rattle.history.proofs.Steps.ListInduction.{step, next-safe, begun-safe, formatted-now}
+use Rattle.history.proofs.Relation.PlainAnswers.{save-end, save-power, LocalKind, powers, opens, local-kind}
 
 -- ---- the power only sinks, or is set
 

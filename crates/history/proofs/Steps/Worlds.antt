@@ -15,12 +15,12 @@ use Rattle.history.specs.Call.{Call, requestOf}
 use Rattle.history.specs.Plain.{Plain, none, refusal}
 use Rattle.history.specs.Ledger.{Ledger, nothing}
 use Rattle.history.specs.History.{World}
-use Rattle.history.proofs.Relation.{Basics, OpenSim, ClosedSim, Sim}
-use Rattle.history.proofs.CauseLaws.{record-facts, idle, cause-passes}
-use Rattle.history.proofs.Steps.{WorldSim, StepOK, same-cause, refused-step}
-use Rattle.history.proofs.SimpleSteps.{is-open}
-use Rattle.history.proofs.GivesStep.{openPlain}
-use Rattle.history.proofs.OpenFacts as Facts
+use Rattle.history.proofs.Relation.Sim.{Basics, OpenSim, ClosedSim, Sim}
+use Rattle.history.proofs.Relation.CauseLaws.{record-facts, idle, cause-passes}
+use Rattle.history.proofs.Steps.Shown.{WorldSim, StepOK, same-cause, refused-step}
+use Rattle.history.proofs.Steps.Local.{is-open}
+use Rattle.history.proofs.Steps.Gives.{openPlain}
+use Rattle.history.proofs.Relation.OpenFacts as Facts
 
 -- every header settled, the last one's list v
 abbrev pub settledLedger : List Entry → Ledger

@@ -28,19 +28,19 @@ use Rattle.history.specs.Dispatch.{dispatch}
 use Rattle.history.specs.Ledger.{waitsBehind, syncHeaders, noted, entered, applyHeader, ownHeader, standing, inner, resolved, sameLog}
 use Rattle.history.specs.History.{World, storeNext, ledgerNext}
 use Rattle.history.specs.Worked.{at40}
-use Rattle.history.proofs.Plans.{planned, takes}
-use Rattle.history.proofs.AppendEnds.{Appends, done-card}
-use Rattle.history.proofs.Relation.{OpenSim, cutSettled, cutWritten}
-use Rattle.history.proofs.Steps.{WorldSim}
-use Rattle.history.proofs.OpenFacts as Facts
-use Rattle.history.proofs.Notes.{note-at}
-use Rattle.history.proofs.GivesStep.{Gives, gives-settled, short-call, stopped}
-use Rattle.history.proofs.Worlds.{openWorld, Opened, opened}
-use Rattle.history.proofs.SyncMeets.{single, met-itself}
-use Rattle.history.proofs.SyncStep.{gives, short-whole}
-use Rattle.history.proofs.ShortSyncs.{open-now}
-use Rattle.history.proofs.WorkedCard.{second-zero, torn-found}
-use Rattle.history.proofs.WorkedPlain.{openAt}
+use Rattle.history.proofs.Steps.Plans.{planned, takes}
+use Rattle.history.proofs.Steps.AppendEnds.{Appends, done-card}
+use Rattle.history.proofs.Relation.Sim.{OpenSim, cutSettled, cutWritten}
+use Rattle.history.proofs.Steps.Shown.{WorldSim}
+use Rattle.history.proofs.Relation.OpenFacts as Facts
+use Rattle.history.proofs.Steps.Notes.{note-at}
+use Rattle.history.proofs.Steps.Gives.{Gives, gives-settled, short-call, stopped}
+use Rattle.history.proofs.Steps.Worlds.{openWorld, Opened, opened}
+use Rattle.history.proofs.Steps.SyncMeets.{single, met-itself}
+use Rattle.history.proofs.Steps.Sync.{gives, short-whole}
+use Rattle.history.proofs.Atomicity.ShortSyncs.{open-now}
+use Rattle.history.proofs.Worked.Card.{second-zero, torn-found}
+use Rattle.history.proofs.Worked.Plain.{openAt}
 
 base-at : {N : ℕ} {s : List ℕ} {n n′ h : ℕ} {G G′ v : List Entry} {S : Disk} → n ≡ n′ → G ≡ G′ → Appends trap N s n h G v S → Appends trap N s n′ h G′ v S
 base-at a b x = rw (← a, ← b) x

@@ -26,12 +26,12 @@ use Rattle.crash.proofs.Logs.{data-below}
 use Rattle.store.specs.State.{State, cardIn}
 use Rattle.history.specs.Plain.{Plain, applyVerdict, applyWaits, headerKept}
 use Rattle.history.specs.Ledger.{Ledger, PlannedHeader, noted, applyHeader, resolved}
-use Rattle.history.proofs.Plans.{Plan, planned, takes, settles, Fits, Throughout, for-one, length-settles}
-use Rattle.history.proofs.Lists.{Data}
-use Rattle.history.proofs.Relation.{Basics, OpenSim, cutWritten}
-use Rattle.history.proofs.PlainLaws.{waits-homes, waits-flushed, waits-header, apply-before, apply-at, kept-mark}
-use Rattle.history.proofs.Notes.{note-before, note-at}
-use Rattle.history.proofs.OpenFacts as Facts
+use Rattle.history.proofs.Steps.Plans.{Plan, planned, takes, settles, Fits, Throughout, for-one, length-settles}
+use Rattle.history.proofs.Relation.Lists.{Data}
+use Rattle.history.proofs.Relation.Sim.{Basics, OpenSim, cutWritten}
+use Rattle.history.proofs.Relation.PlainLaws.{waits-homes, waits-flushed, waits-header, apply-before, apply-at, kept-mark}
+use Rattle.history.proofs.Steps.Notes.{note-before, note-at}
+use Rattle.history.proofs.Relation.OpenFacts as Facts
 
 module _ (geo : Geometry) where
   module _ (st : State) (l : Ledger) (d : Plain) (b : Basics geo st d) (o : OpenSim geo st l d) where

@@ -39,15 +39,15 @@ use Rattle.history.specs.Statements as S
 use Rattle.history.specs.Statements.{noCut, EndsFinished, noneFinished, shortSync, Fate, quiet, decided, Progress, known, undecided, observe, fate, outcome}
 use Rattle.history.specs.Linked.{AllPassable}
 use Rattle.history.specs.Worked.{halted, sevens, nines, at40, filed, crashed, answers, Script, Worked}
-use Rattle.history.proofs.Relation.{cutSettled, cutWritten}
-use Rattle.history.proofs.Steps.{WorldSim}
-use Rattle.history.proofs.CutStep.{found-cut, exception-cut}
-use Rattle.history.proofs.ListInduction.{begun-sim}
-use Rattle.history.proofs.ReadsBack.{power-served, cut-accepted}
-use Rattle.history.proofs.Atomicity.{SplitReading, split-reading}
-use Rattle.history.proofs.WorkedSums.{other-sum}
-use Rattle.history.proofs.WorkedPlain.{openAt, downAt, closedAt, plain-put, plain-commit, plain-filed, plain-power, plain-halted, plain-torn, plain-whole, plain-again, plain-fallback, plain-found, Went, went}
-use Rattle.history.proofs.WorkedSync.{group-is, grouped-is, no-inner, filed-log, filed-next, halted-written, halted-torn, halted-whole}
+use Rattle.history.proofs.Relation.Sim.{cutSettled, cutWritten}
+use Rattle.history.proofs.Steps.Shown.{WorldSim}
+use Rattle.history.proofs.Steps.Cut.{found-cut, exception-cut}
+use Rattle.history.proofs.Steps.ListInduction.{begun-sim}
+use Rattle.history.proofs.Atomicity.ReadsBack.{power-served, cut-accepted}
+use Rattle.history.proofs.Atomicity.Splits.{SplitReading, split-reading}
+use Rattle.history.proofs.Worked.Sums.{other-sum}
+use Rattle.history.proofs.Worked.Plain.{openAt, downAt, closedAt, plain-put, plain-commit, plain-filed, plain-power, plain-halted, plain-torn, plain-whole, plain-again, plain-fallback, plain-found, Went, went}
+use Rattle.history.proofs.Worked.Sync.{group-is, grouped-is, no-inner, filed-log, filed-next, halted-written, halted-torn, halted-whole}
 
 -- what is known is one
 known-same : {e f : Fate} → known e ≡ known f → e ≡ f

@@ -20,7 +20,7 @@ use Rattle.history.specs.Call.{requestOf}
 use Rattle.history.specs.Dispatch.{called}
 use Rattle.history.specs.History.{World, begun, next}
 use Rattle.history.specs.Scripts.{Says, nothing, begins, asks, saysOf, says, lineOf, leftBy, ByCall, leftAfter, worldBy, told, ScriptsAreHistories}
-use Rattle.history.proofs.Forms.{SameSizes, called-sized}
+use Rattle.history.proofs.Relation.Forms.{SameSizes, called-sized}
 
 -- ---- a line
 

@@ -32,19 +32,19 @@ use Rattle.history.specs.History.{World, next, after, storeNext, ledgerN
 use Rattle.history.specs.Statements as S
 use Rattle.history.specs.Statements.{Fate, quiet, decided, Progress, known, undecided, observe, fate, outcome, WholeIsNew, shortSync, noneFinished, headed, atCut}
 use Rattle.store.proofs.Causes.{needsOpen}
-use Rattle.history.proofs.CauseLaws.{cause-passes}
-use Rattle.history.proofs.Relation.{Basics, OpenSim, ClosedSim, DownSim, cutSettled, cutWritten}
-use Rattle.history.proofs.PlainLaws
-use Rattle.history.proofs.PlainLaws.{innerTakes, countMet, apply-laid}
-use Rattle.history.proofs.Steps.{plainNext, WorldSim, same-cause, dispatch-refused, entered-refused, plain-refused, plain-served}
-use Rattle.history.proofs.SimpleSteps.{is-open}
-use Rattle.history.proofs.OpenFacts as Facts
-use Rattle.history.proofs.CutStep as CutStep
-use Rattle.history.proofs.RecoverStep.{is-closed}
-use Rattle.history.proofs.SyncStep.{short-whole}
-use Rattle.history.proofs.ListInduction.{step, next-sim, clean-first}
-use Rattle.history.proofs.PlainAnswers.{sync-cases, LocalKind, powers, opens, local-kind}
-use Rattle.history.proofs.ReadsBack.{power-served, cut-accepted}
+use Rattle.history.proofs.Relation.CauseLaws.{cause-passes}
+use Rattle.history.proofs.Relation.Sim.{Basics, OpenSim, ClosedSim, DownSim, cutSettled, cutWritten}
+use Rattle.history.proofs.Relation.PlainLaws
+use Rattle.history.proofs.Relation.PlainLaws.{innerTakes, countMet, apply-laid}
+use Rattle.history.proofs.Steps.Shown.{plainNext, WorldSim, same-cause, dispatch-refused, entered-refused, plain-refused, plain-served}
+use Rattle.history.proofs.Steps.Local.{is-open}
+use Rattle.history.proofs.Relation.OpenFacts as Facts
+use Rattle.history.proofs.Steps.Cut as CutStep
+use Rattle.history.proofs.Steps.Recover.{is-closed}
+use Rattle.history.proofs.Steps.Sync.{short-whole}
+use Rattle.history.proofs.Steps.ListInduction.{step, next-sim, clean-first}
+use Rattle.history.proofs.Relation.PlainAnswers.{sync-cases, LocalKind, powers, opens, local-kind}
+use Rattle.history.proofs.Atomicity.ReadsBack.{power-served, cut-accepted}
 
 -- ---- phases
 

@@ -35,7 +35,7 @@ use Rattle.store.specs.Commit.{Group, joinAt, join, joined}
 use Rattle.store.proofs.Lookups.{last-at}
 use Rattle.store.proofs.Places.{data-lt}
 use Rattle.history.specs.Plain.{has, insert, merge}
-use Rattle.history.proofs.Lists.{Data, Distinct, distinct-front, distinct-last, distinct-merge, find-has, has-merge, insert-joins, insert-replaces, length-insert, merge-snoc}
+use Rattle.history.proofs.Relation.Lists.{Data, Distinct, distinct-front, distinct-last, distinct-merge, find-has, has-merge, insert-joins, insert-replaces, length-insert, merge-snoc}
 
 -- ---- an entry set in work memory
 

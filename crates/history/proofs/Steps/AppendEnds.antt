@@ -29,8 +29,8 @@ use Rattle.crash.proofs.Logs.{slotE, logD, entries-disk}
 use Rattle.crash.proofs.Orders.{length-append-writes}
 use Rattle.history.specs.Plain.{ownVerdict}
 use Rattle.history.specs.Ledger.{sameLog}
-use Rattle.history.proofs.PlainLaws.{own-lost, own-new, own-other}
-use Rattle.history.proofs.Plans.{Fits}
+use Rattle.history.proofs.Relation.PlainLaws.{own-lost, own-new, own-other}
+use Rattle.history.proofs.Steps.Plans.{Fits}
 
 module _ (geo : Geometry) where
   -- the writes of an append are addressed below N

@@ -16,7 +16,7 @@ use Rattle.store.proofs.Causes.{needsOpen}
 use Rattle.journal.specs.Geometry.{Geometry}
 use Rattle.history.specs.Call.{Call, local, save, cut}
 use Rattle.history.specs.Plain.{Plain, Short, Done, done, cutShort, whenOpen, locally, saving, served, plainSync, plainCut, syncTakes}
-use Rattle.history.proofs.PlainLaws.{sync-nothing, sync-finished, sync-short, apply-nothing, apply-finished, apply-short, recover-whole, recover-fallback, recover-short}
+use Rattle.history.proofs.Relation.PlainLaws.{sync-nothing, sync-finished, sync-short, apply-nothing, apply-finished, apply-short, recover-whole, recover-fallback, recover-short}
 
 abbrev pub Either : ℕ → Type 0
 Either k = (k ≡ 0) ⊎ (k ≡ 4)

@@ -40,20 +40,20 @@ use Rattle.history.specs.Plain.{Plain, ofSync, refusal, plainStep, plain
 use Rattle.history.specs.Ledger.{Ledger, waits, syncHeaders, noted, entered, ownHeader, standing, inner, resolved, sameLog}
 use Rattle.history.specs.History.{World, ledgerNext, foundWritten}
 use Rattle.history.specs.Statements.{Logged}
-use Rattle.history.proofs.Plans.{Plan, planned, takes, settles, Fits, Asked, Throughout, takes-append, settles-append, throughout-append, throughout-all}
-use Rattle.history.proofs.AppendEnds.{writes-fit, short-before, short-top, whole-found, done-card, done-sum, done-logged}
-use Rattle.history.proofs.CauseLaws.{RecordFacts, record-facts, cause-passes}
-use Rattle.history.proofs.Relation.{OpenSim, cutWritten, cutSettled, leads-still, leads-laid}
-use Rattle.history.proofs.PlainLaws.{sync-takes, sync-waits-own, choose-sync-own, choose-sync-before, sync-nothing, sync-finished, sync-short, kept-mark}
-use Rattle.history.proofs.Steps.{WorldSim, StepOK, same-cause, refused-step, plain-served, noted-none}
-use Rattle.history.proofs.SimpleSteps.{is-open}
-use Rattle.history.proofs.Notes.{note-before, note-at, note-past, noted-end}
-use Rattle.history.proofs.CallEnds.{carried-done}
-use Rattle.history.proofs.GivesStep.{openPlain, Countable, none-listed, countable, open-listed, CutsAt, Gives, gives-step, gives-enough, gives-less, gives-settled, short-call, stopped}
-use Rattle.history.proofs.OpenFacts as Facts
-use Rattle.history.proofs.Worlds.{settledLedger, plainNow, openWorld, Opened, opened-sim, open-world, opened, open-step}
-use Rattle.history.proofs.ApplyStep.{nothing-step}
-use Rattle.history.proofs.SyncMeets.{Met, met}
+use Rattle.history.proofs.Steps.Plans.{Plan, planned, takes, settles, Fits, Asked, Throughout, takes-append, settles-append, throughout-append, throughout-all}
+use Rattle.history.proofs.Steps.AppendEnds.{writes-fit, short-before, short-top, whole-found, done-card, done-sum, done-logged}
+use Rattle.history.proofs.Relation.CauseLaws.{RecordFacts, record-facts, cause-passes}
+use Rattle.history.proofs.Relation.Sim.{OpenSim, cutWritten, cutSettled, leads-still, leads-laid}
+use Rattle.history.proofs.Relation.PlainLaws.{sync-takes, sync-waits-own, choose-sync-own, choose-sync-before, sync-nothing, sync-finished, sync-short, kept-mark}
+use Rattle.history.proofs.Steps.Shown.{WorldSim, StepOK, same-cause, refused-step, plain-served, noted-none}
+use Rattle.history.proofs.Steps.Local.{is-open}
+use Rattle.history.proofs.Steps.Notes.{note-before, note-at, note-past, noted-end}
+use Rattle.history.proofs.Steps.CallEnds.{carried-done}
+use Rattle.history.proofs.Steps.Gives.{openPlain, Countable, none-listed, countable, open-listed, CutsAt, Gives, gives-step, gives-enough, gives-less, gives-settled, short-call, stopped}
+use Rattle.history.proofs.Relation.OpenFacts as Facts
+use Rattle.history.proofs.Steps.Worlds.{settledLedger, plainNow, openWorld, Opened, opened-sim, open-world, opened, open-step}
+use Rattle.history.proofs.Steps.Apply.{nothing-step}
+use Rattle.history.proofs.Steps.SyncMeets.{Met, met}
 
 sync-no-get : (a : ℕ) → sync ≡ get a → ⊥
 sync-no-get a e = let z : _≡_ {A = ℕ} 0 1 = cc in omega arith

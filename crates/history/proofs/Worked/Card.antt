@@ -26,7 +26,7 @@ use Rattle.crash.proofs.Batches.{Left}
 use Rattle.crash.proofs.CallCuts.{left-leaves}
 use Rattle.crash.proofs.Leads.{foundIn, found-log}
 use Rattle.crash.proofs.Logs.{slotE}
-use Rattle.history.proofs.AppendEnds.{Appends, writes-whole}
+use Rattle.history.proofs.Steps.AppendEnds.{Appends, writes-whole}
 
 -- "a sync writes the slots from its new count on […] as zero"
 describe-beyond : (old : List ℕ) (n : ℕ) (es : List Entry) (i : ℕ) → 4 * n ≤ length old → n + length es ≤ i → 4 * i + 4 ≤ blockBytes

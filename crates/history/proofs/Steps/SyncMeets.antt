@@ -26,16 +26,16 @@ use Rattle.history.specs.Plain as Plain
 use Rattle.history.specs.Plain.{Plain, ofSync, syncTakes, syncWaits, applyWaits, applyVerdict, ownVerdict, verdict, headerKept, unchanged}
 use Rattle.history.specs.Ledger.{PlannedHeader, syncHeaders, noted, applyHeader, ownHeader, standing, inner}
 use Rattle.history.specs.History.{World}
-use Rattle.history.proofs.Plans.{Plan, planned, takes, settles, Fits, Throughout, planned-append, throughout-map}
-use Rattle.history.proofs.AppendEnds.{Appends}
-use Rattle.history.proofs.CauseLaws.{RecordFacts, record-facts}
-use Rattle.history.proofs.Relation.{leads-still}
-use Rattle.history.proofs.PlainLaws.{innerTakes, countMet, no-apply, do-apply, sync-waits-apply, choose-sync-apply, apply-laid}
-use Rattle.history.proofs.Notes.{note-past}
-use Rattle.history.proofs.GivesStep.{CutsAt}
-use Rattle.history.proofs.OpenFacts as Facts
-use Rattle.history.proofs.Worlds.{settledLedger, plainNow, openWorld, Opened}
-use Rattle.history.proofs.Checkpoints.{checkpoint, checkpoint-orders, checkpoint-takes, checkpoint-fits, CheckpointCuts, checkpoint-cuts, size-emptied, emptied-card}
+use Rattle.history.proofs.Steps.Plans.{Plan, planned, takes, settles, Fits, Throughout, planned-append, throughout-map}
+use Rattle.history.proofs.Steps.AppendEnds.{Appends}
+use Rattle.history.proofs.Relation.CauseLaws.{RecordFacts, record-facts}
+use Rattle.history.proofs.Relation.Sim.{leads-still}
+use Rattle.history.proofs.Relation.PlainLaws.{innerTakes, countMet, no-apply, do-apply, sync-waits-apply, choose-sync-apply, apply-laid}
+use Rattle.history.proofs.Steps.Notes.{note-past}
+use Rattle.history.proofs.Steps.Gives.{CutsAt}
+use Rattle.history.proofs.Relation.OpenFacts as Facts
+use Rattle.history.proofs.Steps.Worlds.{settledLedger, plainNow, openWorld, Opened}
+use Rattle.history.proofs.Steps.Checkpoints.{checkpoint, checkpoint-orders, checkpoint-takes, checkpoint-fits, CheckpointCuts, checkpoint-cuts, size-emptied, emptied-card}
 
 module _ (geo : Geometry) where
   module _ (st : State) (v : List Entry) (S : Disk) (x : Bool) where

@@ -1,0 +1,316 @@
+-- Crash atomicity, from the fate of the sync that was cut short.
+use Prim.Native.Nat.{ℕ, _+_, _≤_}
+use mathlib.Core.Path.{_≡_, refl, ap, ap₂, subst, sym, _∙_}
+use mathlib.Core.Logic.{_≢_, _⊎_}
+use mathlib.Core.Bool.{Bool, true, false, true≢false, cond, not}
+use mathlib.Core.List.{List, [], _∷_, _++_}
+use native.Mathlib.Omega.{arith}
+use native.Mathlib.Decide.{ℕ-discrete, decLe}
+use borrow.Author.Tests.{eq-eqb, ne-eqb, eqb-true, not-true}
+use Rattle.card.specs.Disk.{Disk, overlay}
+use Rattle.card.specs.Card.{blocksIn}
+use Rattle.card.proofs.Overlays.{overlay-nil}
+use Rattle.journal.specs.Geometry.{Geometry}
+use Rattle.journal.specs.Layout.{isData}
+use Rattle.journal.proofs.Choices.{both}
+use Rattle.store.specs.Local.{Local}
+use Rattle.store.specs.Save as Save
+use Rattle.store.specs.Save.{Save}
+use Rattle.store.specs.State.{State, Outcome, openMode}
+use Rattle.store.specs.Causes.{cause}
+use Rattle.store.specs.Format.{formatted, formatCall}
+use Rattle.history.specs.Call.{Call, requestOf, local, save, cut, power, get, sync, apply, recover}
+use Rattle.history.specs.Plain.{Plain, Done, fresh, refusal, plainStep, plainRecover, plainGet}
+use Rattle.history.specs.Dispatch.{dispatch, blockOf}
+use Rattle.history.specs.History.{World, begun, next, after, storeNext, ledgerNext, foundWritten}
+use Rattle.history.specs.Statements as S
+use Rattle.history.specs.Statements.{Fate, quiet, known, fate, outcome, WholeIsNew, shortSync, countShort, noneFinished, EndsFinished, CrashAtomicity}
+use Rattle.history.proofs.Relation.PlainLaws as PlainLaws
+use Rattle.history.proofs.Steps.Shown.{plainNext, WorldSim, same-cause, dispatch-refused, plain-refused, plain-served}
+use Rattle.history.proofs.Steps.Cut as CutStep
+use Rattle.history.proofs.Steps.ListInduction.{step, next-sim, after-sim, after-append, clean-before, clean-first, begun-sim, formatted-now}
+use Rattle.history.proofs.Relation.PlainAnswers.{sync-cases, LocalKind, powers, opens, local-kind, served-N}
+use Rattle.history.proofs.Atomicity.ReadsBack.{found-closed, plain-same, recovered-sim, recovered-mode, power-served}
+use Rattle.history.proofs.Atomicity.ShortSyncs.{Watch, short-is, not-short, open-serves, open-now, closed-watch, watch-list, short-plain}
+
+-- ---- N never changes
+
+module _ (geo : Geometry) where
+  step-N : (c : Call) (f : Bool) (d : Plain) → plainStep geo c f d .plain .N ≡ d .N
+  step-N c f d = go (ℕ-discrete (refusal geo c d) 0)
+    where
+      go : Dec (refusal geo c d ≡ 0) → plainStep geo c f d .plain .N ≡ d .N
+      go (yes h) = ap (λ (o : Done). o .plain .N) (plain-served geo c f d h) ∙ served-N geo c f d
+      go (no h) = ap (λ (o : Done). o .plain .N) (plain-refused geo c f d h)
+
+  after-N : (cs : List Call) (w : World) → after geo cs w .plain .N ≡ w .plain .N
+  unfolding after next
+  after-N [] w = refl
+  after-N (c ∷ cs) w = after-N cs (next geo c w) ∙ step-N c (foundWritten geo c w) (w .plain)
+
+  -- ---- after a finished sync or recovery the record is open
+
+  served-of : (c : Call) (w : World) → WorldSim geo w → dispatch geo c (w .store) .answer ≡ 0 → refusal geo c (w .plain) ≡ 0
+  served-of c w m h = go (ℕ-discrete (refusal geo c (w .plain)) 0)
+    where
+      go : Dec (refusal geo c (w .plain) ≡ 0) → refusal geo c (w .plain) ≡ 0
+      go (yes e) = e
+      go (no e) =
+          let k : cause geo (requestOf c) (w .store) ≢ 0 = λ q. e (sym (same-cause geo (w .store) (w .ledger) (w .plain) m c) ∙ q) in
+          absurd (k (sym (ap (λ (o : Outcome). o .answer) (dispatch-refused geo c (w .store) k)) ∙ h))
+
+  sync-opens : (w : World) → WorldSim geo w → dispatch geo sync (w .store) .answer ≡ 0 → storeNext geo sync w .rec .mode ≡ openMode
+  sync-opens w m h =
+      let r = served-of sync w m h in
+      let o = open-now geo sync w m refl r in
+      let P = plain-served geo sync (foundWritten geo sync w) (w .plain) r in
+      let d : w .plain .mode ≡ 1 = m .basics .mirrors .mode ∙ o .mode in
+      step geo sync w m .agrees .mode
+      ∙ ap (λ (x : Done). x .plain .mode) P
+      ∙ sync-cases geo (λ x. x .plain .mode ≡ 1) (w .plain)
+      (λ z. ap (λ (x : Done). x .plain .mode) (PlainLaws.sync-nothing geo (w .plain) z) ∙ d)
+      (λ z p. ap (λ (x : Done). x .plain .mode) (PlainLaws.sync-finished geo (w .plain) z p) ∙ d)
+      (λ z p. absurd (let k : _≡_ {A = ℕ} 4 0 = sym (ap (λ (x : Done). x .answer) (P ∙ PlainLaws.sync-short geo (w .plain) z p)) ∙ sym (step geo sync w m .agrees .answer) ∙ h in omega arith))
+
+  finished-opens : (c : Call) (w : World) → WorldSim geo w → S.finished geo c w ≡ true → storeNext geo c w .rec .mode ≡ openMode
+  unfolding S.finished
+  finished-opens (local c) w m h = absurd (mathlib.Core.Bool.false≢true h)
+  finished-opens (save Save.sync) w m h = sync-opens w m (eqb-true _ _ h)
+  finished-opens (save Save.apply) w m h = absurd (mathlib.Core.Bool.false≢true h)
+  finished-opens (save Save.recover) w m h = recovered-mode geo w m (eqb-true _ _ h)
+  finished-opens (cut ms) w m h = absurd (mathlib.Core.Bool.false≢true h)
+
+  begun-open : (st : State) → formatCall geo st .answer ≡ 0 → begun geo st .store .rec .mode ≡ openMode
+  unfolding begun formatted
+  begun-open st h = ap (λ (s : State). s .rec .mode) (formatted-now geo st h)
+
+  ends-open : (st : State) → formatCall geo st .answer ≡ 0 → (a : List Call) → EndsFinished geo a (begun geo st) → after geo a (begun geo st) .excepted ≡ false → after geo a (begun geo st) .store .rec .mode ≡ openMode
+  unfolding after next
+  ends-open st f a (_⊎_.inl e) x = ap (λ (l : List Call). after geo l (begun geo st) .store .rec .mode) e ∙ begun-open st f
+  ends-open st f a (_⊎_.inr e) x =
+      let b = e .0 in
+      let c = e .1 in
+      let same : after geo a (begun geo st) ≡ next geo c (after geo b (begun geo st)) = ap (λ (l : List Call). after geo l (begun geo st)) (e .2) ∙ after-append geo b (c ∷ []) (begun geo st) in
+      let clean : after geo b (begun geo st) .excepted ≡ false = clean-before geo (c ∷ []) (after geo b (begun geo st)) (ap (λ (w : World). w .excepted) (sym same) ∙ x) in
+      ap (λ (w : World). w .store .rec .mode) same ∙ finished-opens c (after geo b (begun geo st)) (after-sim geo b (begun geo st) (begun-sim geo st f) clean) (e .3)
+
+  -- ---- at most one sync is cut short
+
+  -- a record that is not open is opened by a finished recovery alone
+  shut-recover : (w : World) → WorldSim geo w → refusal geo recover (w .plain) ≡ 0 → S.finished geo recover w ≡ false → storeNext geo recover w .rec .mode ≢ openMode
+  unfolding S.finished
+  shut-recover w m h nf e = go (w .plain .F) refl (decLe 2 (w .plain .power))
+    where
+      P : plainStep geo recover (foundWritten geo recover w) (w .plain) ≡ plainRecover (w .plain)
+      P = plain-served geo recover (foundWritten geo recover w) (w .plain) h
+
+      not-zero : plainRecover (w .plain) .answer ≡ 0 → ⊥
+      not-zero q = true≢false (sym (eq-eqb _ 0 (step geo recover w m .agrees .answer ∙ ap (λ (d : Done). d .answer) P ∙ q)) ∙ nf)
+
+      go : (t : Bool) → w .plain .F ≡ t → Dec (2 ≤ w .plain .power) → ⊥
+      go false f q = not-zero (ap (λ (d : Done). d .answer) (PlainLaws.recover-whole (w .plain) f))
+      go true f (yes q) = not-zero (ap (λ (d : Done). d .answer) (PlainLaws.recover-fallback (w .plain) f q))
+      go true f (no q) =
+          let k : _≡_ {A = ℕ} 2 1 = sym (step geo recover w m .agrees .mode ∙ ap (λ (d : Done). d .plain .mode) (P ∙ PlainLaws.recover-short (w .plain) f (omega arith))) ∙ e in
+          omega arith
+
+  local-shut : (c : Local) (w : World) → LocalKind geo c → WorldSim geo w → w .store .rec .mode ≢ openMode → refusal geo (local c) (w .plain) ≡ 0 → storeNext geo (local c) w .rec .mode ≢ openMode
+  local-shut c w (powers k) m z h e = z (sym (ap (λ (o : Outcome). o .state .rec .mode) (power-served geo k w m)) ∙ e)
+  local-shut c w (opens _ n s) m z h e = z (open-now geo (local c) w m n h .mode)
+
+  served-shut : (c : Call) (w : World) → WorldSim geo w → w .store .rec .mode ≢ openMode → S.finished geo c w ≡ false → refusal geo c (w .plain) ≡ 0 → storeNext geo c w .rec .mode ≢ openMode
+  served-shut (local c) w m z nf h e = local-shut c w (local-kind geo c) m z h e
+  served-shut (save Save.sync) w m z nf h e = z (open-now geo sync w m refl h .mode)
+  served-shut (save Save.apply) w m z nf h e = z (open-now geo apply w m refl h .mode)
+  served-shut (save Save.recover) w m z nf h e = shut-recover w m h nf e
+  served-shut (cut ms) w m z nf h e = let k : _≡_ {A = ℕ} 0 1 = sym (ap (λ (s : State). s .rec .mode) (CutStep.store-cut geo ms w m h)) ∙ e in omega arith
+
+  stays-shut : (c : Call) (w : World) → WorldSim geo w → w .store .rec .mode ≢ openMode → S.finished geo c w ≡ false → storeNext geo c w .rec .mode ≢ openMode
+  stays-shut c w m z nf = go (ℕ-discrete (refusal geo c (w .plain)) 0)
+    where
+      go : Dec (refusal geo c (w .plain) ≡ 0) → storeNext geo c w .rec .mode ≢ openMode
+      go (yes h) = λ e. served-shut c w m z nf h e
+      go (no h) = λ e.
+          let k : cause geo (requestOf c) (w .store) ≢ 0 = λ q. h (sym (same-cause geo (w .store) (w .ledger) (w .plain) m c) ∙ q) in
+          z (sym (ap (λ (o : Outcome). o .state .rec .mode) (dispatch-refused geo c (w .store) k)) ∙ e)
+
+  shut-short : (c : Call) (w : World) → w .store .rec .mode ≢ openMode → shortSync geo c w ≡ false
+  shut-short c w z = not-short geo c w (λ e o. z o)
+
+  count-shut : (cs : List Call) (w : World) → WorldSim geo w → w .store .rec .mode ≢ openMode → noneFinished geo cs w ≡ true → after geo cs w .excepted ≡ false → countShort geo cs w ≡ 0
+  unfolding after next noneFinished countShort
+  count-shut [] w m z n e = refl
+  count-shut (c ∷ cs) w m z n e =
+      let p = both (not (S.finished geo c w)) (noneFinished geo cs (next geo c w)) n in
+      let r = count-shut cs (next geo c w) (next-sim geo c w m (clean-first geo c cs w e)) (stays-shut c w m z (not-true _ (p .0))) (p .1) e in
+      ap₂ (λ (t : Bool) (k : ℕ). cond t 1 0 + k) (shut-short c w z) r
+
+  -- a sync that is cut short leaves the record down
+  short-down : (c : Call) (w : World) → WorldSim geo w → S.finished geo c w ≡ false → shortSync geo c w ≡ true → storeNext geo c w .rec .mode ≢ openMode
+  short-down c w m nf h e =
+      let s = short-is geo c w h in
+      let r : refusal geo sync (w .plain) ≡ 0 = open-serves geo w m (s .mode) in
+      let f : S.finished geo sync w ≡ false = ap (λ (x : Call). S.finished geo x w) (sym (s .is)) ∙ nf in
+      let o : storeNext geo sync w .rec .mode ≡ openMode = ap (λ (x : Call). storeNext geo x w .rec .mode) (sym (s .is)) ∙ e in
+      let k : _≡_ {A = ℕ} 2 1 = sym (step geo sync w m .agrees .mode ∙ ap (λ (x : Done). x .plain .mode) (short-plain geo (w .plain .S) w m r f)) ∙ o in
+      omega arith
+
+  count-one : (cs : List Call) (w : World) → WorldSim geo w → noneFinished geo cs w ≡ true → after geo cs w .excepted ≡ false → countShort geo cs w ≤ 1
+  unfolding after next noneFinished countShort
+  count-one [] w m n e = omega arith
+  count-one (c ∷ cs) w m n e =
+      let p = both (not (S.finished geo c w)) (noneFinished geo cs (next geo c w)) n in
+      let m′ = next-sim geo c w m (clean-first geo c cs w e) in
+      go (shortSync geo c w) refl (count-one cs (next geo c w) m′ (p .1) e) (λ s. count-shut cs (next geo c w) m′ (short-down c w m (not-true _ (p .0)) s) (p .1) e)
+    where
+      go : (t : Bool) → shortSync geo c w ≡ t → countShort geo cs (next geo c w) ≤ 1 → (shortSync geo c w ≡ true → countShort geo cs (next geo c w) ≡ 0) → cond (shortSync geo c w) 1 0 + countShort geo cs (next geo c w) ≤ 1
+      go true q a b = let z = b q in rw q (omega arith)
+      go false q a b = rw q (omega arith)
+
+  -- ---- the disk found
+
+  module _ (w : World) (m : WorldSim geo w) (h : dispatch geo recover (w .store) .answer ≡ 0) where
+    -- right after the recovery
+    abbrev v : World
+    v = record { store = storeNext geo recover w; ledger = ledgerNext geo recover w; plain = plainNext geo recover w; excepted = false }
+
+    sim : WorldSim geo v
+    sim = recovered-sim geo w m h
+
+    r : refusal geo recover (w .plain) ≡ 0
+    r = served-of recover w m h
+
+    plain-is : plainNext geo recover w ≡ plainRecover (w .plain) .plain
+    plain-is = ap (λ (o : Done). o .plain) (plain-served geo recover (foundWritten geo recover w) (w .plain) r)
+
+    mode-is : plainNext geo recover w .mode ≡ 1
+    mode-is = sim .basics .mirrors .mode ∙ recovered-mode geo w m h
+
+    get-served : (N x : ℕ) → N ≡ w .plain .N → isData geo N x ≡ true → refusal geo (get x) (plainNext geo recover w) ≡ 0
+    unfolding refusal
+    get-served N x e q =
+        let k : plainNext geo recover w .N ≡ N = step-N recover (foundWritten geo recover w) (w .plain) ∙ sym e in
+        let t : isData geo (plainNext geo recover w .N) x ≡ true = ap (λ (y : ℕ). isData geo y x) k ∙ q in
+        rw (ne-eqb (plainNext geo recover w .mode) 0 (λ z. omega (arith, mode-is)), ne-eqb (plainNext geo recover w .mode) 2 (λ z. omega (arith, mode-is)), t)
+
+    lists-empty : (plainRecover (w .plain) .plain .T ≡ w .plain .T) × (plainRecover (w .plain) .plain .G ≡ w .plain .G)
+    lists-empty = go (w .plain .F) refl (decLe 2 (w .plain .power))
+      where
+        go : (t : Bool) → w .plain .F ≡ t → Dec (2 ≤ w .plain .power) → (plainRecover (w .plain) .plain .T ≡ w .plain .T) × (plainRecover (w .plain) .plain .G ≡ w .plain .G)
+        go false f q = (ap (λ (o : Done). o .plain .T) (PlainLaws.recover-whole (w .plain) f), ap (λ (o : Done). o .plain .G) (PlainLaws.recover-whole (w .plain) f))
+        go true f (yes q) = (ap (λ (o : Done). o .plain .T) (PlainLaws.recover-fallback (w .plain) f q), ap (λ (o : Done). o .plain .G) (PlainLaws.recover-fallback (w .plain) f q))
+        go true f (no q) = (ap (λ (o : Done). o .plain .T) (PlainLaws.recover-short (w .plain) f (omega arith)), ap (λ (o : Done). o .plain .G) (PlainLaws.recover-short (w .plain) f (omega arith)))
+
+    plain-get : (x : ℕ) → plainGet x (plainNext geo recover w) ≡ w .plain .S x
+    unfolding plainGet
+    plain-get x =
+        let c = found-closed geo w m h in
+        let T : plainNext geo recover w .T ≡ [] = ap (λ (d : Plain). d .T) plain-is ∙ lists-empty .0 ∙ c .T in
+        let G : plainNext geo recover w .G ≡ [] = ap (λ (d : Plain). d .G) plain-is ∙ lists-empty .1 ∙ c .G in
+        let S′ : plainNext geo recover w .S ≡ w .plain .S = ap (λ (d : Plain). d .S) plain-is ∙ plain-same geo w m h in
+        (λ i. overlay (T i) (overlay (G i) (S′ i)) x)
+        ∙ ap (λ (f : Disk). f x) (overlay-nil (overlay [] (w .plain .S)) ∙ overlay-nil (w .plain .S))
+
+    pub found-is : (N : ℕ) (d : Disk) → N ≡ w .plain .N → w .plain .S ≡ d → S.FoundIs geo N (storeNext geo recover w) d
+    found-is N d e s x q =
+        let a = step geo (get x) v sim .agrees in
+        let z : dispatch geo (get x) (storeNext geo recover w) .answer ≡ 0 =
+        a .answer ∙ ap (λ (o : Done). o .answer) (plain-served geo (get x) (foundWritten geo (get x) v) (plainNext geo recover w) (get-served N x e q)) in
+        (z, a .block x refl z ∙ plain-get x ∙ ap (λ (f : Disk). f x) s)
+
+  -- ---- a reading of the list: what is said of an a that ends in a finished sync or recovery, and a b that holds none
+
+  pub record SplitReading (st : State) (a b : List Call) : Type 0 where
+    pub one : countShort geo b (after geo a (begun geo st)) ≤ 1
+    pub end : Fate
+    pub fated : fate geo b (after geo a (begun geo st)) (known quiet) ≡ known end
+    pub found : S.FoundIs geo (blocksIn (st .settled)) (storeNext geo recover (after geo b (after geo a (begun geo st)))) (outcome end (after geo a (begun geo st) .plain .S))
+    pub whole : WholeIsNew end
+
+  pub split-reading : (st : State) → formatCall geo st .answer ≡ 0 → (a b : List Call) → EndsFinished geo a (begun geo st) → noneFinished geo b (after geo a (begun geo st)) ≡ true
+      → dispatch geo recover (after geo b (after geo a (begun geo st)) .store) .answer ≡ 0 → after geo b (after geo a (begun geo st)) .excepted ≡ false → SplitReading st a b
+  unfolding begun fresh
+  split-reading st f a b ends none h x =
+      let w = after geo a (begun geo st) in
+      let clean : after geo a (begun geo st) .excepted ≡ false = clean-before geo b (after geo a (begun geo st)) x in
+      let m : WorldSim geo (after geo a (begun geo st)) = after-sim geo a (begun geo st) (begun-sim geo st f) clean in
+      let m′ : WorldSim geo (after geo b (after geo a (begun geo st))) = after-sim geo b (after geo a (begun geo st)) m x in
+      let start : Watch geo (after geo a (begun geo st) .plain .S) (known quiet) (after geo a (begun geo st) .store) (after geo a (begun geo st) .ledger) (after geo a (begun geo st) .plain) =
+      _⊎_.inl (record { mode = ends-open st f a ends clean; S = refl }) in
+      let last = watch-list geo (after geo a (begun geo st) .plain .S) b (after geo a (begun geo st)) (known quiet) m none x start in
+      let o = closed-watch geo (after geo a (begun geo st) .plain .S) (fate geo b (after geo a (begun geo st)) (known quiet)) (after geo b (after geo a (begun geo st)) .store) (after geo b (after geo a (begun geo st)) .ledger) (after geo b (after geo a (begun geo st)) .plain) last
+      (found-closed geo (after geo b (after geo a (begun geo st))) m′ h .mode) in
+      record {
+        one = count-one b (after geo a (begun geo st)) m none x;
+        end = o .end;
+        fated = o .fated;
+        found = found-is (after geo b (after geo a (begun geo st))) m′ h (blocksIn (st .settled)) _ (sym (after-N b (after geo a (begun geo st)) ∙ after-N a (begun geo st))) (o .phase .S);
+        whole = o .phase .whole;
+      }
+
+  -- ---- every list has one
+
+  record Split (cs : List Call) (w : World) : Type 0 where
+    a : List Call
+    b : List Call
+    same : cs ≡ a ++ b
+    ends : EndsFinished geo a w
+    none : noneFinished geo b (after geo a w) ≡ true
+
+  -- one call more in front
+  split-cons : (c : Call) (cs : List Call) (w : World) → Split cs (next geo c w) → Split (c ∷ cs) w
+  unfolding after noneFinished
+  split-cons c cs w s = go (s .ends)
+    where
+      alone : (t : Bool) → S.finished geo c w ≡ t → s .a ≡ [] → Split (c ∷ cs) w
+      alone true p e = record {
+        a = c ∷ [];
+        b = s .b;
+        same = ap (λ (l : List Call). c ∷ l) (s .same ∙ ap (λ (l : List Call). l ++ s .b) e);
+        ends = _⊎_.inr ([], c, refl, p);
+        none = ap (λ (l : List Call). noneFinished geo (s .b) (after geo l (next geo c w))) (sym e) ∙ s .none;
+      }
+      alone false p e = record {
+        a = [];
+        b = c ∷ s .b;
+        same = ap (λ (l : List Call). c ∷ l) (s .same ∙ ap (λ (l : List Call). l ++ s .b) e);
+        ends = _⊎_.inl refl;
+        none = rw p (ap (λ (l : List Call). noneFinished geo (s .b) (after geo l (next geo c w))) (sym e) ∙ s .none);
+      }
+
+      go : EndsFinished geo (s .a) (next geo c w) → Split (c ∷ cs) w
+      go (_⊎_.inl e) = alone (S.finished geo c w) refl e
+      go (_⊎_.inr e) = record {
+        a = c ∷ s .a;
+        b = s .b;
+        same = ap (λ (l : List Call). c ∷ l) (s .same);
+        ends = _⊎_.inr (c ∷ e .0, e .1, ap (λ (l : List Call). c ∷ l) (e .2), e .3);
+        none = s .none;
+      }
+
+  split : (cs : List Call) (w : World) → Split cs w
+  unfolding after noneFinished
+  split [] w = record { a = []; b = []; same = refl; ends = _⊎_.inl refl; none = refl }
+  split (c ∷ cs) w = split-cons c cs w (split cs (next geo c w))
+
+  -- ---- the theorem
+
+  pub crash-atomicity : CrashAtomicity geo
+  crash-atomicity st f cs h x =
+      let s = split cs (begun geo st) in
+      let same : after geo cs (begun geo st) ≡ after geo (s .b) (after geo (s .a) (begun geo st)) = ap (λ (l : List Call). after geo l (begun geo st)) (s .same) ∙ after-append geo (s .a) (s .b) (begun geo st) in
+      let r = split-reading st f (s .a) (s .b) (s .ends) (s .none)
+      (ap (λ (w : World). dispatch geo recover (w .store) .answer) (sym same) ∙ h)
+      (ap (λ (w : World). w .excepted) (sym same) ∙ x) in
+      record {
+        a = s .a;
+        b = s .b;
+        split = s .same;
+        ends = s .ends;
+        none = s .none;
+        one = r .one;
+        end = r .end;
+        fated = r .fated;
+        found = λ y d. subst (λ (w : World). (dispatch geo (get y) (storeNext geo recover w) .answer ≡ 0) × (blockOf geo y (storeNext geo recover w) ≡ outcome (r .end) (after geo (s .a) (begun geo st) .plain .S) y)) (sym same) (r .found y d);
+        whole = r .whole;
+      }

@@ -1,0 +1,5 @@
+-- Refusals, and the same calls through C and through the script.
+pub mod Refusals
+pub mod FaceRefusals
+pub mod Links
+pub mod Scripts
