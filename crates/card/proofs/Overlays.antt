@@ -31,10 +31,6 @@ unfolding overlay
 overlay-append [] b d = refl
 overlay-append (e ∷ a) b d = overlay-append a b (lay e d)
 
--- the last entry wins
-pub overlay-last : (a : List Entry) (e : Entry) (d : Disk) → overlay (a ++ (e ∷ [])) d (e .address) ≡ e .block
-overlay-last a e d = ap (λ (f : Disk). f (e .address)) (overlay-append a (e ∷ []) d ∙ overlay-cons e [] (overlay a d) ∙ overlay-nil (lay e (overlay a d))) ∙ lay-same e (overlay a d) (e .address) refl
-
 -- an address that no entry has is left alone
 pub overlay-other : (es : List Entry) (d : Disk) (a : ℕ) → All (λ e. a ≢ e .address) es → overlay es d a ≡ d a
 unfolding overlay

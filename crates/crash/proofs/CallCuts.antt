@@ -23,7 +23,7 @@ use Rattle.crash.specs.Found.{sameLog}
 use Rattle.crash.proofs.Logs.{logD}
 use Rattle.crash.proofs.Cards.{WholeCard, FallCard, ClosedCard, Appended}
 use Rattle.crash.proofs.Batches.{Left}
-use Rattle.crash.proofs.Orders.{length-append-writes}
+use Rattle.crash.proofs.Appends.{length-append-writes}
 use Rattle.crash.proofs.Leads.{foundIn, Leads, closed-leads, still-leads, lost-leads, append-front, append-header-lost, append-new, append-old, append-all, append-whole, on-card, kept-top, homes-leads, homes-done, empty-card, fallen-card}
 
 leaves-at : {N M : ℕ} (ms : List ℕ) {q v : List Entry} {s t : List ℕ} (e : Disk) → N ≡ M → q ≡ v → s ≡ t → Leaves N ms q (blockAt s) e → Leaves M ms v (blockAt t) e

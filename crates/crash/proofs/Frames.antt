@@ -3,19 +3,20 @@ use Prim.Native.Nat.{ℕ, _+_, _*_, _≤_, _<_}
 use mathlib.Core.Path.{_≡_, sym, _∙_}
 use mathlib.Core.Logic.{_≢_, _⊎_}
 use mathlib.Core.Bool.{true}
-use mathlib.Core.List.{List}
+use mathlib.Core.List.{List, [], _++_}
 use native.Mathlib.Omega.{arith}
 use lib.ListN.{length, getD}
 use lib.Seq.{ext-getD}
 use Rattle.cells.specs.Cell.{cell}
 use Rattle.cells.specs.Cell.Laws.{length-cell, getD-cell}
 use Rattle.cells.specs.Entry.{blockBytes, Entry}
-use Rattle.card.specs.Disk.{Disk}
-use Rattle.card.proofs.All.{All, all-map}
+use Rattle.card.specs.Disk.{Disk, overlay}
+use Rattle.card.proofs.All.{All, all-append, all-map}
 use Rattle.card.proofs.Overlays.{overlay-agree, overlay-cover}
 use Rattle.card.proofs.Leaves.{Any, any-elim, Leaves}
 use Rattle.journal.specs.Geometry.{Geometry}
 use Rattle.journal.specs.Layout.{headerAt, descriptorAt, slotAt, firstData, isData}
+use Rattle.journal.specs.Log.{allData}
 use Rattle.journal.proofs.Logs.{allData-all}
 use Rattle.crash.proofs.Logs.{logD, LogStands, same-log, same-agree, data-above, data-below}
 use Rattle.crash.proofs.Cards.{WholeCard, whole-frame}
@@ -27,7 +28,7 @@ module _ (geo : Geometry) where
     pub above : (i : ℕ) → i < n → slotAt geo i ≢ e .address
 
   -- a write to a data block
-  pub data-aside : (n : ℕ) (d : Disk) (e : Entry) → n ≤ geo .slots → firstData geo ≤ e .address → Aside n d e
+  data-aside : (n : ℕ) (d : Disk) (e : Entry) → n ≤ geo .slots → firstData geo ≤ e .address → Aside n d e
   data-aside n d e few h = record { names = λ z j l. absurd (omega (arith, geo .single)); above = λ i l z. omega arith }
 
   module _ (N : ℕ) (ms : List ℕ) (q : List Entry) (n : ℕ) (d e : Disk) (big : firstData geo < N) (l : Leaves N ms q d e) where
@@ -58,27 +59,50 @@ module _ (geo : Geometry) where
     pub homes-left : (a : ℕ) → isData geo N a ≡ true → All (λ x. a ≢ x .address) q → e a ≡ d a
     homes-left a h o = l .untouched a (data-below geo N a h) o
 
-  -- a card on which neither header nor log nor a home block changes
-  pub whole-left : (N : ℕ) (ms : List ℕ) (q : List Entry) (d e : Disk) (w : List Entry) (S : Disk) (n : ℕ) → firstData geo < N → Leaves N ms q d e
-      → length (d descriptorAt) ≡ blockBytes → All (Aside n d) q → e headerAt ≡ d headerAt
-      → ((a : ℕ) → isData geo N a ≡ true → All (λ x. a ≢ x .address) q)
-      → WholeCard geo N d w S n → WholeCard geo N e w S n
-  whole-left N ms q d e w S n big l size a z o r =
-      whole-frame geo N d e w S n z (same-log geo n e d (log-left N ms q n d e big l (r .head .most) size a))
-      (λ x h. overlay-agree (logD geo d n) e d x (homes-left N ms q n d e big l x h (o x h))) r
+  -- ---- what stands of a disk d on e, behind writes q₀ that keep off header and log: header and log, and the disk under the log
+  -- wherever q₀ writes nothing
 
-  -- one on which home blocks change, but only those of the log
-  pub whole-covered : (N : ℕ) (ms : List ℕ) (q : List Entry) (d e : Disk) (w : List Entry) (S : Disk) (n : ℕ) → firstData geo < N → Leaves N ms q d e
-      → ((P : Entry → Type 0) → All P (logD geo d n) → All P q)
-      → WholeCard geo N d w S n → WholeCard geo N e w S n
-  whole-covered N ms q d e w S n big l sub r =
-      whole-frame geo N d e w S n (low headerAt (omega arith))
-      (same-log geo n e d (same-agree geo n e d (r .head .most) low))
-      (λ a h. overlay-cover (logD geo d n) e d a (λ k. l .untouched a (data-below geo N a h) (sub (λ x. a ≢ x .address) k))) r
-    where
-      low : (a : ℕ) → a < firstData geo → e a ≡ d a
-      low a h =
-          l .untouched a (omega arith)
-          (sub (λ x. a ≢ x .address)
-          (all-map (λ x. isData geo N (x .address) ≡ true) (λ x. a ≢ x .address) (λ x p k. let u = data-above geo N (x .address) p in omega arith) (logD geo d n)
-          (allData-all geo N (logD geo d n) (r .all))))
+  pub record Stands (N n : ℕ) (q₀ : List Entry) (d e : Disk) : Type 0 where
+    pub head : e headerAt ≡ d headerAt
+    pub log : LogStands geo n e d
+    pub homes : (a : ℕ) → isData geo N a ≡ true → All (λ x. a ≢ x .address) q₀ → overlay (logD geo d n) e a ≡ overlay (logD geo d n) d a
+
+  -- writes to data blocks keep off
+  abbrev pub KeepOff : List Entry → Type 0
+  KeepOff q₀ = All (λ x. firstData geo ≤ x .address) q₀
+
+  pub off-aside : (n : ℕ) (d : Disk) (q₀ : List Entry) → n ≤ geo .slots → KeepOff q₀ → All (Aside n d) q₀
+  off-aside n d q₀ few k = all-map (λ x. firstData geo ≤ x .address) (Aside n d) (λ x h. data-aside n d x few h) q₀ k
+
+  pub off-header : (q₀ : List Entry) → KeepOff q₀ → All (λ x. headerAt ≢ x .address) q₀
+  off-header q₀ k = all-map (λ x. firstData geo ≤ x .address) (λ x. headerAt ≢ x .address) (λ x h z. omega arith) q₀ k
+
+  module _ (N : ℕ) (ms : List ℕ) (q₀ q : List Entry) (n : ℕ) (d e : Disk) (big : firstData geo < N) (few : n ≤ geo .slots) (off : KeepOff q₀) (l : Leaves N ms (q₀ ++ q) d e) where
+    -- writes aside of the log and of all homes, and a header that is as it was
+    pub aside-stands : length (d descriptorAt) ≡ blockBytes → All (Aside n d) q → e headerAt ≡ d headerAt → ((a : ℕ) → isData geo N a ≡ true → All (λ x. a ≢ x .address) q) → Stands N n q₀ d e
+    aside-stands size a z o = record {
+      head = z;
+      log = log-left N ms (q₀ ++ q) n d e big l few size (all-append (Aside n d) q₀ q (off-aside n d q₀ few off) a);
+      homes = λ x h k. overlay-agree (logD geo d n) e d x (homes-left N ms (q₀ ++ q) n d e big l x h (all-append (λ y. x ≢ y .address) q₀ q k (o x h)));
+    }
+
+    -- writes to homes of the log alone
+    pub covered-stands : allData geo N (logD geo d n) ≡ true → ((P : Entry → Type 0) → All P (logD geo d n) → All P q) → Stands N n q₀ d e
+    covered-stands good sub = record {
+      head = low headerAt (omega arith);
+      log = same-agree geo n e d few low;
+      homes = λ a h k. overlay-cover (logD geo d n) e d a (λ m. l .untouched a (data-below geo N a h) (all-append (λ x. a ≢ x .address) q₀ q k (sub (λ x. a ≢ x .address) m)));
+    }
+      where
+        low : (a : ℕ) → a < firstData geo → e a ≡ d a
+        low a h =
+            l .untouched a (omega arith)
+            (all-append (λ x. a ≢ x .address) q₀ q
+            (all-map (λ x. firstData geo ≤ x .address) (λ x. a ≢ x .address) (λ x u k. omega arith) q₀ off)
+            (sub (λ x. a ≢ x .address)
+            (all-map (λ x. isData geo N (x .address) ≡ true) (λ x. a ≢ x .address) (λ x p k. let u = data-above geo N (x .address) p in omega arith) (logD geo d n)
+            (allData-all geo N (logD geo d n) good))))
+
+  -- with nothing else waiting the card is whole as before
+  pub whole-stands : (N : ℕ) (d e : Disk) (w : List Entry) (S : Disk) (n : ℕ) → Stands N n [] d e → WholeCard geo N d w S n → WholeCard geo N e w S n
+  whole-stands N d e w S n s r = whole-frame geo N d e w S n (s .head) (same-log geo n e d (s .log)) (λ a h. s .homes a h tt) r

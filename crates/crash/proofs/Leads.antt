@@ -6,6 +6,7 @@ use mathlib.Core.Bool.{Bool, true, false, true≢false, _&&_}
 use mathlib.Core.List.{List, [], _∷_, _++_}
 use native.Mathlib.Omega.{arith}
 use native.Mathlib.Decide.{ℕ-discrete}
+use native.Mathlib.Nat.{zero-add}
 use borrow.Author.Tests.{eq-eqb, eqb-true}
 use lib.Dec.{eqb}
 use lib.ListN.{length, take, length-append}
@@ -32,9 +33,8 @@ use Rattle.journal.proofs.OrderLists.{headerEntry, appendWrites}
 use Rattle.crash.specs.Found.{sameLog, collides}
 use Rattle.crash.proofs.Logs.{slotE, logD, entries-disk, data-above, data-below}
 use Rattle.crash.proofs.Cards.{HasHeader, WholeCard, FallCard, ClosedCard, SafeCard, closed-agree, append-head, append-found, append-bad, append-safe, append-sum, Appended, emptied, fallen}
-use Rattle.crash.proofs.Frames.{whole-covered}
-use Rattle.crash.proofs.Appends.{lost, header-lost, header-kept, found-written, length-front}
-use Rattle.crash.proofs.Orders.{length-append-writes}
+use Rattle.crash.proofs.Frames.{covered-stands, whole-stands}
+use Rattle.crash.proofs.Appends.{lost-stands, header-lost, header-kept, log-stands, homes-stand, found-written, length-front, length-append-writes}
 
 -- ---- equal logs
 
@@ -110,16 +110,26 @@ module _ (geo : Geometry) where
     module _ (t : List ℕ) (ms : List ℕ) where
       -- before its header
       pub append-front : (k : ℕ) → k ≤ length G + 1 → Leaves N ms (take k (appendWrites geo N s n h G)) (blockAt s) (blockAt t) → Leads N t w S n false
-      append-front k l v = closed-leads N t w S n false (lost geo N s n h G room long big block-long ms (blockAt t) w S k (rw (length-front geo N s n h G) l) v card)
+      append-front k l v = closed-leads N t w S n false (whole-stands geo N (blockAt s) (blockAt t) w S n (lost-stands geo N s n h G room long big block-long ms [] tt (blockAt t) k (rw (length-front geo N s n h G) l) v) card)
 
       module _ (v : Leaves N ms (appendWrites geo N s n h G) (blockAt s) (blockAt t)) where
+        -- the header's place, behind nothing
+        at-top : {b : Bool} → keptAt ms (length G + 1) ≡ b → keptAt ms (0 + (length G + 1)) ≡ b
+        at-top z = ap (keptAt ms) (zero-add (length G + 1)) ∙ z
+
         pub append-header-lost : keptAt ms (length G + 1) ≡ false → Leads N t w S n false
-        append-header-lost z = closed-leads N t w S n false (header-lost geo N s n h G room long big block-long ms (blockAt t) v w S z card)
+        append-header-lost z = closed-leads N t w S n false (whole-stands geo N (blockAt s) (blockAt t) w S n (header-lost geo N s n h G room long big block-long ms [] tt (blockAt t) v (at-top z)) card)
 
         -- the header is on the card: what is found decides
         module _ (kept : keptAt ms (length G + 1) ≡ true) where
           pub on-card : Appended geo N (blockAt s) (blockAt t) n h G
-          on-card = header-kept geo N s n h G room long big block-long ms (blockAt t) v kept sum
+          on-card = record {
+            head = header-kept geo N s n h G room long big block-long ms [] tt (blockAt t) v (at-top kept);
+            log = log-stands geo N s n h G room long big block-long ms [] tt (blockAt t) v;
+            homes = λ a l. homes-stand geo N s n h G room long big block-long ms [] tt (blockAt t) v a l tt;
+            sum = sum;
+            room = room;
+          }
 
           -- the count that the header gives
           pub found-log : foundIn t ≡ logD geo (blockAt t) (n + length G)
@@ -159,7 +169,7 @@ module _ (geo : Geometry) where
               all-kept-at ms (length G + 1) (omega arith) all
 
           found : logD geo (blockAt t) (n + length G) ≡ logD geo (blockAt s) n ++ G
-          found = found-written geo N s n h G room long low big block-long ms (blockAt t) v all
+          found = found-written geo N s n h G room long low big block-long ms [] tt (blockAt t) v all
 
           pub append-all : allData geo N G ≡ true → WholeCard geo N (blockAt t) (logD geo (blockAt s) n ++ G) (overlay G S) (n + length G)
           append-all m = append-found geo N (blockAt s) (blockAt t) w S n h G card (on-card kept-top) m found
@@ -175,13 +185,13 @@ module _ (geo : Geometry) where
     pub homes-leads : (k : ℕ) → Leaves N ms (take k (logD geo (blockAt s) n)) (blockAt s) (blockAt t) → Leads N t w S n false
     homes-leads k v =
         closed-leads N t w S n false
-        (whole-covered geo N ms (take k (logD geo (blockAt s) n)) (blockAt s) (blockAt t) w S n big v (λ P h. all-take P k (logD geo (blockAt s) n) h) card)
+        (whole-stands geo N (blockAt s) (blockAt t) w S n (covered-stands geo N ms [] (take k (logD geo (blockAt s) n)) n (blockAt s) (blockAt t) big (card .head .most) tt v (card .all) (λ P h. all-take P k (logD geo (blockAt s) n) h)) card)
 
     -- all of them kept: the log stands, and the home blocks are S
     pub homes-done : Leaves N ms (logD geo (blockAt s) n) (blockAt s) (blockAt t) → allKept ms ≡ true
         → WholeCard geo N (blockAt t) w S n × ((a : ℕ) → isData geo N a ≡ true → S a ≡ blockAt t a)
     homes-done v all = (
-      whole-covered geo N ms (logD geo (blockAt s) n) (blockAt s) (blockAt t) w S n big v (λ P h. h) card,
+      whole-stands geo N (blockAt s) (blockAt t) w S n (covered-stands geo N ms [] (logD geo (blockAt s) n) n (blockAt s) (blockAt t) big (card .head .most) tt v (card .all) (λ P h. h)) card,
       λ x q. card .disk x q ∙ sym (v .whole all x (data-below geo N x q)),
     )
 

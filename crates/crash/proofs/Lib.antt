@@ -3,7 +3,6 @@ pub mod Logs
 pub mod Cards
 pub mod Frames
 pub mod Batches
-pub mod Orders
 pub mod Appends
 pub mod Leads
 pub mod CallCuts

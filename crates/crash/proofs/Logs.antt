@@ -48,9 +48,6 @@ module _ (geo : Geometry) where
   unfolding slotE
   same-log n d e h = ext-upTo (slotE d) (slotE e) n (λ i l. entry-eq (ap num (h .addresses i l)) (h .blocks i l))
 
-  pub same-refl : (n : ℕ) (d : Disk) → LogStands n d d
-  same-refl n d = record { addresses = λ i h. refl; blocks = λ i h. refl }
-
   pub same-agree : (n : ℕ) (d e : Disk) → n ≤ geo .slots → ((a : ℕ) → a < firstData geo → d a ≡ e a) → LogStands n d e
   same-agree n d e m h = record {
     addresses = λ i l. ap (λ (b : List ℕ). cell 4 b i) (h descriptorAt (omega (arith, geo .single)));

@@ -31,7 +31,7 @@ use Rattle.journal.proofs.Choices.{both}
 use Rattle.journal.proofs.Headers.{length-encode}
 use Rattle.journal.proofs.OrderLists.{headerEntry, appendWrites, append-writes, checkpoint-writes, fallback-writes, length-fallback}
 use Rattle.crash.proofs.Batches.{batch, Fit, batch-short, batch-done}
-use Rattle.crash.proofs.Orders.{append-fit}
+use Rattle.crash.proofs.Appends.{append-fit}
 use Rattle.store.specs.declared.record.Record.{Record}
 use Rattle.store.specs.State.{State, Outcome, down, withMode, withLog, withRecord, cardIn, withCard}
 use Rattle.store.specs.Lists.{groupFrom, listed}

@@ -26,7 +26,7 @@ use Rattle.crash.proofs.CallCuts.{append-cuts, append-cuts-lost, append-cuts-ne
 use Rattle.crash.proofs.Cards.{WholeCard, append-head}
 use Rattle.crash.proofs.Leads.{Leads, foundIn}
 use Rattle.crash.proofs.Logs.{slotE, logD, entries-disk}
-use Rattle.crash.proofs.Orders.{length-append-writes}
+use Rattle.crash.proofs.Appends.{length-append-writes}
 use Rattle.history.specs.Plain.{ownVerdict}
 use Rattle.history.specs.Ledger.{sameLog}
 use Rattle.history.proofs.Relation.PlainLaws.{own-lost, own-new, own-other}

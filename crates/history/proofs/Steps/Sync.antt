@@ -28,7 +28,7 @@ use Rattle.crash.proofs.Batches.{Left}
 use Rattle.crash.proofs.Cards.{WholeCard}
 use Rattle.crash.proofs.Leads.{foundIn}
 use Rattle.crash.proofs.Logs.{logD}
-use Rattle.crash.proofs.Orders.{length-append-writes}
+use Rattle.crash.proofs.Appends.{length-append-writes}
 use Rattle.store.specs.Request as Request
 use Rattle.store.specs.declared.record.Record.{Record}
 use Rattle.store.specs.State.{State, Outcome, withGrouped, withLog, cardIn}

@@ -19,7 +19,7 @@ use Rattle.journal.proofs.OrderLists.{appendWrites}
 use Rattle.crash.proofs.Batches.{Left}
 use Rattle.crash.proofs.Leads.{foundIn}
 use Rattle.crash.proofs.Logs.{slotE, logD}
-use Rattle.crash.proofs.Orders.{length-append-writes}
+use Rattle.crash.proofs.Appends.{length-append-writes}
 use Rattle.store.specs.State.{Outcome, down, withMode, withRecord, withCard, cardIn}
 use Rattle.store.specs.Saves.{groupOf, applies}
 use Rattle.history.specs.Call.{sync}
