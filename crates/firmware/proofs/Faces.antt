@@ -1,19 +1,21 @@
 -- The laws of the calls as C sees them.
 use Prim.Native.Nat.{ℕ}
-use mathlib.Core.Path.{_≡_, refl, ap, _∙_}
+use mathlib.Core.Path.{_≡_, refl, ap, sym, _∙_}
 use mathlib.Core.Bool.{Bool, true, false, cond}
 use mathlib.Core.Logic.{_≢_}
 use mathlib.Core.List.{List}
 use mir.Val.{boolByte}
-use borrow.Author.Tests.{eq-eqb, ne-eqb}
+use borrow.Author.Tests.{eq-eqb, ne-eqb, eqb-true}
+use lib.Dec.{eqb}
 use lib.ListN.{length}
 use Rattle.store.specs.declared.place.Place.{Place}
+use Rattle.store.specs.declared.place.Place.the-variants.{Nowhere}
 use Rattle.store.specs.declared.record.Record.{Record}
 use Rattle.store.specs.State.{State, Outcome}
 use Rattle.store.specs.CodeState.{stateOf, outcomeOf}
 use Rattle.store.specs.Request.{get}
 use Rattle.store.specs.Causes.{cause}
-use Rattle.store.specs.Get.{getPlace}
+use Rattle.store.specs.Get.{newest, getPlace}
 use Rattle.inspect.specs.declared.answer.Alike.{Alike}
 use Rattle.inspect.specs.Alike.{alikeOf}
 use Rattle.firmware.specs.Face.{recordBytes, encodeRecord, decodeRecord, faceOf, handed, faced, bufferNumber, bufferOffset, gotOf, gotIn, got, comparedOf, compared}
@@ -62,6 +64,27 @@ got-done a r s w k n b o d p h e f g i m =
     ∙ ap (λ (x : Place). gotOf (cause (get a) (stateOf d s w k)) (bufferNumber x) (bufferOffset x)) f
     ∙ ap (λ (x : Record). gotIn a (stateOf x s w k)) e
     ∙ got-place a r s w k h
+
+-- a place that is named is that of a get that is not refused
+pub named-done : (a : ℕ) (st : State) → bufferNumber (getPlace a st) ≢ 0 → 0 ≡ cause (get a) st
+unfolding getPlace
+named-done a st h = go (eqb (cause (get a) st) 0) refl h
+  where
+    go : (t : Bool) → eqb (cause (get a) st) 0 ≡ t → bufferNumber (cond t (newest a st) Nowhere) ≢ 0 → 0 ≡ cause (get a) st
+    go true e n = sym (eqb-true _ _ e)
+    go false e n = absurd (n refl)
+
+pub got-named : (a : ℕ) (r s w k : List ℕ) (b o : ℕ) (d : Record) (p : Place)
+    → length r ≡ recordBytes
+    → d ≡ decodeRecord r
+    → p ≡ getPlace a (stateOf d s w k)
+    → b ≡ bufferNumber p
+    → o ≡ bufferOffset p
+    → b ≢ 0
+    → gotOf 0 b o ≡ got a r s w k
+got-named a r s w k b o d p h e f g i n =
+    let named : bufferNumber (getPlace a (stateOf d s w k)) ≢ 0 = λ z. n (g ∙ ap bufferNumber f ∙ z) in
+    got-done a r s w k 0 b o d p h e f g i (named-done a (stateOf d s w k) named)
 
 -- and alike: a yes is 1
 pub compared-done : (a b : List ℕ) (r : Alike) → r ≡ alikeOf a b → comparedOf (r .number) (boolByte (r .yes)) ≡ compared a b
