@@ -1,6 +1,6 @@
--- The laws of comparing: data blocks from the last one down; and what a yes means.
+-- The laws of comparing: data blocks, one after the other; and what a yes means.
 use Prim.Native.Nat.{ℕ, zero, suc, _+_, _-_, _≤_, _<_}
-use mathlib.Core.Path.{_≡_, refl, sym, _∙_}
+use mathlib.Core.Path.{_≡_, refl, ap, sym, _∙_}
 use mathlib.Core.Bool.{Bool, true, false, cond, _&&_, and-true, and-false}
 use mathlib.Core.Logic.{_≢_, _↔_}
 use mathlib.Core.List.{List}
@@ -19,25 +19,37 @@ use Rattle.inspect.specs.Reading.{inspection, laid, laidOver, dataBlocks
 use Rattle.inspect.specs.Alike.{sameData, refusal, alikeOf, Same}
 use Rattle.inspect.proofs.Readings.{TakenList}
 
--- ---- data blocks, those below a left
+-- ---- data blocks, those below a found equal
 
-module _ (c d : Disk) (a : ℕ) where
-  last : firstData < a → sameData c d (dataBlocks a) ≡ sameData c d (dataBlocks (a - 1)) && same (c (a - 1)) (d (a - 1))
-  unfolding sameData
-  last h =
-      let less : dataBlocks a ≡ suc (dataBlocks (a - 1)) = omega arith in
-      let here : firstData + dataBlocks (a - 1) ≡ a - 1 = omega arith in
-      rw (less, here)
+pub data-none : (c d : Disk) → sameData c d (dataBlocks firstData) ≡ true
+unfolding sameData
+data-none c d = refl
 
-  pub data-stop : firstData < a → same (c (a - 1)) (d (a - 1)) ≡ false → sameData c d (dataBlocks a) ≡ false
-  data-stop h e = last h ∙ rw (e, and-false)
+-- one more
+pub data-next : (c d : Disk) (a : ℕ) → firstData ≤ a → sameData c d (dataBlocks a) ≡ true → same (c a) (d a) ≡ true
+    → sameData c d (dataBlocks (a + 1)) ≡ true
+unfolding sameData
+data-next c d a h before e =
+    let more : dataBlocks (a + 1) ≡ suc (dataBlocks a) = omega arith in
+    let here : firstData + dataBlocks a ≡ a = omega arith in
+    rw (more, here, before, e)
 
-  pub data-on : firstData < a → same (c (a - 1)) (d (a - 1)) ≡ true → sameData c d (dataBlocks a) ≡ sameData c d (dataBlocks (a - 1))
-  data-on h e = last h ∙ rw (e, and-true)
+-- one that is unlike decides
+unlike : (c d : Disk) (k i : ℕ) → i < k → same (c (firstData + i)) (d (firstData + i)) ≡ false → false ≡ sameData c d k
+unfolding sameData
+unlike c d zero i h e = absurd (omega arith)
+unlike c d (suc k) i h e = go (ℕ-discrete i k) (λ q. unlike c d k i q e)
+  where
+    go : Dec (i ≡ k) → (i < k → false ≡ sameData c d k) → false ≡ sameData c d k && same (c (firstData + k)) (d (firstData + k))
+    go (yes p) below =
+        sym (and-false (sameData c d k))
+        ∙ ap (λ (b : Bool). sameData c d k && b) (sym e ∙ ap (λ (x : ℕ). same (c (firstData + x)) (d (firstData + x))) p)
+    go (no p) below = ap (λ (b : Bool). b && same (c (firstData + k)) (d (firstData + k))) (below (omega arith))
 
-  pub data-over : a ≤ firstData → sameData c d (dataBlocks a) ≡ true
-  unfolding sameData
-  data-over h = let none : dataBlocks a ≡ 0 = omega arith in rw none
+pub data-unlike : (c d : Disk) (a N : ℕ) → firstData ≤ a → a < N → same (c a) (d a) ≡ false → false ≡ sameData c d (dataBlocks N)
+data-unlike c d a N h l e =
+    let here : firstData + dataBlocks a ≡ a = omega arith in
+    unlike c d (dataBlocks N) (dataBlocks a) (omega arith) (rw here e)
 
 -- ---- what the tests mean
 

@@ -20,12 +20,12 @@ fn same_data(a: &[u8], n: u32, b: &[u8], m: u32, blocks: u32) -> bool
     requires { ⌜ m ≤ slots ⌝ }
     ensures { λ r. ⌜ r ≡ sameData (laid (now (a .entry)) n) (laid (now (b .entry)) m) (dataBlocks blocks) ⌝ }
 {
-    let mut i = blocks;
-    while FIRST_DATA < i {
-        i -= 1;
+    let mut i = FIRST_DATA;
+    while i < blocks {
         if !same(laid_block(a, i, n), laid_block(b, i, m)) {
             return false;
         }
+        i += 1;
     }
     true
 }

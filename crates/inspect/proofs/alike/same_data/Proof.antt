@@ -1,6 +1,7 @@
--- `inspect::alike::same_data` meets its contract. The invariant: the data blocks below i are equal exactly if all are.
+-- `inspect::alike::same_data` meets its contract. The invariant: the data blocks below i are equal.
 use Prim.Native.Nat.{_-_, _≤_}
-use mathlib.Core.Path.{_≡_, refl, ap₂, sym, _∙_}
+use mathlib.Core.Path.{_≡_, ap₂, sym, _∙_}
+use mathlib.Core.Bool.{true}
 use native.Mathlib.Omega.{arith}
 use borrow.Author.Needs.{needs}
 use borrow.Author.Tests.{not-true, not-false}
@@ -8,27 +9,25 @@ use Rattle.cells.specs.Same.{same}
 use Rattle.journal.specs.Layout.{firstData}
 use Rattle.inspect.specs.Reading.{dataBlocks, laid}
 use Rattle.inspect.specs.Alike.{sameData}
-use Rattle.inspect.proofs.Comparisons.{data-stop, data-on, data-over}
+use Rattle.inspect.proofs.Comparisons.{data-none, data-next, data-unlike}
 use Rattle.inspect.proofs.alike.same_data.Statement.{statement}
 use Rattle.inspect.proofs.alike.same_data.Tie as tie
 
 abbrev Inv-loop : tie.InvT-loop
-Inv-loop a n b m blocks i₀ i =
-    (firstData ≤ i) × (i ≤ blocks) × (sameData (laid a n) (laid b m) (dataBlocks i) ≡ sameData (laid a n) (laid b m) (dataBlocks blocks))
+Inv-loop a n b m blocks i₀ i = (firstData ≤ i) × (i ≤ blocks) × (sameData (laid a n) (laid b m) (dataBlocks i) ≡ true)
 
 abbrev μ-loop : tie.MeasureT-loop
-μ-loop a n b m blocks i₀ i = i
+μ-loop a n b m blocks i₀ i = blocks - i
 
 -- the two blocks that were compared
 compared : (c : tie.After-same Inv-loop μ-loop) → let l = c .before .before .before .before in let g = l .before .before .before .args in
-    c .same .result ≡ same (laid (g .a .now) (g .n) (l .loop .i - 1)) (laid (g .b .now) (g .m) (l .loop .i - 1))
+    c .same .result ≡ same (laid (g .a .now) (g .n) (l .loop .i)) (laid (g .b .now) (g .m) (l .loop .i))
 compared c = c .same .ensures ∙ ap₂ same (c .before .before .laid-block .ensures .0) (c .before .laid-block2 .ensures .0)
 
 loop-holds : tie.Need-loop-holds Inv-loop μ-loop
-loop-holds c = (omega arith, omega arith, refl)
-
-sub-i : tie.Need-sub-i Inv-loop μ-loop
-sub-i c = omega arith
+loop-holds c =
+    let g = c .before .before .args in
+    (omega arith, omega arith, data-none (laid (g .a .now) (g .n)) (laid (g .b .now) (g .m)))
 
 laid-block-requires : tie.Need-laid-block-requires Inv-loop μ-loop
 laid-block-requires c κs = omega arith
@@ -44,7 +43,10 @@ returns c =
     let l = c .before .before .before .before .before in
     let g = l .before .before .before .args in
     let unlike = sym (compared (c .before)) ∙ not-true _ (c .if1 .taken) in
-    sym (data-stop (laid (g .a .now) (g .n)) (laid (g .b .now) (g .m)) (l .loop .i) (omega arith) unlike) ∙ l .loop .inv .2
+    data-unlike (laid (g .a .now) (g .n)) (laid (g .b .now) (g .m)) (l .loop .i) (g .blocks) (omega arith) (omega arith) unlike
+
+add-i : tie.Need-add-i Inv-loop μ-loop
+add-i c = omega arith
 
 loop-less : tie.Need-loop-less Inv-loop μ-loop
 loop-less c = omega arith
@@ -54,13 +56,14 @@ loop-again c =
     let l = c .before .before .before .before .before in
     let g = l .before .before .before .args in
     let like = sym (compared (c .before)) ∙ not-false _ (c .if1 .left) in
-    (omega arith, omega arith, sym (data-on (laid (g .a .now) (g .n)) (laid (g .b .now) (g .m)) (l .loop .i) (omega arith) like) ∙ l .loop .inv .2)
+    (omega arith, omega arith, data-next (laid (g .a .now) (g .n)) (laid (g .b .now) (g .m)) (l .loop .i) (omega arith) (l .loop .inv .2) like)
 
 returns-2 : tie.Need-returns-2 Inv-loop μ-loop
 returns-2 c =
     let l = c .before in
     let g = l .before .before .before .args in
-    sym (data-over (laid (g .a .now) (g .n)) (laid (g .b .now) (g .m)) (l .loop .i) (omega arith)) ∙ l .loop .inv .2
+    let over : l .loop .i ≡ g .blocks = omega arith in
+    sym (rw over at (l .loop .inv .2))
 
 pub same-data-spec : {M : Type 1} → statement M
 same-data-spec =
@@ -69,11 +72,11 @@ same-data-spec =
     Inv-loop
     μ-loop
     loop-holds
-    sub-i
     laid-block-requires
     laid-block-requires-2
     same-requires
     returns
+    add-i
     loop-less
     loop-again
     returns-2)
