@@ -1,11 +1,10 @@
 // Whole slices: the copier, the zero-fill and the comparison.
 use crate::number::read_u64;
 ghost use mathlib.Core.Path.{_≡_};
-ghost use mathlib.Core.Bool.{false, cond};
-ghost use Prim.Native.Nat.{_+_, _≤_};
+ghost use mathlib.Core.Bool.{_&&_};
+ghost use lib.Dec.{eqb};
 ghost use lib.ListN.{length, replicate};
 ghost use Rattle.cells.specs.Same as Same;
-ghost use Rattle.cells.specs.Same.{sameFrom};
 
 // Copies src over dst, which is as long.
 pub fn copy(dst: &mut [u8], src: &[u8])
@@ -30,46 +29,28 @@ pub fn zero(s: &mut [u8])
     }
 }
 
-// Whether the 8 bytes at `at` are the same: if so, what is left behind them decides.
-fn same_word(a: &[u8], b: &[u8], at: usize) -> bool
-    requires { ⌜ at + 8 ≤ length (now a) ⌝ }
-    requires { ⌜ at + 8 ≤ length (now b) ⌝ }
-    ensures { λ r. ⌜ cond r (sameFrom (now (a .entry)) (now (b .entry)) (at + 8)) false ≡ sameFrom (now (a .entry)) (now (b .entry)) at ⌝ }
+// What was seen of two runs of words, with one more of each: 0 as long as they are the same.
+fn differing(seen: u64, x: u64, y: u64) -> u64
+    ensures { λ r. ⌜ eqb r 0 ≡ eqb seen 0 && eqb x y ⌝ }
 {
-    read_u64(a, at) == read_u64(b, at)
+    seen | (x ^ y)
 }
 
-// Whether the 32 bytes at `at` are the same. Four tests in a row compile to a comparison of vectors.
-fn same_run(a: &[u8], b: &[u8], at: usize) -> bool
-    requires { ⌜ at + 32 ≤ length (now a) ⌝ }
-    requires { ⌜ at + 32 ≤ length (now b) ⌝ }
-    ensures { λ r. ⌜ cond r (sameFrom (now (a .entry)) (now (b .entry)) (at + 32)) false ≡ sameFrom (now (a .entry)) (now (b .entry)) at ⌝ }
-{
-    if !same_word(a, b, at) {
-        return false;
-    }
-    if !same_word(a, b, at + 8) {
-        return false;
-    }
-    if !same_word(a, b, at + 16) {
-        return false;
-    }
-    same_word(a, b, at + 24)
-}
-
-// Whether a and b are the same bytes.
+// Whether a and b are the same bytes. Words are looked at to the last, so that their loop compiles to one over vectors.
 pub fn same(a: &[u8], b: &[u8]) -> bool
     ensures { λ r. ⌜ r ≡ Same.same (now (a .entry)) (now (b .entry)) ⌝ }
 {
     if a.len() != b.len() {
         return false;
     }
+    let mut seen: u64 = 0;
     let mut i = 0;
-    while 32 <= a.len() - i {
-        if !same_run(a, b, i) {
-            return false;
-        }
-        i += 32;
+    while 8 <= a.len() - i {
+        seen = differing(seen, read_u64(a, i), read_u64(b, i));
+        i += 8;
+    }
+    if seen != 0 {
+        return false;
     }
     while i < a.len() {
         if a[i] != b[i] {

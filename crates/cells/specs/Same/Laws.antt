@@ -1,7 +1,7 @@
 -- The laws of equal bytes: a loop meets one byte at a time, the one in front of what is left; and what a yes means.
 use Prim.Native.Nat.{ℕ, zero, suc, _+_, _*_, _≤_, _<_}
-use mathlib.Core.Path.{_≡_, refl, ap, ap₂, sym, _∙_}
-use mathlib.Core.Bool.{Bool, true, false, cond, not, _&&_, and-false, and-eq-true-iff, false≢true}
+use mathlib.Core.Path.{_≡_, refl, ap, ap₂, _∙_}
+use mathlib.Core.Bool.{Bool, true, false, cond, _&&_, and-false, and-eq-true-iff, false≢true}
 use mathlib.Core.Logic.{_≢_}
 use mathlib.Core.List.{List, [], _∷_}
 use native.Mathlib.Omega.{arith}
@@ -69,14 +69,22 @@ same-number-at k s t at h l p q =
     rw (← drop-drop k at s, ← drop-drop k at t)
     (same-number k (drop at s) (drop at t) (rw (length-drop) (omega arith)) (rw (length-drop) (omega arith)) (λ i. rw (getD-drop at s i 0) (p (at + i))) (λ i. rw (getD-drop at t i 0) (q (at + i))))
 
--- a word that is the same leaves it to what is behind it; another one decides
-pub word-on : (r : Bool) {behind all : Bool} → not r ≡ false → cond r behind false ≡ all → behind ≡ all
-word-on true e h = h
-word-on false e h = absurd (false≢true (sym e))
-
-pub word-off : (r behind : Bool) {all : Bool} → not r ≡ true → cond r behind false ≡ all → false ≡ all
-word-off true behind e h = absurd (false≢true e)
-word-off false behind e h = h
+-- a loop over words: what was seen is 0 as long as they are the same
+pub same-words : (s t : List ℕ) (i d x y d′ : ℕ) → i + 8 ≤ length s → i + 8 ≤ length t → Bytes s → Bytes t
+    → x ≡ num (take 8 (drop i s))
+    → y ≡ num (take 8 (drop i t))
+    → eqb d′ 0 ≡ eqb d 0 && eqb x y
+    → cond (eqb d 0) (sameFrom s t i) false ≡ same s t
+    → cond (eqb d′ 0) (sameFrom s t (i + 8)) false ≡ same s t
+same-words s t i d x y d′ h l p q ex ey e rest =
+    ap (λ (b : Bool). cond b (sameFrom s t (i + 8)) false) e
+    ∙ nested (eqb d 0) (eqb x y)
+    ∙ ap (λ (b : Bool). cond (eqb d 0) b false) (rw (ex, ey) (same-number-at 8 s t i h l p q))
+    ∙ rest
+  where
+    nested : (b c : Bool) → cond (b && c) (sameFrom s t (i + 8)) false ≡ cond b (cond c (sameFrom s t (i + 8)) false) false
+    nested true c = refl
+    nested false c = refl
 
 -- ---- yes
 
