@@ -1,7 +1,9 @@
 /* Each call of the store against plain C: first that both give the same bytes, then their times, interleaved.
  *
- *   calls ROUNDS    a row of Markdown for each call: the medians of ROUNDS batches, and their ratio
- *   calls --count   the same calls once each, for callgrind: it dumps after each, store and plain in turn
+ *   calls ROUNDS [WORD]   a row of Markdown for each call: the medians of ROUNDS batches, and their ratio
+ *   calls --count [WORD]  the same calls once each, for callgrind: it dumps after each, store and plain in turn
+ *
+ * WORD leaves only the calls whose name has it.
  */
 #define _POSIX_C_SOURCE 199309L
 #include <stdio.h>
@@ -92,7 +94,7 @@ int main(int argc, char **argv)
 {
     int rounds = argc > 1 ? atoi(argv[1]) : 0, counting = argc > 1 && strcmp(argv[1], "--count") == 0;
     if (!counting && (rounds < 1 || rounds > MOST_ROUNDS)) {
-        fprintf(stderr, "calls ROUNDS | calls --count\n");
+        fprintf(stderr, "calls ROUNDS [WORD] | calls --count [WORD]\n");
         return 2;
     }
     struct side ours = side_new(&trapcard_calls), plain = side_new(&plain_calls);
@@ -100,6 +102,8 @@ int main(int argc, char **argv)
         fprintf(stderr, "calls: %ld random calls, the same bytes\n", random_calls(50000));
     for (size_t i = 0; i < task_count; i++) {
         const struct task *t = &tasks[i];
+        if (argc > 2 && !strstr(t->name, argv[2]))
+            continue;
         prepare(t, &ours);
         prepare(t, &plain);
         t->call(&ours);

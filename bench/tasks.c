@@ -4,8 +4,14 @@
 #include <stdlib.h>
 #include <string.h>
 
-/* The addresses of the lists: the i-th of open, group and log, 61 blocks apart. */
-enum { OPEN_AT = 100, GROUP_AT = 101, LOG_AT = 102, STEP = 61, HOME_AT = 4000, NEW_AT = 4001 };
+/* The data blocks as a walk that meets each once and jumps about. Open, group and log have 32 of its steps each, from here on; the
+ * last two are a block in none of them, and one to be put. */
+enum { OPEN_FROM = 0, GROUP_FROM = 100, LOG_FROM = 200, HOME = 300, NEW = 301 };
+
+static uint32_t walk(uint32_t step)
+{
+    return TRAPCARD_FIRST + step * 1571 % (BLOCKS - TRAPCARD_FIRST);
+}
 
 static const uint8_t block[TRAPCARD_BLOCK] = {1, 2, 3};
 static const uint8_t all_kept[TRAPCARD_PLACES] = {1, 1, 1, 1, 1, 1, 1, 1, 1, 1, 1, 1, 1, 1, 1, 1, 1,
@@ -24,14 +30,14 @@ static void put_all(struct side *s, uint32_t from, uint32_t n)
     uint8_t bytes[TRAPCARD_BLOCK];
     for (uint32_t i = 0; i < n; i++) {
         memset(bytes, (int)(from + i), sizeof bytes);
-        must(s->calls->put(CARD(s), from + STEP * i, bytes, sizeof bytes), "put");
+        must(s->calls->put(CARD(s), walk(from + i), bytes, sizeof bytes), "put");
     }
 }
 
 /* Power for all the writes of a sync of 32 and not for its flush: they wait, and the record is down. */
 static void leave_waiting(struct side *s)
 {
-    put_all(s, GROUP_AT, TRAPCARD_SLOTS);
+    put_all(s, GROUP_FROM, TRAPCARD_SLOTS);
     must(s->calls->commit(CARD(s)), "commit");
     must(s->calls->power(CARD(s), TRAPCARD_PLACES), "power");
     s->calls->sync(CARD(s), &s->orders);
@@ -42,13 +48,13 @@ void prepare(const struct task *t, struct side *s)
     must(s->calls->format(CARD(s)), "format");
     for (size_t i = TRAPCARD_FIRST * TRAPCARD_BLOCK; i < s->settled_len; i++)
         s->settled[i] = (uint8_t)(i * 2654435761u >> 13);
-    put_all(s, LOG_AT, t->logged);
+    put_all(s, LOG_FROM, t->logged);
     must(s->calls->commit(CARD(s)), "commit");
     must(s->calls->sync(CARD(s), &s->orders), "sync");
-    put_all(s, GROUP_AT, t->grouped - t->shared);
-    put_all(s, OPEN_AT, t->shared);
+    put_all(s, GROUP_FROM, t->grouped - t->shared);
+    put_all(s, OPEN_FROM, t->shared);
     must(s->calls->commit(CARD(s)), "commit");
-    put_all(s, OPEN_AT, t->opened);
+    put_all(s, OPEN_FROM, t->opened);
     if (t->mode == TRAPCARD_MODE_DOWN)
         leave_waiting(s);
     if (t->mode == TRAPCARD_MODE_CLOSED)
@@ -80,12 +86,12 @@ static void power(struct side *s)
 
 static void put_new(struct side *s)
 {
-    s->number = s->calls->put(CARD(s), NEW_AT, block, sizeof block);
+    s->number = s->calls->put(CARD(s), walk(NEW), block, sizeof block);
 }
 
 static void put_again(struct side *s)
 {
-    s->number = s->calls->put(CARD(s), OPEN_AT, block, sizeof block);
+    s->number = s->calls->put(CARD(s), walk(OPEN_FROM), block, sizeof block);
 }
 
 static void get(struct side *s, uint32_t address)
@@ -95,22 +101,22 @@ static void get(struct side *s, uint32_t address)
 
 static void get_open(struct side *s)
 {
-    get(s, OPEN_AT);
+    get(s, walk(OPEN_FROM));
 }
 
 static void get_group(struct side *s)
 {
-    get(s, GROUP_AT);
+    get(s, walk(GROUP_FROM));
 }
 
 static void get_log(struct side *s)
 {
-    get(s, LOG_AT);
+    get(s, walk(LOG_FROM));
 }
 
 static void get_home(struct side *s)
 {
-    get(s, HOME_AT);
+    get(s, walk(HOME));
 }
 
 static void commit(struct side *s)
