@@ -1,30 +1,25 @@
 -- The laws of a card that was read: its size, its refusal, its blocks.
-use Prim.Native.Nat.{ℕ, _+_, _%_, _≤_, _<_}
+use Prim.Native.Nat.{ℕ, _%_, _≤_, _<_}
 use mathlib.Core.Path.{_≡_, refl, ap, sym, _∙_}
 use mathlib.Core.Bool.{Bool, true, false, cond, not, _||_}
-use mathlib.Core.Logic.{_≢_}
 use mathlib.Core.List.{List}
-use native.Mathlib.Decide.{ℕ-discrete}
 use native.Mathlib.Omega.{arith}
 use borrow.Author.Tests.{ltb-false}
 use lib.Dec.{eqb, ltb}
-use lib.ListN.{length, getD, set, length-set}
-use lib.Seq.{getD-set-same, getD-set-other}
+use lib.ListN.{length}
 use Rattle.cells.specs.Entry.{blockBytes}
 use Rattle.card.specs.Card.{blocksIn, blockAt}
 use Rattle.journal.specs.declared.choice.Choice.{Choice}
-use Rattle.journal.specs.declared.lookup.Found.{Found}
 use Rattle.journal.specs.declared.lookup.Found.the-variants.{At, Absent}
 use Rattle.journal.specs.Layout.{slots, firstData, slotAt, leastBlocks, mostBlocks, wrongSize}
-use Rattle.journal.specs.Log.{slotAddress}
 use Rattle.journal.specs.Lookup.{lastSlot}
 use Rattle.journal.specs.Choice.{choiceNumber, takenCount}
-use Rattle.journal.proofs.Lookups.{Means, last-means, overlay-slots}
+use Rattle.journal.proofs.Lookups.{overlay-slots}
 use Rattle.journal.proofs.Choices.{taken-count}
 use Rattle.journal.proofs.Logs.{neither}
 use Rattle.inspect.specs.declared.reading.Reading.{Reading}
 use Rattle.inspect.specs.Reading.{chosen, inspection, laid}
-use Rattle.inspect.specs.CodeReading.{Read, Marked}
+use Rattle.inspect.specs.CodeReading.{Read}
 
 -- ---- the size
 
@@ -95,29 +90,3 @@ laid-slot s n a i e = overlay-slots s n (blockAt s) a ∙ rw e
 
 pub laid-home : (s : List ℕ) (n a : ℕ) → lastSlot s a n ≡ Absent → laid s n a ≡ blockAt s a
 laid-home s n a e = overlay-slots s n (blockAt s) a ∙ rw e
-
--- ---- buckets
-
-pub mark-none : (s marks : List ℕ) → length marks ≡ 128 → Marked s marks 0
-mark-none s marks h = (h, λ j p. absurd (omega arith))
-
--- one more address, a, marks its bucket
-pub mark-more : (s marks : List ℕ) (i a : ℕ) → a ≡ slotAddress s i → Marked s marks i → Marked s (set marks (a % 128) 1) (i + 1)
-mark-more s marks i a e h = (simp length-set (h .0), λ j p. go j p (ℕ-discrete (slotAddress s j % 128) (a % 128)))
-  where
-    go : (j : ℕ) → j < i + 1 → Dec (slotAddress s j % 128 ≡ a % 128) → getD (set marks (a % 128) 1) (slotAddress s j % 128) 0 ≢ 0
-    go j p (yes q) =
-        let size : length marks ≡ 128 = h .0 in
-        let inside : a % 128 < length marks = omega arith in
-        rw (q, getD-set-same marks (a % 128) 1 0 inside) (λ z. absurd (omega arith))
-    go j p (no q) =
-        let earlier : j ≢ i = λ z. q (ap (λ (x : ℕ). slotAddress s x % 128) z ∙ ap (λ (x : ℕ). x % 128) (sym e)) in
-        rw (getD-set-other marks (a % 128) (slotAddress s j % 128) 1 0 q) (h .1 j (omega arith))
-
--- an address whose bucket is not marked is none of them
-pub unmarked : (s marks : List ℕ) (n a : ℕ) → Marked s marks n → getD marks (a % 128) 0 ≡ 0 → lastSlot s a n ≡ Absent
-unmarked s marks n a h e = go (lastSlot s a n) (last-means (slotAddress s) a n)
-  where
-    go : (r : Found) → Means (slotAddress s) a n r → r ≡ Absent
-    go (At k) m = absurd (h .1 k (m .inside) (ap (λ (x : ℕ). getD marks (x % 128) 0) (m .here) ∙ e))
-    go Absent m = refl

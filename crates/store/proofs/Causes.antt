@@ -9,18 +9,15 @@ use native.Mathlib.Numerals.{add-one}
 use native.Mathlib.Decide.{ℕ-discrete}
 use borrow.Author.Tests.{eq-eqb, ne-eqb, eqb-true, ltb-true, ltb-false, not-false}
 use lib.Dec.{eqb, ltb}
-use lib.ListN.{length, drop, getD, set}
-use lib.Seq.{getD-set-same, getD-set-other}
+use lib.ListN.{length, drop, getD}
 use Rattle.cells.specs.Entry.{blockBytes, entryAt}
 use Rattle.card.specs.Card.{places, blocksIn}
 use Rattle.card.specs.CodeQueue.{Below}
-use Rattle.journal.specs.declared.lookup.Found.{Found}
-use Rattle.journal.specs.declared.lookup.Found.the-variants.{At, Absent}
 use Rattle.journal.specs.Lookup.{lastOf}
 use Rattle.journal.specs.Layout.{slots, isData, leastBlocks, mostBlocks, wrongSize}
 use Rattle.journal.specs.Log.{slotAddress}
 use Rattle.journal.proofs.Logs.{neither, slot-data}
-use Rattle.journal.proofs.Lookups.{Means, last-means}
+use Rattle.journal.proofs.Lookups.{Marked, unmarked}
 use Rattle.store.specs.State.{State, closed, openMode, down}
 use Rattle.store.specs.Lists.{openFrom, groupFrom, listed, find}
 use Rattle.store.specs.Request.{Request, power, abandon}
@@ -72,35 +69,14 @@ pub climb-on : (f : ℕ → Bool) (i : ℕ) → some f i ≡ false → f i ≡ f
 unfolding some
 climb-on f i none e = rw (add-one, none, e)
 
--- ---- buckets: each of the first i addresses has marked its own
-
-abbrev pub Marked : (ℕ → ℕ) → List ℕ → ℕ → Type 0
-Marked f seen i = (j : ℕ) → j < i → getD seen (f j % 128) 0 ≢ 0
-
--- an address whose bucket is not marked is none of them
+-- a search that is left out where the address's bucket is not marked
 pub met-found : (f : ℕ → ℕ) (seen : List ℕ) (i a : ℕ) → Marked f seen i
     → cond (eqb (getD seen (a % 128) 0) 0) false (isFound (lastOf f a i)) ≡ isFound (lastOf f a i)
 met-found f seen i a marked = go (eqb (getD seen (a % 128) 0) 0) refl
   where
-    unseen : getD seen (a % 128) 0 ≡ 0 → (r : Found) → Means f a i r → false ≡ isFound r
-    unseen e (At k) m = absurd (marked k (m .inside) (ap (λ (x : ℕ). getD seen (x % 128) 0) (m .here) ∙ e))
-    unseen e Absent m = refl
-
     go : (t : Bool) → eqb (getD seen (a % 128) 0) 0 ≡ t → cond t false (isFound (lastOf f a i)) ≡ isFound (lastOf f a i)
-    go true e = unseen (eqb-true _ _ e) (lastOf f a i) (last-means f a i)
+    go true e = ap isFound (sym (unmarked f seen i a marked (eqb-true _ _ e)))
     go false e = refl
-
--- one more of them
-pub mark-more : (f : ℕ → ℕ) (seen : List ℕ) (i : ℕ) → length seen ≡ 128 → Marked f seen i → Marked f (set seen (f i % 128) 1) (i + 1)
-mark-more f seen i size marked j h = go (ℕ-discrete (f j % 128) (f i % 128))
-  where
-    go : Dec (f j % 128 ≡ f i % 128) → getD (set seen (f i % 128) 1) (f j % 128) 0 ≢ 0
-    go (yes p) =
-        let inside : f i % 128 < length seen = omega arith in
-        rw (p, getD-set-same seen (f i % 128) 1 0 inside) (λ z. absurd (omega arith))
-    go (no p) =
-        let earlier : j ≢ i = λ e. p (ap (λ (x : ℕ). f x % 128) e) in
-        rw (getD-set-other seen (f i % 128) (f j % 128) 1 0 p) (marked j (omega arith))
 
 -- of two tests that do not both pass, one passes
 pub other : (a b : Bool) → a && b ≡ false → a ≡ true → b ≡ false

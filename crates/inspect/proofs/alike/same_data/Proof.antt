@@ -8,9 +8,10 @@ use borrow.Author.Tests.{not-true, not-false}
 use Rattle.cells.specs.Same.{same}
 use Rattle.card.specs.Card.{blocksIn}
 use Rattle.journal.specs.Layout.{firstData}
+use Rattle.journal.specs.Log.{slotAddress}
+use Rattle.journal.proofs.Lookups.{unmarked}
 use Rattle.inspect.specs.Reading.{dataBlocks, laid}
 use Rattle.inspect.specs.Alike.{sameData}
-use Rattle.inspect.proofs.Readings.{unmarked}
 use Rattle.inspect.proofs.Comparisons.{data-none, data-next, data-unlike}
 use Rattle.inspect.proofs.alike.same_data.Statement.{statement}
 use Rattle.inspect.proofs.alike.same_data.Tie as tie
@@ -57,7 +58,7 @@ marked-block-requires c κs =
     let marks = l .before .before .before .before .before .mark-slots in
     let first : firstData < g .blocks = start .pre .0 in
     let size : g .blocks ≡ blocksIn (g .a .now) = start .pre .1 .0 in
-    (omega arith, (omega arith, (start .pre .1 .1 .1 .0, λ e. unmarked (g .a .now) (marks .last .0) (g .n) (l .loop .i) (marks .ensures) e)))
+    (omega arith, (omega arith, (start .pre .1 .1 .1 .0, λ e. unmarked (slotAddress (g .a .now)) (marks .last .0) (g .n) (l .loop .i) (marks .ensures .1) e)))
 
 array-read-marked-block-2 : tie.Need-array-read-marked-block-2 Inv-loop μ-loop
 array-read-marked-block-2 c = omega arith
@@ -70,7 +71,7 @@ marked-block-requires-2 c κs =
     let marks = l .before .before .mark-slots2 in
     let first : firstData < g .blocks = start .pre .0 in
     let size : g .blocks ≡ blocksIn (g .b .now) = start .pre .1 .1 .0 in
-    (omega arith, (omega arith, (start .pre .1 .1 .1 .1, λ e. unmarked (g .b .now) (marks .last .0) (g .m) (l .loop .i) (marks .ensures) e)))
+    (omega arith, (omega arith, (start .pre .1 .1 .1 .1, λ e. unmarked (slotAddress (g .b .now)) (marks .last .0) (g .m) (l .loop .i) (marks .ensures .1) e)))
 
 same-requires : tie.Need-same-requires Inv-loop μ-loop
 same-requires c κs = search needs

@@ -4,8 +4,9 @@ use mathlib.Core.Path.{_≡_, refl}
 use native.Mathlib.Omega.{arith}
 use borrow.Author.Needs.{needs}
 use lib.ListN.{length, length-set}
+use Rattle.journal.specs.Log.{slotAddress}
+use Rattle.journal.proofs.Lookups.{mark-more}
 use Rattle.inspect.specs.CodeReading.{Marked}
-use Rattle.inspect.proofs.Readings.{mark-none, mark-more}
 use Rattle.inspect.proofs.reading.mark_slots.Statement.{statement}
 use Rattle.inspect.proofs.reading.mark_slots.Tie as tie
 
@@ -16,7 +17,7 @@ abbrev μ-loop : tie.MeasureT-loop
 μ-loop marks₀ settled n i₀ marks i = n - i
 
 loop-holds : tie.Need-loop-holds Inv-loop μ-loop
-loop-holds c = (omega arith, refl, mark-none (c .before .before .args .settled .now) (c .before .before .args .marks .now) (omega arith))
+loop-holds c = (omega arith, refl, (omega arith, λ j h. absurd (omega arith)))
 
 slot-address-requires : tie.Need-slot-address-requires Inv-loop μ-loop
 slot-address-requires c κs = omega arith
@@ -36,7 +37,7 @@ loop-less c = omega arith
 loop-again : tie.Need-loop-again Inv-loop μ-loop
 loop-again c =
     let l = c .before .before .loop in
-    (omega arith, simp length-set (l .inv .1), mark-more _ (l .marks) (l .i) _ (c .slot-address .ensures) (l .inv .2))
+    (omega arith, simp length-set (l .inv .1), (simp length-set (l .inv .2 .0), mark-more (slotAddress (c .before .before .before .before .before .args .settled .now)) (l .marks) (l .i) _ (l .inv .2 .0) (c .slot-address .ensures) (l .inv .2 .1)))
 
 same-length : tie.Need-same-length Inv-loop μ-loop
 same-length c = omega arith

@@ -1,13 +1,14 @@
 -- `store::check::twice` meets its contract. The invariant: none of the first i is there twice, and each has marked its bucket.
-use Prim.Native.Nat.{ℕ, _+_, _-_, _%_, _≤_}
+use Prim.Native.Nat.{ℕ, _-_, _%_, _≤_}
 use mathlib.Core.Path.{_≡_, refl, ap, sym, _∙_}
 use mathlib.Core.Bool.{Bool, false, cond}
 use mathlib.Core.List.{List}
 use native.Mathlib.Omega.{arith}
 use borrow.Author.Needs.{needs}
 use lib.Dec.{eqb}
-use lib.ListN.{length, set, getD, length-set}
-use Rattle.store.proofs.Causes.{climb-none, climb-hit, climb-on, Marked, met-found, mark-more}
+use lib.ListN.{length, getD, length-set}
+use Rattle.journal.proofs.Lookups.{Marked, mark-more}
+use Rattle.store.proofs.Causes.{climb-none, climb-hit, climb-on, met-found}
 use Rattle.store.specs.Lists.{listed, find}
 use Rattle.store.specs.Causes.{isFound, twice}
 use Rattle.store.proofs.check.twice.Statement.{statement}
@@ -33,11 +34,6 @@ asked : (work : List ℕ) (from i : ℕ) (seen : List ℕ) (a : ℕ) (r : Bool)
     → again work from i ≡ r
 asked work from i seen a r e f marked =
     ap (λ (x : ℕ). isFound (find work from i x)) (sym e) ∙ sym (met-found (addresses work from) seen i a marked) ∙ sym f
-
--- one more address has marked its bucket
-marked : (f : ℕ → ℕ) (seen : List ℕ) (i a : ℕ) → a ≡ f i → length seen ≡ 128 → Marked f seen i
-    → Marked f (set seen (a % 128) 1) (i + 1)
-marked f seen i a e size before = rw e (mark-more f seen i size before)
 
 loop-holds : tie.Need-loop-holds Inv-loop μ-loop
 loop-holds c = (omega arith, refl, climb-none (again (c .before .args .work .now) (c .before .args .from)), λ j h. absurd (omega arith))
@@ -76,7 +72,7 @@ loop-again c =
     let a = c .before .before .before .before .before .before .args in
     let e = c .before .before .address .ensures in
     let missed = asked (a .work .now) (a .from) (l .i) (l .seen) _ _ e (c .before .met .ensures) (l .inv .3) in
-    (omega arith, simp length-set (l .inv .1), climb-on (again (a .work .now) (a .from)) (l .i) (l .inv .2) (missed ∙ c .if1 .left), marked (addresses (a .work .now) (a .from)) (l .seen) (l .i) _ e (l .inv .1) (l .inv .3))
+    (omega arith, simp length-set (l .inv .1), climb-on (again (a .work .now) (a .from)) (l .i) (l .inv .2) (missed ∙ c .if1 .left), mark-more (addresses (a .work .now) (a .from)) (l .seen) (l .i) _ (l .inv .1) e (l .inv .3))
 
 returns-2 : tie.Need-returns-2 Inv-loop μ-loop
 returns-2 c =
