@@ -1,19 +1,21 @@
 -- The laws of the calls as C sees them.
 use Prim.Native.Nat.{ℕ}
-use mathlib.Core.Path.{_≡_, refl, ap, _∙_}
+use mathlib.Core.Path.{_≡_, refl, ap, sym, _∙_}
 use mathlib.Core.Bool.{Bool, true, false, cond}
 use mathlib.Core.Logic.{_≢_}
 use mathlib.Core.List.{List}
 use mir.Val.{boolByte}
-use borrow.Author.Tests.{eq-eqb, ne-eqb}
+use borrow.Author.Tests.{eq-eqb, ne-eqb, eqb-true}
+use lib.Dec.{eqb}
 use lib.ListN.{length}
 use Rattle.store.specs.declared.place.Place.{Place}
+use Rattle.store.specs.declared.place.Place.the-variants.{Nowhere}
 use Rattle.store.specs.declared.record.Record.{Record}
 use Rattle.store.specs.State.{State, Outcome}
 use Rattle.store.specs.CodeState.{stateOf, outcomeOf}
 use Rattle.store.specs.Request.{get}
 use Rattle.store.specs.Causes.{cause}
-use Rattle.store.specs.Get.{getPlace}
+use Rattle.store.specs.Get.{newest, getPlace}
 use Rattle.inspect.specs.declared.answer.Alike.{Alike}
 use Rattle.inspect.specs.Alike.{alikeOf}
 use Rattle.journal.specs.Geometry.{Geometry}
@@ -22,12 +24,12 @@ use Rattle.firmware.specs.Face.{recordBytes, encodeRecord, decodeRecord,
 -- "another length is 1"
 pub faced-length : (call : State → Outcome) (r s w k : List ℕ) → length r ≢ recordBytes → faceOf 1 0 r s w k ≡ faced call r s w k
 unfolding faced
-faced-length call r s w k h = rw (ne-eqb (length r) recordBytes h)
+faced-length call r s w k h = rw (ne-eqb (length r) 36 h)
 
 -- a right length: the store's outcome
 pub faced-outcome : (call : State → Outcome) (r s w k : List ℕ) → length r ≡ recordBytes → handed (call (stateOf (decodeRecord r) s w k)) ≡ faced call r s w k
 unfolding faced
-faced-outcome call r s w k h = rw (eq-eqb (length r) recordBytes h)
+faced-outcome call r s w k h = rw (eq-eqb (length r) 36 h)
 
 -- decoded to d, left as q, encoded to r′
 pub faced-done : (call : State → Outcome) (r s w k r′ s′ w′ k′ : List ℕ) (n o : ℕ) (d q : Record)
@@ -45,11 +47,11 @@ module _ (geo : Geometry) where
   -- likewise get
   pub got-length : (a : ℕ) (r s w k : List ℕ) → length r ≢ recordBytes → gotOf 1 0 0 ≡ got geo a r s w k
   unfolding got
-  got-length a r s w k h = rw (ne-eqb (length r) recordBytes h)
+  got-length a r s w k h = rw (ne-eqb (length r) 36 h)
 
   pub got-place : (a : ℕ) (r s w k : List ℕ) → length r ≡ recordBytes → gotIn geo a (stateOf (decodeRecord r) s w k) ≡ got geo a r s w k
   unfolding got
-  got-place a r s w k h = rw (eq-eqb (length r) recordBytes h)
+  got-place a r s w k h = rw (eq-eqb (length r) 36 h)
 
   pub got-done : (a : ℕ) (r s w k : List ℕ) (n b o : ℕ) (d : Record) (p : Place)
       → length r ≡ recordBytes
@@ -64,6 +66,27 @@ module _ (geo : Geometry) where
       ∙ ap (λ (x : Place). gotOf (cause geo (get a) (stateOf d s w k)) (bufferNumber x) (bufferOffset x)) f
       ∙ ap (λ (x : Record). gotIn geo a (stateOf x s w k)) e
       ∙ got-place a r s w k h
+
+  -- a place that is named is that of a get that is not refused
+  pub named-done : (a : ℕ) (st : State) → bufferNumber (getPlace geo a st) ≢ 0 → 0 ≡ cause geo (get a) st
+  unfolding getPlace
+  named-done a st h = go (eqb (cause geo (get a) st) 0) refl h
+    where
+      go : (t : Bool) → eqb (cause geo (get a) st) 0 ≡ t → bufferNumber (cond t (newest geo a st) Nowhere) ≢ 0 → 0 ≡ cause geo (get a) st
+      go true e n = sym (eqb-true _ _ e)
+      go false e n = absurd (n refl)
+
+  pub got-named : (a : ℕ) (r s w k : List ℕ) (b o : ℕ) (d : Record) (p : Place)
+      → length r ≡ recordBytes
+      → d ≡ decodeRecord r
+      → p ≡ getPlace geo a (stateOf d s w k)
+      → b ≡ bufferNumber p
+      → o ≡ bufferOffset p
+      → b ≢ 0
+      → gotOf 0 b o ≡ got geo a r s w k
+  got-named a r s w k b o d p h e f g i n =
+      let named : bufferNumber (getPlace geo a (stateOf d s w k)) ≢ 0 = λ z. n (g ∙ ap bufferNumber f ∙ z) in
+      got-done a r s w k 0 b o d p h e f g i (named-done a (stateOf d s w k) named)
 
   -- and alike: a yes is 1
   pub compared-done : (a b : List ℕ) (r : Alike) → r ≡ alikeOf geo a b → comparedOf (r .number) (boolByte (r .yes)) ≡ compared geo a b

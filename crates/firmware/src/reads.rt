@@ -56,6 +56,9 @@ pub extern "C" fn trapcard_get(
     let place = held.get_place(settled, waiting, work, address);
     *buffer = buffer_number(place);
     *offset = buffer_offset(place);
+    if *buffer != NOWHERE {
+        return 0;
+    }
     held.get_number(settled, waiting, work, address)
 }
 

@@ -1,6 +1,6 @@
--- The laws of comparing: data blocks from the last one down; and what a yes means.
+-- The laws of comparing: data blocks, one after the other; and what a yes means.
 use Prim.Native.Nat.{ℕ, zero, suc, _+_, _-_, _≤_, _<_}
-use mathlib.Core.Path.{_≡_, refl, sym, _∙_}
+use mathlib.Core.Path.{_≡_, refl, ap, sym, _∙_}
 use mathlib.Core.Bool.{Bool, true, false, cond, _&&_, and-true, and-false}
 use mathlib.Core.Logic.{_≢_, _↔_}
 use mathlib.Core.List.{List}
@@ -20,26 +20,38 @@ use Rattle.inspect.specs.Reading.{inspection, laid, laidOver, dataBlocks
 use Rattle.inspect.specs.Alike.{sameData, refusal, alikeOf, Same}
 use Rattle.inspect.proofs.Readings.{TakenList}
 
--- ---- data blocks, those below a left
+-- ---- data blocks, those below a found equal
 
 module _ (geo : Geometry) where
-  module _ (c d : Disk) (a : ℕ) where
-    last : firstData geo < a → sameData geo c d (dataBlocks geo a) ≡ sameData geo c d (dataBlocks geo (a - 1)) && same (c (a - 1)) (d (a - 1))
-    unfolding sameData
-    last h =
-        let less : dataBlocks geo a ≡ suc (dataBlocks geo (a - 1)) = omega arith in
-        let here : firstData geo + dataBlocks geo (a - 1) ≡ a - 1 = omega arith in
-        rw (less, here)
+  pub data-none : (c d : Disk) (a : ℕ) → a ≡ firstData geo → sameData geo c d (dataBlocks geo a) ≡ true
+  unfolding sameData
+  data-none c d a h = let e : dataBlocks geo a ≡ 0 = omega arith in rw e
 
-    pub data-stop : firstData geo < a → same (c (a - 1)) (d (a - 1)) ≡ false → sameData geo c d (dataBlocks geo a) ≡ false
-    data-stop h e = last h ∙ rw (e, and-false)
+  -- one more
+  pub data-next : (c d : Disk) (a : ℕ) → firstData geo ≤ a → sameData geo c d (dataBlocks geo a) ≡ true → same (c a) (d a) ≡ true
+      → sameData geo c d (dataBlocks geo (a + 1)) ≡ true
+  unfolding sameData
+  data-next c d a h before e =
+      let more : dataBlocks geo (a + 1) ≡ suc (dataBlocks geo a) = omega arith in
+      let here : firstData geo + dataBlocks geo a ≡ a = omega arith in
+      rw (more, here, before, e)
 
-    pub data-on : firstData geo < a → same (c (a - 1)) (d (a - 1)) ≡ true → sameData geo c d (dataBlocks geo a) ≡ sameData geo c d (dataBlocks geo (a - 1))
-    data-on h e = last h ∙ rw (e, and-true)
+  -- one that is unlike decides
+  unlike : (c d : Disk) (k i : ℕ) → i < k → same (c (firstData geo + i)) (d (firstData geo + i)) ≡ false → false ≡ sameData geo c d k
+  unfolding sameData
+  unlike c d zero i h e = absurd (omega arith)
+  unlike c d (suc k) i h e = go (ℕ-discrete i k) (λ q. unlike c d k i q e)
+    where
+      go : Dec (i ≡ k) → (i < k → false ≡ sameData geo c d k) → false ≡ sameData geo c d k && same (c (firstData geo + k)) (d (firstData geo + k))
+      go (yes p) below =
+          sym (and-false (sameData geo c d k))
+          ∙ ap (λ (b : Bool). sameData geo c d k && b) (sym e ∙ ap (λ (x : ℕ). same (c (firstData geo + x)) (d (firstData geo + x))) p)
+      go (no p) below = ap (λ (b : Bool). b && same (c (firstData geo + k)) (d (firstData geo + k))) (below (omega arith))
 
-    pub data-over : a ≤ firstData geo → sameData geo c d (dataBlocks geo a) ≡ true
-    unfolding sameData
-    data-over h = let none : dataBlocks geo a ≡ 0 = omega arith in rw none
+  pub data-unlike : (c d : Disk) (a N : ℕ) → firstData geo ≤ a → a < N → same (c a) (d a) ≡ false → false ≡ sameData geo c d (dataBlocks geo N)
+  data-unlike c d a N h l e =
+      let here : firstData geo + dataBlocks geo a ≡ a = omega arith in
+      unlike c d (dataBlocks geo N) (dataBlocks geo a) (omega arith) (rw here e)
 
   -- ---- what the tests mean
 

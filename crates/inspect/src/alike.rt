@@ -1,7 +1,9 @@
 // alike: whether two cards have the same N and the same data blocks, the log of each laid over.
 use crate::answer::Alike;
+use crate::reading::BUCKETS;
 use crate::reading::inspect;
-use crate::reading::laid_block;
+use crate::reading::mark_slots;
+use crate::reading::marked_block;
 use cells::bytes::same;
 use journal::FIRST_DATA;
 ghost use mathlib.Core.Path.{_≡_};
@@ -21,12 +23,19 @@ fn same_data(a: &[u8], n: u32, b: &[u8], m: u32, blocks: u32) -> bool
     requires { ⌜ m ≤ trap .slots ⌝ }
     ensures { λ r. ⌜ r ≡ sameData trap (laid trap (now (a .entry)) n) (laid trap (now (b .entry)) m) (dataBlocks trap blocks) ⌝ }
 {
-    let mut i = blocks;
-    while FIRST_DATA < i {
-        i -= 1;
-        if !same(laid_block(a, i, n), laid_block(b, i, m)) {
+    let mut left = [0u8; BUCKETS];
+    mark_slots(&mut left, a, n);
+    let mut right = [0u8; BUCKETS];
+    mark_slots(&mut right, b, m);
+    let mut i = FIRST_DATA;
+    while i < blocks {
+        let bucket = i as usize % BUCKETS;
+        let first = marked_block(a, i, n, left[bucket]);
+        let second = marked_block(b, i, m, right[bucket]);
+        if !same(first, second) {
             return false;
         }
+        i += 1;
     }
     true
 }

@@ -13,19 +13,19 @@ ghost use Rattle.journal.specs.Layout.{firstData, mostBlocks};
 ghost use Rattle.inspect.specs.Reading.{dataBlocks, laid};
 ghost use Rattle.inspect.specs.Tally.{sumBytes, sumData, tallyOf};
 
-// The sum of a block's bytes.
+// The sum of a block's bytes. In 32 bits, so that four of them fit a vector.
 fn sum_bytes(block: &[u8]) -> u64
     requires { ⌜ length (now block) ≡ blockBytes ⌝ }
     ensures { λ r. ⌜ r ≡ sumBytes (now (block .entry)) ⌝ }
     ensures { λ r. ⌜ r ≤ 255 * blockBytes ⌝ }
 {
-    let mut sum: u64 = 0;
+    let mut sum: u32 = 0;
     let mut i = 0;
     while i < block.len() {
-        sum += block[i] as u64;
+        sum += block[i] as u32;
         i += 1;
     }
-    sum
+    sum as u64
 }
 
 // The sum of all data bytes, the first n entries laid over.

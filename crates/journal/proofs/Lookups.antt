@@ -1,5 +1,5 @@
 -- The laws of a lookup.
-use Prim.Native.Nat.{ℕ, zero, suc, _-_, _<_}
+use Prim.Native.Nat.{ℕ, zero, suc, _+_, _-_, _%_, _<_}
 use mathlib.Core.Path.{_≡_, refl, ap, sym, _∙_}
 use mathlib.Core.Bool.{Bool, true, false, cond}
 use mathlib.Core.Logic.{_≢_}
@@ -8,6 +8,8 @@ use native.Mathlib.Omega.{arith}
 use native.Mathlib.Decide.{ℕ-discrete}
 use borrow.Author.Tests.{eq-eqb, ne-eqb, eqb-true, eqb-false}
 use lib.Dec.{eqb}
+use lib.ListN.{length, getD, set}
+use lib.Seq.{getD-set-same, getD-set-other}
 use Rattle.cells.specs.Upto.{upTo}
 use Rattle.cells.specs.Entry.{Entry}
 use Rattle.card.specs.Card.{blockAt}
@@ -75,6 +77,32 @@ last-means f a (suc n) = go (eqb (f n) a) refl (lastOf f a n) (last-means f a n)
 
 pub last-at : (f : ℕ → ℕ) (a n k : ℕ) → lastOf f a n ≡ At k → Last f a n k
 last-at f a n k e = rw e at (last-means f a n)
+
+-- ---- buckets: each of the first n places has marked the bucket of its address, of 128
+
+abbrev pub Marked : (ℕ → ℕ) → List ℕ → ℕ → Type 0
+Marked f marks n = (j : ℕ) → j < n → getD marks (f j % 128) 0 ≢ 0
+
+-- one more, of address a
+pub mark-more : (f : ℕ → ℕ) (marks : List ℕ) (i a : ℕ) → length marks ≡ 128 → a ≡ f i → Marked f marks i
+    → Marked f (set marks (a % 128) 1) (i + 1)
+mark-more f marks i a size e before j h = go (ℕ-discrete (f j % 128) (a % 128))
+  where
+    go : Dec (f j % 128 ≡ a % 128) → getD (set marks (a % 128) 1) (f j % 128) 0 ≢ 0
+    go (yes p) =
+        let inside : a % 128 < length marks = omega arith in
+        rw (p, getD-set-same marks (a % 128) 1 0 inside) (λ z. absurd (omega arith))
+    go (no p) =
+        let earlier : j ≢ i = λ z. p (ap (λ (x : ℕ). f x % 128) z ∙ ap (λ (x : ℕ). x % 128) (sym e)) in
+        rw (getD-set-other marks (a % 128) (f j % 128) 1 0 p) (before j (omega arith))
+
+-- an address whose bucket is not marked is none of theirs
+pub unmarked : (f : ℕ → ℕ) (marks : List ℕ) (n a : ℕ) → Marked f marks n → getD marks (a % 128) 0 ≡ 0 → lastOf f a n ≡ Absent
+unmarked f marks n a marked e = go (lastOf f a n) (last-means f a n)
+  where
+    go : (r : Found) → Means f a n r → r ≡ Absent
+    go (At k) m = absurd (marked k (m .inside) (ap (λ (x : ℕ). getD marks (x % 128) 0) (m .here) ∙ e))
+    go Absent m = refl
 
 -- ---- a lookup in a list is a read of its overlay
 

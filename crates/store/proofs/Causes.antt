@@ -1,22 +1,26 @@
 -- The laws of the table of causes.
-use Prim.Native.Nat.{ℕ, zero, suc, _*_, _-_, _%_, _≤_, _<_}
+use Prim.Native.Nat.{ℕ, zero, suc, _+_, _*_, _-_, _%_, _≤_, _<_}
 use mathlib.Core.Path.{_≡_, refl, ap, sym, _∙_}
 use mathlib.Core.Bool.{Bool, true, false, cond, not, _&&_, _||_, or-true, or-false, false≢true}
 use mathlib.Core.List.{List, [], _∷_}
 use mathlib.Core.Logic.{_≢_}
+use mathlib.Core.List.{List}
 use native.Mathlib.Omega.{arith}
+use native.Mathlib.Numerals.{add-one}
 use native.Mathlib.Decide.{ℕ-discrete}
 use borrow.Author.Tests.{eq-eqb, ne-eqb, eqb-true, ltb-true, ltb-false, not-false}
 use lib.Dec.{eqb, ltb}
-use lib.ListN.{length}
+use lib.ListN.{length, drop, getD}
 use Rattle.cells.specs.Entry.{blockBytes, entryAt}
 use Rattle.card.specs.Card.{blocksIn}
 use Rattle.card.specs.CodeQueue.{Below}
 use Rattle.card.proofs.All.{All}
 use Rattle.journal.specs.Geometry.{Geometry}
 use Rattle.journal.specs.Layout.{isData, leastBlocks, mostBlocks, wrongSize}
+use Rattle.journal.specs.Lookup.{lastOf}
 use Rattle.journal.specs.Log.{slotAddress}
 use Rattle.journal.proofs.Logs.{neither, slot-data}
+use Rattle.journal.proofs.Lookups.{Marked, unmarked}
 use Rattle.store.specs.State.{State, closed, openMode, down}
 use Rattle.store.specs.Lists.{openFrom, groupFrom, listed, find}
 use Rattle.store.specs.Local as Local
@@ -50,6 +54,34 @@ unfolding some
 search-over f i n rest e = ap (some f) (sym e) ∙ rest
 
 -- ---- tests that fail, as plain facts
+
+-- ---- a search from the first place up: none of the first i passed
+
+pub climb-none : (f : ℕ → Bool) → some f 0 ≡ false
+unfolding some
+climb-none f = refl
+
+pub climb-hit : (f : ℕ → Bool) (i n : ℕ) → i < n → f i ≡ true → true ≡ some f n
+unfolding some
+climb-hit f i zero h e = absurd (omega arith)
+climb-hit f i (suc n) h e = go (ℕ-discrete i n) (λ q. climb-hit f i n q e)
+  where
+    go : Dec (i ≡ n) → (i < n → true ≡ some f n) → true ≡ some f n || f n
+    go (yes p) below = sym (or-true (some f n)) ∙ ap (λ (b : Bool). some f n || b) (sym e ∙ ap f p)
+    go (no p) below = ap (λ (b : Bool). b || f n) (below (omega arith))
+
+pub climb-on : (f : ℕ → Bool) (i : ℕ) → some f i ≡ false → f i ≡ false → some f (i + 1) ≡ false
+unfolding some
+climb-on f i none e = rw (add-one, none, e)
+
+-- a search that is left out where the address's bucket is not marked
+pub met-found : (f : ℕ → ℕ) (seen : List ℕ) (i a : ℕ) → Marked f seen i
+    → cond (eqb (getD seen (a % 128) 0) 0) false (isFound (lastOf f a i)) ≡ isFound (lastOf f a i)
+met-found f seen i a marked = go (eqb (getD seen (a % 128) 0) 0) refl
+  where
+    go : (t : Bool) → eqb (getD seen (a % 128) 0) 0 ≡ t → cond t false (isFound (lastOf f a i)) ≡ isFound (lastOf f a i)
+    go true e = ap isFound (sym (unmarked f seen i a marked (eqb-true _ _ e)))
+    go false e = refl
 
 -- of two tests that do not both pass, one passes
 pub other : (a b : Bool) → a && b ≡ false → a ≡ true → b ≡ false

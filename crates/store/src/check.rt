@@ -16,8 +16,10 @@ use journal::log::all_data;
 use journal::log::is_data;
 use journal::size::wrong_size;
 ghost use mathlib.Core.Path.{_≡_};
+ghost use mathlib.Core.Bool.{false, cond};
 ghost use mathlib.Core.List.{List};
 ghost use Prim.Native.Nat.{ℕ, _+_, _*_, _≤_, _<_};
+ghost use lib.Dec.{eqb};
 ghost use lib.ListN.{length};
 ghost use Rattle.cells.specs.Entry.{entryBytes};
 ghost use Rattle.card.specs.Card.{blocksIn};
@@ -26,8 +28,12 @@ ghost use Rattle.journal.specs.Layout.{firstData};
 ghost use Rattle.store.specs.declared.record.Record as Declared;
 ghost use Rattle.store.specs.CodeState.{stateOf};
 ghost use Rattle.store.specs.Request as Request;
+ghost use Rattle.store.specs.Lists as Lists;
 ghost use Rattle.store.specs.Causes as Causes;
-ghost use Rattle.store.specs.Causes.{cause, workBytes};
+ghost use Rattle.store.specs.Causes.{isFound, cause, workBytes};
+
+// The buckets that addresses fall into, by their low bits.
+const BUCKETS: usize = 128;
 
 // Row 1: the lengths of the lent buffers and N.
 pub(crate) fn wrong_sizes(settled: &[u8], waiting: &[u8], work: &[u8]) -> bool
@@ -57,17 +63,32 @@ fn strays(work: &[u8], blocks: u32, from: usize, n: u32) -> bool
     false
 }
 
-// Row 2, a list in work memory: an address twice.
+// Whether its first i have the address a; none has where none of them was seen in its bucket.
+fn met(seen: u8, work: &[u8], from: usize, i: u32, a: u32) -> bool
+    requires { ⌜ entryBytes * (from + i) ≤ length (now work) ⌝ }
+    ensures { λ r. ⌜ r ≡ cond (eqb seen 0) false (isFound (Lists.find (now (work .entry)) from i a)) ⌝ }
+{
+    if seen == 0 {
+        return false;
+    }
+    holds(work, from, i, a)
+}
+
+// Row 2, a list in work memory: an address twice. Each address marks its bucket; only where that is marked is the list searched.
 fn twice(work: &[u8], from: usize, n: u32) -> bool
     requires { ⌜ entryBytes * (from + n) ≤ length (now work) ⌝ }
     ensures { λ r. ⌜ r ≡ Causes.twice (now (work .entry)) from n ⌝ }
 {
-    let mut i = n;
-    while 0 < i {
-        i -= 1;
-        if holds(work, from, i, address(work, from, i)) {
+    let mut seen = [0u8; BUCKETS];
+    let mut i = 0;
+    while i < n {
+        let a = address(work, from, i);
+        let bucket = a as usize % BUCKETS;
+        if met(seen[bucket], work, from, i, a) {
             return true;
         }
+        seen[bucket] = 1;
+        i += 1;
     }
     false
 }

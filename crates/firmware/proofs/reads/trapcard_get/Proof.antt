@@ -1,9 +1,10 @@
--- `firmware::reads::trapcard_get` meets its contract.
-use Rattle.journal.specs.Geometry.{trap}
-use Rattle.firmware.proofs.Faces.{got-length, got-done}
+-- `firmware::reads::trapcard_get` meets its contract. A place that is named was not refused, so its number is not asked for.
 use borrow.Author.Needs.{needs}
+use Rattle.journal.specs.Geometry.{trap}
+use Rattle.firmware.proofs.Faces.{got-length, got-named, got-done}
 use Rattle.firmware.proofs.reads.trapcard_get.Statement.{statement}
 use Rattle.firmware.proofs.reads.trapcard_get.Tie as tie
+
 
 returns : tie.Need-returns
 returns c = got-length trap _ _ _ _ _ (c .if1 .taken)
@@ -20,12 +21,21 @@ buffer-number-requires c κs = search needs
 buffer-offset-requires : tie.Need-buffer-offset-requires
 buffer-offset-requires c κs = search needs
 
+returns-2 : tie.Need-returns-2
+returns-2 c =
+    let o = c .before .before in
+    let b = o .before in
+    let p = b .before in
+    let d = p .before in
+    let l = d .before in
+    got-named trap _ _ _ _ _ _ _ _ _ (l .if1 .left) (d .decode .ensures) (p .get-place .ensures) (b .buffer-number .ensures) (o .buffer-offset .ensures) (c .if2 .taken)
+
 get-number-requires : tie.Need-get-number-requires
 get-number-requires c κs = search needs
 
-returns-2 : tie.Need-returns-2
-returns-2 c =
-    let o = c .before in
+returns-3 : tie.Need-returns-3
+returns-3 c =
+    let o = c .before .before .before in
     let b = o .before in
     let p = b .before in
     let d = p .before in
@@ -41,5 +51,6 @@ trapcard-get-spec =
     get-place-requires
     buffer-number-requires
     buffer-offset-requires
+    returns-2
     get-number-requires
-    returns-2)
+    returns-3)

@@ -38,6 +38,9 @@ loop-again c =
     let l = c .before .before .loop in
     (omega arith, rw (bytes-next (c .before .before .before .args .block .now) (l .i) (omega arith), ← l .inv .1), omega (arith, c .shared-slice-known .given (l .i)))
 
+cast-result : tie.Need-cast-result Inv-loop μ-loop
+cast-result c = omega arith
+
 returns : tie.Need-returns Inv-loop μ-loop
 returns c =
     let l = c .before .loop in
@@ -56,4 +59,5 @@ sum-bytes-spec =
     add-i
     loop-less
     loop-again
+    cast-result
     returns)

@@ -1,0 +1,125 @@
+#include "side.h"
+
+#include <stdio.h>
+#include <stdlib.h>
+#include <string.h>
+
+const struct calls trapcard_calls = {trapcard_format, trapcard_power, trapcard_put,   trapcard_get,
+                                     trapcard_commit, trapcard_abandon, trapcard_sync, trapcard_apply,
+                                     trapcard_recover, trapcard_cut, trapcard_tally, trapcard_alike};
+
+const struct calls plain_calls = {plain_format, plain_power, plain_put,     plain_get, plain_commit, plain_abandon,
+                                  plain_sync,   plain_apply, plain_recover, plain_cut, plain_tally,  plain_alike};
+
+static uint8_t *lend(size_t size)
+{
+    void *p = aligned_alloc(4096, (size + 4095) / 4096 * 4096);
+    if (!p)
+        exit(1);
+    memset(p, 0, size);
+    return p;
+}
+
+struct side side_new(const struct calls *calls)
+{
+    struct side s = {.calls = calls, .settled_len = (size_t)BLOCKS * TRAPCARD_BLOCK};
+    s.settled = lend(s.settled_len);
+    s.other = lend(s.settled_len);
+    s.waiting = lend(TRAPCARD_WAITING);
+    s.work = lend(TRAPCARD_WORK);
+    return s;
+}
+
+void must_agree(const struct side *a, const struct side *b, const char *call)
+{
+    if (a->number == b->number && a->orders == b->orders && a->buffer == b->buffer && a->yes == b->yes &&
+        a->offset == b->offset && a->sum == b->sum && memcmp(a->record, b->record, sizeof a->record) == 0 &&
+        memcmp(a->settled, b->settled, a->settled_len) == 0 && memcmp(a->waiting, b->waiting, TRAPCARD_WAITING) == 0 &&
+        memcmp(a->work, b->work, TRAPCARD_WORK) == 0)
+        return;
+    fprintf(stderr, "%s: store and plain C differ (answers %u and %u)\n", call, a->number, b->number);
+    exit(1);
+}
+
+/* ---- Random calls. */
+
+enum { SMALL = 40 }; /* N: six data blocks, so that addresses meet */
+
+static uint64_t state = 1;
+
+static uint32_t draw(uint32_t below)
+{
+    state = state * 6364136223846793005u + 1442695040888963407u;
+    return (uint32_t)(state >> 33) % below;
+}
+
+/* A call's kind and its arguments, drawn once and given to both. */
+struct drawn {
+    uint32_t kind, address, value, power;
+    size_t marks;
+    uint8_t block[TRAPCARD_BLOCK], mark[TRAPCARD_PLACES];
+};
+
+static struct drawn draw_call(uint32_t waiting)
+{
+    struct drawn d = {.kind = draw(24), .address = 33 + draw(SMALL - 32), .power = draw(40)};
+    memset(d.block, (int)draw(256), sizeof d.block);
+    d.marks = draw(8) ? waiting % (TRAPCARD_PLACES + 1) : draw(TRAPCARD_PLACES + 1);
+    for (size_t i = 0; i < d.marks; i++)
+        d.mark[i] = (uint8_t)(draw(64) ? draw(2) : 2);
+    return d;
+}
+
+static void give(struct side *s, const struct drawn *d)
+{
+    const struct calls *c = s->calls;
+    switch (d->kind) {
+    case 0: s->number = c->power(CARD(s), d->power); break;
+    case 1: s->number = c->abandon(CARD(s)); break;
+    case 2: case 3: s->number = c->cut(CARD(s), d->mark, d->marks); break;
+    case 4: case 5: case 6: s->number = c->recover(CARD(s), &s->orders); break;
+    case 7: s->number = c->apply(CARD(s), &s->orders); break;
+    case 8: case 9: case 10: s->number = c->sync(CARD(s), &s->orders); break;
+    case 11: case 12: case 13: s->number = c->commit(CARD(s)); break;
+    case 14: case 15: s->number = c->get(CARD(s), d->address, &s->buffer, &s->offset); break;
+    case 16: s->number = c->tally(s->settled, s->settled_len, &s->sum); break;
+    case 17: s->number = c->alike(s->settled, s->settled_len, s->other, s->settled_len, &s->yes); break;
+    default: s->number = c->put(CARD(s), d->address, d->block, sizeof d->block); break;
+    }
+}
+
+/* Damages a byte that the checks read: of the record, the header, the descriptor or an entry's address. */
+static void damage(struct side *a, struct side *b)
+{
+    uint32_t where = draw(4), at = draw(TRAPCARD_RECORD), i = draw(32);
+    uint8_t value = (uint8_t)draw(48);
+    struct side *both[2] = {a, b};
+    for (int k = 0; k < 2; k++) {
+        uint8_t *bytes = where == 0 ? both[k]->record : where == 1 ? both[k]->settled : both[k]->settled + TRAPCARD_BLOCK;
+        if (where == 3)
+            both[k]->work[516 * i] = value;
+        else
+            bytes[at] = value;
+    }
+}
+
+long random_calls(long n)
+{
+    struct side a = side_new(&trapcard_calls), b = side_new(&plain_calls);
+    a.settled_len = b.settled_len = (size_t)SMALL * TRAPCARD_BLOCK;
+    for (long i = 0; i < n; i++) {
+        if (i % 100 == 0) {
+            a.number = a.calls->format(CARD(&a));
+            b.number = b.calls->format(CARD(&b));
+            memcpy(a.other, a.settled, a.settled_len);
+            memcpy(b.other, b.settled, b.settled_len);
+        }
+        if (draw(50) == 0)
+            damage(&a, &b);
+        struct drawn d = draw_call(trapcard_record_number(a.record, TRAPCARD_RECORD_WAITING));
+        give(&a, &d);
+        give(&b, &d);
+        must_agree(&a, &b, "a random call");
+    }
+    return n;
+}

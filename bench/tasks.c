@@ -1,0 +1,197 @@
+#include "tasks.h"
+
+#include <stdio.h>
+#include <stdlib.h>
+#include <string.h>
+
+/* The data blocks as a walk that meets each once and jumps about. Open, group and log have 32 of its steps each, from here on; the
+ * last two are a block in none of them, and one to be put. */
+enum { OPEN_FROM = 0, GROUP_FROM = 100, LOG_FROM = 200, HOME = 300, NEW = 301 };
+
+static uint32_t walk(uint32_t step)
+{
+    return TRAPCARD_FIRST + step * 1571 % (BLOCKS - TRAPCARD_FIRST);
+}
+
+static const uint8_t block[TRAPCARD_BLOCK] = {1, 2, 3};
+static const uint8_t all_kept[TRAPCARD_PLACES] = {1, 1, 1, 1, 1, 1, 1, 1, 1, 1, 1, 1, 1, 1, 1, 1, 1,
+                                                  1, 1, 1, 1, 1, 1, 1, 1, 1, 1, 1, 1, 1, 1, 1, 1, 1};
+
+static void must(uint32_t number, const char *call)
+{
+    if (number != TRAPCARD_DONE) {
+        fprintf(stderr, "bench: %s answered %u\n", call, number);
+        exit(1);
+    }
+}
+
+static void put_all(struct side *s, uint32_t from, uint32_t n)
+{
+    uint8_t bytes[TRAPCARD_BLOCK];
+    for (uint32_t i = 0; i < n; i++) {
+        memset(bytes, (int)(from + i), sizeof bytes);
+        must(s->calls->put(CARD(s), walk(from + i), bytes, sizeof bytes), "put");
+    }
+}
+
+/* Power for all the writes of a sync of 32 and not for its flush: they wait, and the record is down. */
+static void leave_waiting(struct side *s)
+{
+    put_all(s, GROUP_FROM, TRAPCARD_SLOTS);
+    must(s->calls->commit(CARD(s)), "commit");
+    must(s->calls->power(CARD(s), TRAPCARD_PLACES), "power");
+    s->calls->sync(CARD(s), &s->orders);
+}
+
+void prepare(const struct task *t, struct side *s)
+{
+    must(s->calls->format(CARD(s)), "format");
+    for (size_t i = TRAPCARD_FIRST * TRAPCARD_BLOCK; i < s->settled_len; i++)
+        s->settled[i] = (uint8_t)(i * 2654435761u >> 13);
+    put_all(s, LOG_FROM, t->logged);
+    must(s->calls->commit(CARD(s)), "commit");
+    must(s->calls->sync(CARD(s), &s->orders), "sync");
+    put_all(s, GROUP_FROM, t->grouped - t->shared);
+    put_all(s, OPEN_FROM, t->shared);
+    must(s->calls->commit(CARD(s)), "commit");
+    put_all(s, OPEN_FROM, t->opened);
+    if (t->mode == TRAPCARD_MODE_DOWN)
+        leave_waiting(s);
+    if (t->mode == TRAPCARD_MODE_CLOSED)
+        trapcard_closed_record(s->record, BLOCKS);
+    memcpy(s->other, s->settled, s->settled_len);
+    memcpy(s->saved_record, s->record, sizeof s->record);
+    memcpy(s->saved_descriptor, s->settled + TRAPCARD_BLOCK, TRAPCARD_BLOCK);
+}
+
+void restore(const struct task *t, struct side *s)
+{
+    if (t->restored >= RECORD)
+        memcpy(s->record, s->saved_record, sizeof s->record);
+    if (t->restored >= DESCRIPTOR)
+        memcpy(s->settled + TRAPCARD_BLOCK, s->saved_descriptor, TRAPCARD_BLOCK);
+}
+
+/* ---- The calls. */
+
+static void format(struct side *s)
+{
+    s->number = s->calls->format(CARD(s));
+}
+
+static void power(struct side *s)
+{
+    s->number = s->calls->power(CARD(s), 1000);
+}
+
+static void put_new(struct side *s)
+{
+    s->number = s->calls->put(CARD(s), walk(NEW), block, sizeof block);
+}
+
+static void put_again(struct side *s)
+{
+    s->number = s->calls->put(CARD(s), walk(OPEN_FROM), block, sizeof block);
+}
+
+static void get(struct side *s, uint32_t address)
+{
+    s->number = s->calls->get(CARD(s), address, &s->buffer, &s->offset);
+}
+
+static void get_open(struct side *s)
+{
+    get(s, walk(OPEN_FROM));
+}
+
+static void get_group(struct side *s)
+{
+    get(s, walk(GROUP_FROM));
+}
+
+static void get_log(struct side *s)
+{
+    get(s, walk(LOG_FROM));
+}
+
+static void get_home(struct side *s)
+{
+    get(s, walk(HOME));
+}
+
+static void commit(struct side *s)
+{
+    s->number = s->calls->commit(CARD(s));
+}
+
+static void abandon(struct side *s)
+{
+    s->number = s->calls->abandon(CARD(s));
+}
+
+static void sync(struct side *s)
+{
+    s->number = s->calls->sync(CARD(s), &s->orders);
+}
+
+static void apply(struct side *s)
+{
+    s->number = s->calls->apply(CARD(s), &s->orders);
+}
+
+static void recover(struct side *s)
+{
+    s->number = s->calls->recover(CARD(s), &s->orders);
+}
+
+static void cut(struct side *s)
+{
+    s->number = s->calls->cut(CARD(s), all_kept, sizeof all_kept);
+}
+
+static void tally(struct side *s)
+{
+    s->number = s->calls->tally(s->settled, s->settled_len, &s->sum);
+}
+
+static void alike(struct side *s)
+{
+    s->number = s->calls->alike(s->settled, s->settled_len, s->other, s->settled_len, &s->yes);
+}
+
+#define OPEN TRAPCARD_MODE_OPEN
+#define CLOSED TRAPCARD_MODE_CLOSED
+#define DOWN TRAPCARD_MODE_DOWN
+
+const struct task tasks[] = {
+    {"format, N = 4,096", 0, 0, 0, 0, OPEN, format, NOTHING},
+    {"power, lists empty", 0, 0, 0, 0, OPEN, power, RECORD},
+    {"put, first entry", 0, 0, 0, 0, OPEN, put_new, RECORD},
+    {"put, 32nd entry", 31, 0, 0, 0, OPEN, put_new, RECORD},
+    {"put, replacing the first of 32", 32, 0, 0, 0, OPEN, put_again, RECORD},
+    {"get from open, 1 entry", 1, 0, 0, 0, OPEN, get_open, NOTHING},
+    {"get from open, lists full", 32, 32, 32, 0, OPEN, get_open, NOTHING},
+    {"get from group, 1 entry", 0, 1, 0, 0, OPEN, get_group, NOTHING},
+    {"get from group, lists full", 32, 32, 32, 0, OPEN, get_group, NOTHING},
+    {"get from log, 32 entries", 0, 0, 32, 0, OPEN, get_log, NOTHING},
+    {"get from log, lists full", 32, 32, 32, 0, OPEN, get_log, NOTHING},
+    {"get from home, lists empty", 0, 0, 0, 0, OPEN, get_home, NOTHING},
+    {"get from home, lists full", 32, 32, 32, 0, OPEN, get_home, NOTHING},
+    {"commit of 1", 1, 0, 0, 0, OPEN, commit, RECORD},
+    {"commit of 32, joining", 32, 0, 0, 0, OPEN, commit, RECORD},
+    {"commit of 32, replacing", 32, 32, 0, 32, OPEN, commit, RECORD},
+    {"abandon of 32", 32, 0, 0, 0, OPEN, abandon, RECORD},
+    {"sync of 1", 0, 1, 0, 0, OPEN, sync, DESCRIPTOR},
+    {"sync of 32", 0, 32, 0, 0, OPEN, sync, DESCRIPTOR},
+    {"sync of 1, apply of 32 first", 0, 1, 32, 0, OPEN, sync, DESCRIPTOR},
+    {"sync of 32, apply of 32 first", 0, 32, 32, 0, OPEN, sync, DESCRIPTOR},
+    {"apply of 32", 0, 0, 32, 0, OPEN, apply, RECORD},
+    {"recover, log full", 0, 0, 32, 0, CLOSED, recover, RECORD},
+    {"cut, 34 kept", 0, 0, 0, 0, DOWN, cut, RECORD},
+    {"tally, log full, N = 4,096", 0, 0, 32, 0, OPEN, tally, NOTHING},
+    {"tally, log empty, N = 4,096", 0, 0, 0, 0, OPEN, tally, NOTHING},
+    {"alike, logs full, N = 4,096", 0, 0, 32, 0, OPEN, alike, NOTHING},
+    {"alike, logs empty, N = 4,096", 0, 0, 0, 0, OPEN, alike, NOTHING},
+};
+
+const size_t task_count = sizeof tasks / sizeof *tasks;
