@@ -5,6 +5,7 @@
 ghost use mathlib.Core.Path.{_≡_};
 ghost use Prim.Native.Nat.{_+_, _≤_, _<_};
 ghost use lib.ListN.{length, take};
+ghost use Rattle.journal.specs.Geometry.{trapPlaces};
 ghost use Rattle.powercut.specs.Sets as Sets;
 
 // Up to how many waiting writes all sets are tried.
@@ -12,7 +13,7 @@ const FEW: u32 = 5;
 
 // How many sets there are for n waiting writes.
 pub(crate) fn count(n: u32) -> u32
-    requires { ⌜ n ≤ 34 ⌝ }
+    requires { ⌜ n ≤ trapPlaces ⌝ }
     ensures { λ r. ⌜ r ≡ Sets.setCount n ⌝ }
 {
     if n <= FEW {
@@ -23,7 +24,7 @@ pub(crate) fn count(n: u32) -> u32
 
 // Whether a set keeps write i of n.
 fn keeps(n: u32, set: u32, i: u32) -> bool
-    requires { ⌜ (n ≤ 34) × (i < n) ⌝ }
+    requires { ⌜ (n ≤ trapPlaces) × (i < n) ⌝ }
     ensures { λ r. ⌜ r ≡ Sets.keeps n set i ⌝ }
 {
     if n <= FEW {
@@ -36,7 +37,7 @@ fn keeps(n: u32, set: u32, i: u32) -> bool
 }
 
 fn mark(n: u32, set: u32, i: u32) -> u8
-    requires { ⌜ (n ≤ 34) × (i < n) ⌝ }
+    requires { ⌜ (n ≤ trapPlaces) × (i < n) ⌝ }
     ensures { λ r. ⌜ r ≡ Sets.mark n set i ⌝ }
 {
     if keeps(n, set, i) {
@@ -47,7 +48,7 @@ fn mark(n: u32, set: u32, i: u32) -> u8
 
 // The marks of a set, in front of the buffer.
 pub(crate) fn marks(n: u32, set: u32, to: &mut [u8])
-    requires { ⌜ (n ≤ 34) × (length (now to) ≡ 34) ⌝ }
+    requires { ⌜ (n ≤ trapPlaces) × (length (now to) ≡ trapPlaces) ⌝ }
     ensures { λ _. ⌜ take n (now (to .exit)) ≡ Sets.marks n set ⌝ }
 {
     let mut i = 0;

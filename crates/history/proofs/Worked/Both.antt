@@ -1,5 +1,5 @@
 -- Document 01's two worked scripts. The statement stands in specs/Worked.antt.
-use Prim.Native.Nat.{ℕ, _+_, _/_, _^_, _<_}
+use Prim.Native.Nat.{ℕ, _+_, _/_, _^_, _<_, _*_}
 use mathlib.Core.Path.{_≡_, refl, ap, ap₂, sym, _∙_}
 use mathlib.Core.Logic.{_⊎_}
 use mathlib.Core.Bool.{Bool, true, false, cond, not, _&&_}
@@ -25,7 +25,7 @@ use Rattle.store.specs.declared.record.Record.{Record}
 use Rattle.store.specs.State.{State, Outcome, openMode}
 use Rattle.store.specs.CodeState.{stateOf, fresh as Record·fresh}
 use Rattle.store.specs.Lists.{openFrom, find}
-use Rattle.store.specs.Causes.{wrongSizes, cause}
+use Rattle.store.specs.Causes.{waitingBytes, workBytes, wrongSizes, cause}
 use Rattle.store.specs.Outcomes.{refused, completed, unless}
 use Rattle.store.specs.Format.{formatCall}
 use Rattle.store.specs.Put.{putAt, putCall}
@@ -382,7 +382,7 @@ module _ (st : State) (f : formatCall trap st .answer ≡ 0) (size : blocksIn (s
 
 -- ---- a card of 64 blocks that format takes
 
-sized : (r : Record) (s q k : List ℕ) → length s ≡ 32768 → length q ≡ 17544 → length k ≡ 33024
+sized : (r : Record) (s q k : List ℕ) → length s ≡ blockBytes * 64 → length q ≡ waitingBytes trap → length k ≡ workBytes trap
     → (formatCall trap (stateOf r s q k) .answer ≡ 0) × (blocksIn s ≡ 64)
 unfolding formatCall wrongSizes wrongSize trap
 sized r s q k a b c = (rw (a, b, c), ap (λ (x : ℕ). x / blockBytes) a)
@@ -396,8 +396,11 @@ length-naughts n = length-replicate n 0
 
 blank : (st : State) × (formatCall trap st .answer ≡ 0) × (blocksIn (st .settled) ≡ 64)
 blank =
-    let p = sized (Record·fresh 64) (naughts 32768) (naughts 17544) (naughts 33024) (length-naughts 32768) (length-naughts 17544) (length-naughts 33024) in
-    (stateOf (Record·fresh 64) (naughts 32768) (naughts 17544) (naughts 33024), p .0, p .1)
+    let s = naughts (blockBytes * 64) in
+    let q = naughts (waitingBytes trap) in
+    let k = naughts (workBytes trap) in
+    let p = sized (Record·fresh 64) s q k (length-naughts (blockBytes * 64)) (length-naughts (waitingBytes trap)) (length-naughts (workBytes trap)) in
+    (stateOf (Record·fresh 64) s q k, p .0, p .1)
 
 pub worked : Worked
 worked = record { torn = torn; whole = whole; card = blank }

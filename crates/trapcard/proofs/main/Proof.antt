@@ -1,5 +1,6 @@
 -- `trapcard::main` meets its contract.
 use mathlib.Core.Path.{refl}
+use Rattle.journal.specs.Geometry.{trap}
 use Rattle.trapcard.proofs.Turns.{starts}
 use borrow.Author.Needs.{needs}
 use Rattle.trapcard.proofs.main.Statement.{statement}
@@ -9,6 +10,7 @@ new-requires : tie.Need-new-requires
 new-requires c κs = search needs
 
 run-requires : tie.Need-run-requires
+unfolding trap
 run-requires c κs =
     let n = c .before .before .before .before .before .before .new in
     starts (n .result) _ _ _ _ refl refl refl (n .ensures .0) (n .ensures .1)
