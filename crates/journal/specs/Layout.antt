@@ -1,4 +1,4 @@
--- "Layout": where header, descriptor, slots and data blocks lie in a geometry g.
+-- "Layout": where header, descriptor, slots and data blocks lie in a geometry.
 use Prim.Native.Nat.{ℕ, _+_, _*_, _%_}
 use mathlib.Core.Bool.{Bool, not, _&&_, _||_}
 use mathlib.Core.List.{List}
