@@ -21,17 +21,23 @@ RENAMED = {("any", "rec"): "record", ("trapcard_alike", "a"): "settled_a", ("tra
 NUMBERS = {
     "TRAPCARD_BLOCK": ("cells", "Entry", "blockBytes"),
     "TRAPCARD_RECORD": ("firmware", "Face", "recordBytes"),
-    "TRAPCARD_WAITING": ("store", "Causes", "waitingBytes"),
-    "TRAPCARD_WORK": ("store", "Causes", "workBytes"),
-    "TRAPCARD_LEAST": ("journal", "Layout", "leastBlocks"),
     "TRAPCARD_MOST": ("journal", "Layout", "mostBlocks"),
-    "TRAPCARD_FIRST": ("journal", "Layout", "firstData"),
-    "TRAPCARD_SLOTS": ("journal", "Layout", "slots"),
-    "TRAPCARD_PLACES": ("card", "Card", "places"),
     "TRAPCARD_EMPTY_SUM": ("fnv", "Fnv", "start"),
     "TRAPCARD_MODE_CLOSED": ("store", "State", "closed"),
     "TRAPCARD_MODE_OPEN": ("store", "State", "openMode"),
     "TRAPCARD_MODE_DOWN": ("store", "State", "down"),
+}
+
+# The geometry that the code has: crate, file, name of the instance, and the record that it is one of.
+TRAP = ("journal", "Geometry", "trap", "Geometry")
+
+# Constants that are numbers of that geometry, and definitions that take a geometry, at that one.
+OF_TRAP = {"TRAPCARD_SLOTS": "slots", "TRAPCARD_PLACES": "places"}
+AT_TRAP = {
+    "TRAPCARD_WAITING": ("store", "Causes", "waitingBytes"),
+    "TRAPCARD_WORK": ("store", "Causes", "workBytes"),
+    "TRAPCARD_LEAST": ("journal", "Layout", "leastBlocks"),
+    "TRAPCARD_FIRST": ("journal", "Layout", "firstData"),
 }
 
 # Constants that are clauses of a definition by cases: crate, file, definition, case.
@@ -88,56 +94,107 @@ def squeezed(text):
 # ---- the specifications
 
 
-def spec(crate, name):
-    """The file without its comments."""
+# What stands before the definitions that take a geometry. In them it has no argument of its own.
+OVER = "module _ (geo : Geometry) where"
+
+
+def sections(crate, name):
+    """The file without its comments, in turn: what takes no geometry, and what does, each without its indentation."""
     path = ROOT / "crates" / crate / "specs" / (name.replace(".", "/") + ".antt")
     if not path.exists():
         unread("%s: there is no such file" % path.relative_to(ROOT))
-    return re.sub(r"--.*", "", path.read_text())
+    found = [(False, [])]
+    for line in re.sub(r"[ \t]*--.*", "", path.read_text()).splitlines():
+        if line.startswith("module "):
+            if line != OVER:
+                unread("%s/specs/%s: `%s`" % (crate, name, line))
+            found.append((True, []))
+        else:
+            if line and line[0] != " " and found[-1][0]:
+                found.append((False, []))
+            found[-1][1].append(line.removeprefix("  ") if found[-1][0] else line)
+    return [(over, "\n".join(lines) + "\n") for over, lines in found]
+
+
+def spec(crate, name):
+    """The file without its comments, its definitions without indentation."""
+    return "".join(text for _, text in sections(crate, name))
 
 
 def equations(crate, name, word):
-    """The clauses of a definition: the patterns and the right side, which goes on in the lines that are indented."""
-    found = re.findall(r"^%s((?: [^=\n]+)?) =(.*\n(?:[ \t]+.*\n|\n)*)" % re.escape(word), spec(crate, name) + "\n", re.M)
-    return [(patterns.split(), squeezed(right)) for patterns, right in found]
+    """The clauses of a definition: its section and whether that takes a geometry, the patterns, and the right side, which goes on in
+    the lines that are indented and ends with them or with a brace."""
+    form = re.compile(r"^%s((?: [^=\n]+)?) =(.*\n(?:[ \t]+.*\n|\}\n|\n)*)" % re.escape(word), re.M)
+    return [(place, over, patterns.split(), squeezed(right))
+            for place, (over, text) in enumerate(sections(crate, name)) for patterns, right in form.findall(text)]
 
 
-def equation(crate, name, word, arguments):
-    """The names of the arguments and the right side of a definition in one clause."""
+def equation(crate, name, word):
+    """A definition in one clause: its section, whether that takes a geometry, the names of the arguments, and the right side."""
     found = equations(crate, name, word)
-    if len(found) != 1 or len(found[0][0]) != arguments:
-        unread("%s/specs/%s: `%s` is not one equation with %d arguments" % (crate, name, word, arguments))
+    if len(found) != 1:
+        unread("%s/specs/%s: `%s` is not one equation" % (crate, name, word))
     return found[0]
 
 
 def clause(crate, name, word, case):
     """The number in the clause for a case."""
-    found = [right for patterns, right in equations(crate, name, word) if patterns and patterns[0].strip("()") == case]
+    found = [right for _, _, patterns, right in equations(crate, name, word) if patterns and patterns[0].strip("()") == case]
     if len(found) != 1 or not found[0].isdigit():
         unread("%s/specs/%s: `%s` of %s is not one number" % (crate, name, word, case))
     return int(found[0])
 
 
 def home(crate, name, word):
-    """The file that defines a word, as the file given sees it: itself, or one that it uses."""
+    """The file that defines a word, as the file given sees it: itself, or the home that one of those has which it uses."""
     if re.search(r"^(?:abbrev|unfoldable) pub %s :" % re.escape(word), spec(crate, name), re.M):
         return crate, name
-    uses = re.findall(r"^use Rattle·(\w+?)(?:·specs)?\.specs\.([\w.]+)\.\{([^}]*)\}", spec(crate, name), re.M)
+    uses = re.findall(r"^(?:pub )?use Rattle·(\w+?)(?:·specs)?\.specs\.([\w.]+)\.\{([^}]*)\}", spec(crate, name), re.M)
     for other, module, words in uses:
         if word in re.split(r"[,\s]+", words):
-            return other, module
+            return home(other, module, word)
     unread("%s/specs/%s: where does `%s` come from?" % (crate, name, word))
 
 
-def number(crate, name, word, arguments=()):
-    """The value of a definition by sums and products of numerals, of its arguments and of such definitions."""
+def number(crate, name, word, arguments=(), seen=None):
+    """The value of a definition by sums and products of numerals, of its arguments, of a geometry's numbers and of such definitions.
+    Its geometry is the first argument; it is understood where the word is `seen` from its own section, with the geometry there."""
     crate, name = home(crate, name, word)
-    names, right = equation(crate, name, word, len(arguments))
-    bound = dict(zip(names, arguments))
-    meaning = lambda head, given: bound[head] if head in bound and not given else number(crate, name, head, given)
+    place, over, names, right = equation(crate, name, word)
+    arguments = list(arguments)
+    if over:
+        names = ["geo"] + names
+        if seen and seen[0] == (crate, name, place):
+            arguments.insert(0, seen[1])
+    if len(names) != len(arguments):
+        unread("%s/specs/%s: `%s` has %d arguments, not %d" % (crate, name, word, len(names), len(arguments)))
+    if over and not isinstance(arguments[0], dict) or any(isinstance(a, dict) for a in arguments[over:]):
+        unread("%s/specs/%s: the geometry that `%s` takes" % (crate, name, word))
+    return valued(crate, name, right, dict(zip(names, arguments)), (crate, name, place))
+
+
+def valued(crate, name, right, bound, section):
+    """The number that an expression of a file is, where the names bound have these values."""
+    seen = section, bound.get("geo")
+    meaning = lambda head, given: bound[head] if head in bound and not given else number(crate, name, head, given, seen)
     tokens = re.findall(r"[()]|[^\s()]+", right) + ["end"]
     value = summed(tokens, meaning)
-    return value if tokens == ["end"] else unread("`%s = %s`" % (word, right))
+    return value if tokens == ["end"] and isinstance(value, int) else unread("`%s`, which is to be a number" % right)
+
+
+def geometry():
+    """The numbers of the geometry that the code has; its other fields are proofs."""
+    crate, name, word, kind = TRAP
+    declared = re.search(r"^pub record %s : Type 0 where\n((?:  .*\n|\n)*)" % kind, spec(crate, name), re.M)
+    place, over, names, right = equation(crate, name, word)
+    given = re.fullmatch(r"record \{ (.*;) \}", right)
+    if not declared or not given or over or names:
+        unread("%s/specs/%s: `%s`, or the record %s" % (crate, name, word, kind))
+    values = dict(re.findall(r"(\w+) = ([^;]*);", given[1]))
+    fields = re.findall(r"^  pub (\w+) : ℕ$", declared[1], re.M)
+    if not fields or set(fields) - set(values):
+        unread("%s/specs/%s: the numbers of %s" % (crate, name, word))
+    return {field: valued(crate, name, values[field], {}, (crate, name, place)) for field in fields}
 
 
 def summed(tokens, meaning):
@@ -157,10 +214,13 @@ def multiplied(tokens, meaning):
 
 
 def applied(tokens, meaning):
-    """A word and the atoms that it is applied to, or an atom."""
+    """A word and the atoms that it is applied to, or an atom, or a number of a geometry."""
     if tokens[0] == "(" or tokens[0].isdigit():
         return atom(tokens, meaning)
     head, given = tokens.pop(0), []
+    if tokens[0].startswith("."):
+        field, whole = tokens.pop(0)[1:], meaning(head, [])
+        return whole[field] if isinstance(whole, dict) and field in whole else unread("`%s .%s`" % (head, field))
     while tokens[0] not in ("+", "*", ")", "end"):
         given.append(atom(tokens, meaning))
     return meaning(head, given)
@@ -177,7 +237,9 @@ def atom(tokens, meaning):
 def offsets():
     """Each field of the record with the byte where it starts."""
     at, found = 0, {}
-    _, right = equation(*ROW, 0)
+    _, over, names, right = equation(*ROW)
+    if over or names:
+        unread("%s: it has arguments" % ROW[2])
     for part in right.removesuffix("∷ []").split("∷"):
         piece = re.fullmatch(r"\((\d+), λ (\w+)\. \2 \.(\w+)\)", part.strip())
         if not piece:
@@ -194,7 +256,7 @@ def rows():
     text = spec(*TABLE)
     found = {}
     for name in re.findall(r"^abbrev pub (\w+) : (?:[^\n]* → )?Row$", text, re.M):
-        right = [right for _, right in equations(*TABLE, name)]
+        right = [right for _, _, _, right in equations(*TABLE, name)]
         row = len(right) == 1 and re.fullmatch(r"record \{ number = (\d+); test = ([^{};]*);? \}", right[0])
         if not row:
             unread("`%s`, a row of the table of causes" % name)
@@ -226,7 +288,10 @@ def causes():
 
 def specified():
     """Every constant with the number that the specifications have."""
+    trap = geometry()
     values = {macro: number(*where) for macro, where in NUMBERS.items()}
+    values.update((macro, trap[field]) for macro, field in OF_TRAP.items())
+    values.update((macro, number(*where, [trap])) for macro, where in AT_TRAP.items())
     values.update((macro, clause(*where)) for macro, where in CLAUSES.items())
     places = offsets()
     values.update((macro, places[field]) for macro, field in FIELDS.items())

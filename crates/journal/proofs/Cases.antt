@@ -7,7 +7,6 @@ use lib.Bits.{bitXor}
 use lib.Dec.{T, eqb, eqb→eq}
 use Rattle.fnv.specs.Fnv.{start, prime, step}
 use Rattle.fnv.proofs.Laws.{sum-nil}
-use Rattle.journal.specs.Geometry.Laws.{trap-slots, trap-descriptors}
 use Rattle.journal.specs.Geometry.{trap}
 use Rattle.journal.specs.Layout.{slotAt, isData, placeOf}
 use Rattle.journal.specs.Cases.{Case, emptySum, sumStep, syncTakes, applyTakes, slotStarts, blockStarts, addressIs, Claim, RowsHold, cases}
@@ -51,4 +50,5 @@ holds [] t = tt
 holds (c ∷ cs) t = let p = first (right c) (all cs) t in (claim c (p .0), holds cs (p .1))
 
 pub cases-hold : RowsHold cases
-cases-hold = holds cases (rw (trap-slots, trap-descriptors) tt)
+unfolding trap
+cases-hold = holds cases tt
