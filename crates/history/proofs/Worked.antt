@@ -3,4 +3,5 @@ pub mod Sums
 pub mod Card
 pub mod Plain
 pub mod Sync
+pub mod Blank
 pub mod Both

@@ -1,5 +1,5 @@
 -- "The plain disk": a machine of its own, from its own section of document 01. Of the store it shares entries, the overlay, the
--- numbers of the causes, the data-block test and the names of the calls.
+-- numbers of the causes, the data-block test, the names of the calls, and those of a cut's marks.
 use Prim.Native.Nat.{ℕ, _+_, _-_}
 use mathlib.Core.Bool.{Bool, true, false, cond, not, _&&_, _||_}
 use mathlib.Core.List.{List, [], _∷_}

@@ -11,7 +11,6 @@ use Rattle.fnv.specs.Fnv.{start, sumFrom}
 use Rattle.card.specs.Card.{blockAt}
 use Rattle.journal.specs.declared.header.Header.{Header}
 use Rattle.journal.specs.Geometry.{Geometry}
-use Rattle.journal.specs.Geometry.{Geometry}
 use Rattle.journal.specs.Layout.{headerAt, descriptorAt, slotAt, isData}
 use Rattle.journal.specs.Header.{decode}
 

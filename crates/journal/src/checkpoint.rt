@@ -1,4 +1,4 @@
-// Checkpointing: the log's blocks are written home and an empty log's header behind them. And the fallback to a shorter log.
+// Checkpointing: the log's blocks are written home and an empty log's header behind them.
 use crate::header::Header;
 use crate::log::slot_address;
 use crate::log::slot_block;
@@ -15,7 +15,7 @@ ghost use Rattle.card.specs.CodeQueue.{cardOf, Below};
 ghost use Rattle.journal.specs.Geometry.{trap};
 ghost use Rattle.journal.specs.Layout.{firstData};
 ghost use Rattle.journal.specs.Log.{slotAddress, entries};
-ghost use Rattle.journal.specs.Orders.{checkpointOrders, fallbackOrders};
+ghost use Rattle.journal.specs.Orders.{checkpointOrders};
 
 // The writes of the log's blocks to their home addresses, in slot order.
 fn write_homes(queue: Queue, settled: &[u8], waiting: &mut [u8], n: u32) -> Ordered
@@ -70,23 +70,4 @@ pub fn checkpoint(
         return f;
     }
     Header::empty(blocks).order(f.queue, settled, waiting)
-}
-
-// Makes the log its first p entries, whose sum is given: a header with both counts p and both sums p's, a flush.
-pub fn fallback(
-    queue: Queue,
-    settled: &mut [u8],
-    waiting: &mut [u8],
-    blocks: u32,
-    p: u32,
-    sum: u64,
-) -> Ordered
-    requires { ⌜ 0 < blocksIn (now settled) ⌝ }
-    requires { ⌜ queue .waiting < mostPlaces ⌝ }
-    requires { ⌜ entryBytes * queue .waiting + entryBytes ≤ length (now waiting) ⌝ }
-    requires { ⌜ Below (blocksIn (now settled)) (now waiting) (queue .waiting) ⌝ }
-    ensures { λ r. ⌜ r .happened ≡ leb 2 (queue .power) ⌝ }
-    ensures { λ r. ⌜ cardOf (now (settled .exit)) (now (waiting .exit)) (r .queue) ≡ run (fallbackOrders blocks p sum) (cardOf (now (settled .entry)) (now (waiting .entry)) queue) ⌝ }
-{
-    Header::new(blocks, p, sum, p, sum).order(queue, settled, waiting)
 }

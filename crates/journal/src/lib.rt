@@ -2,6 +2,7 @@
 pub mod append;
 pub mod checkpoint;
 pub mod choice;
+pub mod fallback;
 pub mod header;
 pub mod log;
 pub mod lookup;

@@ -1,18 +1,16 @@
 -- What becomes of a sync that is cut short, from a finished sync or recovery to the next recovery.
-use Prim.Native.Nat.{ℕ, zero, suc, _+_, _-_, _≤_, _<_}
+use Prim.Native.Nat.{ℕ, _+_, _-_, _≤_, _<_}
 use mathlib.Core.Path.{_≡_, refl, ap, ap₂, sym, _∙_}
 use mathlib.Core.Logic.{_≢_, _⊎_}
-use mathlib.Core.Bool.{Bool, true, false, true≢false, false≢true, cond, not, _&&_}
+use mathlib.Core.Bool.{Bool, true, false, true≢false, cond, not, _&&_}
 use mathlib.Core.List.{List, [], _∷_}
 use native.Mathlib.Omega.{arith}
 use native.Mathlib.Decide.{ℕ-discrete, decLe}
 use borrow.Author.Tests.{eq-eqb, ne-eqb, eqb-true, not-true}
 use lib.Dec.{eqb, leb}
-use lib.ListN.{length, getD}
+use lib.ListN.{length}
 use Rattle.cells.specs.Entry.{Entry}
 use Rattle.card.specs.Disk.{Disk, overlay}
-use Rattle.card.specs.Card as Card
-use Rattle.card.specs.Card.{queue}
 use Rattle.card.specs.Marks.{marksFit, keptAt, allKept}
 use Rattle.journal.specs.Geometry.{Geometry}
 use Rattle.journal.proofs.Choices.{both}
@@ -20,24 +18,21 @@ use Rattle.crash.proofs.Leads.{foundIn}
 use Rattle.store.specs.Local.{Local}
 use Rattle.store.specs.Save as Save
 use Rattle.store.specs.Request as Request
-use Rattle.store.specs.State.{State, Outcome, closed, openMode, down, withQueue, withRecord}
-use Rattle.store.specs.Causes.{cause}
+use Rattle.store.specs.State.{State, Outcome, closed, openMode}
 use Rattle.store.specs.Saves.{groupOf}
-use Rattle.history.specs.Call.{Call, requestOf, local, save, cut, power, sync, apply, recover}
+use Rattle.history.specs.Call.{Call, local, save, cut, power, sync, apply, recover}
 use Rattle.history.specs.Plain as Plain
-use Rattle.history.specs.Plain.{Plain, Done, withPower, Short, ofSync, ofRecover, Verdict, verdict, applies, syncTakes, syncWaits, ownVerdict, unchanged, headerKept, refusal, plainStep, plainSync, plainApply, plainRecover}
+use Rattle.history.specs.Plain.{Plain, Done, Short, ofSync, ofRecover, Verdict, verdict, syncTakes, syncWaits, unchanged, headerKept, refusal, plainStep, plainSync, plainApply, plainRecover}
 use Rattle.history.specs.Dispatch.{dispatch}
-use Rattle.history.specs.Ledger.{Ledger, entered, inner, sameLog}
-use Rattle.history.specs.History.{World, next, after, storeNext, ledgerNext, foundWritten, acceptedCut}
+use Rattle.history.specs.Ledger.{entered, inner, sameLog}
+use Rattle.history.specs.History.{World, next, after, storeNext, ledgerNext, foundWritten}
 use Rattle.history.specs.Statements as S
-use Rattle.history.specs.Statements.{Fate, quiet, decided, Progress, known, undecided, observe, fate, outcome, WholeIsNew, shortSync, noneFinished, headed, atCut}
-use Rattle.store.proofs.Causes.{needsOpen}
+use Rattle.history.specs.Statements.{Fate, quiet, decided, Progress, known, undecided, observe, fate, outcome, WholeIsNew, shortSync, noneFinished, headed}
 use Rattle.history.proofs.Relation.CauseLaws.{cause-passes}
 use Rattle.history.proofs.Relation.Sim.{Basics, OpenSim, ClosedSim, DownSim, cutSettled, cutWritten}
 use Rattle.history.proofs.Relation.PlainLaws
-use Rattle.history.proofs.Relation.PlainLaws.{innerTakes, countMet, apply-laid}
-use Rattle.history.proofs.Steps.Shown.{plainNext, WorldSim, same-cause, dispatch-refused, entered-refused, plain-refused, plain-served}
-use Rattle.history.proofs.Steps.Local.{is-open}
+use Rattle.history.proofs.Relation.PlainLaws.{innerTakes, apply-laid}
+use Rattle.history.proofs.Steps.Shown.{plainNext, WorldSim, same-cause, plain-served}
 use Rattle.history.proofs.Relation.OpenFacts as Facts
 use Rattle.history.proofs.Steps.Cut as CutStep
 use Rattle.history.proofs.Steps.Recover.{is-closed}
@@ -45,151 +40,7 @@ use Rattle.history.proofs.Steps.Sync.{short-whole}
 use Rattle.history.proofs.Steps.ListInduction.{step, next-sim, clean-first}
 use Rattle.history.proofs.Relation.PlainAnswers.{sync-cases, LocalKind, powers, opens, local-kind}
 use Rattle.history.proofs.Atomicity.ReadsBack.{power-served, cut-accepted}
-
--- ---- phases
-
-module _ (geo : Geometry) where
-  abbrev pub planned : Plain → List ℕ → Bool → Verdict
-  planned d ms found = verdict geo (d .short) (d .n) (length (d .G)) (d .F) (headerKept ms (d .waiting)) found
-
--- open: nothing has happened to S
-pub record OpenPhase (old : Disk) (st : State) (d : Plain) : Type 0 where
-  pub mode : st .rec .mode ≡ openMode
-  pub S : d .S ≡ old
-
-module _ (geo : Geometry) where
-  -- not open, and no cut lays anything
-  pub record OtherPhase (old : Disk) (f : Fate) (st : State) (d : Plain) : Type 0 where
-    pub mode : st .rec .mode ≢ openMode
-    pub S : d .S ≡ outcome f old
-    pub laid : (ms : List ℕ) (found : Bool) → planned geo d ms found .laid ≡ false
-    pub whole : WholeIsNew f
-
-  -- down by a sync of the group G
-  pub record ShortPhase (old : Disk) (G : List Entry) (place : ℕ) (made : Bool) (st : State) (l : Ledger) (d : Plain) : Type 0 where
-    pub mode : st .rec .mode ≡ down
-    pub S : d .S ≡ old
-    pub group : d .G ≡ G
-    pub laid : (ms : List ℕ) (found : Bool) → planned geo d ms found .laid ≡ made && keptAt ms place && found
-    pub whole : made ≡ true → (ms : List ℕ) → marksFit ms (st .rec .waiting) ≡ true → allKept ms ≡ true → (keptAt ms place ≡ true) × (sameLog (foundIn geo (cutSettled ms st)) (cutWritten ms l) ≡ true)
-
-  abbrev pub Watch : Disk → Progress → State → Ledger → Plain → Type 0
-  Watch old (known quiet) st l d = OpenPhase old st d ⊎ OtherPhase old quiet st d
-  Watch old (undecided G place made) st l d = ShortPhase old G place made st l d
-  Watch old (known (decided G laid all)) st l d = OtherPhase old (decided G laid all) st d
-
--- ---- a refused call
-
--- a sync that ran out of power itself is a sync on an open record
-pub record IsShort (c : Call) (w : World) : Type 0 where
-  pub is : c ≡ sync
-  pub mode : w .store .rec .mode ≡ openMode
-
-module _ (geo : Geometry) where
-  pub short-is : (c : Call) (w : World) → shortSync geo c w ≡ true → IsShort c w
-  unfolding shortSync
-  short-is (local c) w h = absurd (false≢true h)
-  short-is (save Save.sync) w h = record { is = refl; mode = eqb-true _ _ (both (eqb (w .store .rec .mode) openMode) (eqb (dispatch geo sync (w .store) .answer) 4) h .0) }
-  short-is (save Save.apply) w h = absurd (false≢true h)
-  short-is (save Save.recover) w h = absurd (false≢true h)
-  short-is (cut ms) w h = absurd (false≢true h)
-
-  pub not-short : (c : Call) (w : World) → (c ≡ sync → w .store .rec .mode ≢ openMode) → shortSync geo c w ≡ false
-  not-short c w n = go (shortSync geo c w) refl
-    where
-      go : (t : Bool) → shortSync geo c w ≡ t → t ≡ false
-      go false p = refl
-      go true p = let s = short-is c w p in absurd (n (s .is) (s .mode))
-
-  -- on an open record a sync is never refused
-  pub open-serves : (w : World) → WorldSim geo w → w .store .rec .mode ≡ openMode → refusal geo sync (w .plain) ≡ 0
-  unfolding refusal
-  open-serves w m o =
-      let d : w .plain .mode ≡ 1 = m .basics .mirrors .mode ∙ o in
-      rw (ne-eqb (w .plain .mode) 0 (λ z. omega arith), ne-eqb (w .plain .mode) 2 (λ z. omega arith))
-
-  refused-short : (c : Call) (w : World) → refusal geo c (w .plain) ≢ 0 → WorldSim geo w → shortSync geo c w ≡ false
-  refused-short c w h m = not-short c w (λ e o. h (ap (λ (x : Call). refusal geo x (w .plain)) e ∙ open-serves w m o))
-
-  refused-cut : (ms : List ℕ) (w : World) → refusal geo (cut ms) (w .plain) ≢ 0 → WorldSim geo w → acceptedCut geo (cut ms) w ≡ false
-  unfolding acceptedCut
-  refused-cut ms w h m =
-      let k : cause geo (Request.cut ms) (w .store) ≢ 0 = λ e. h (sym (same-cause geo (w .store) (w .ledger) (w .plain) m (cut ms)) ∙ e) in
-      let e : dispatch geo (cut ms) (w .store) .answer ≡ cause geo (Request.cut ms) (w .store) = ap (λ (o : Outcome). o .answer) (dispatch-refused geo (cut ms) (w .store) k) in
-      rw e (ne-eqb _ 0 k)
-
-  refused-at : (c : Call) (w : World) (G : List Entry) (place : ℕ) (made : Bool) → refusal geo c (w .plain) ≢ 0 → WorldSim geo w → atCut geo c w G place made ≡ undecided G place made
-  refused-at (local c) w G place made h m = refl
-  refused-at (save c) w G place made h m = refl
-  refused-at (cut ms) w G place made h m =
-      ap (λ (t : Bool). cond t (known (decided G (made && keptAt ms place && foundWritten geo (cut ms) w) (made && allKept ms))) (undecided G place made)) (refused-cut ms w h m)
-
-  observe-refused : (c : Call) (w : World) (f : Progress) → refusal geo c (w .plain) ≢ 0 → WorldSim geo w → observe geo c w f ≡ f
-  unfolding observe
-  observe-refused c w (known quiet) h m = rw (refused-short c w h m)
-  observe-refused c w (undecided G place made) h m = refused-at c w G place made h m
-  observe-refused c w (known (decided G laid all)) h m = refl
-
-  watch-at : (old : Disk) {f f′ : Progress} {st st′ : State} {l l′ : Ledger} {d d′ : Plain} → f′ ≡ f → st′ ≡ st → l′ ≡ l → d′ ≡ d → Watch geo old f st l d → Watch geo old f′ st′ l′ d′
-  watch-at old a b c e x = rw (a, b, c, e) x
-
-  watch-refused : (old : Disk) (c : Call) (w : World) (f : Progress) → refusal geo c (w .plain) ≢ 0 → WorldSim geo w → Watch geo old f (w .store) (w .ledger) (w .plain)
-      → Watch geo old (observe geo c w f) (storeNext geo c w) (ledgerNext geo c w) (plainNext geo c w)
-  watch-refused old c w f h m x =
-      let k : cause geo (requestOf c) (w .store) ≢ 0 = λ e. h (sym (same-cause geo (w .store) (w .ledger) (w .plain) m c) ∙ e) in
-      watch-at old (observe-refused c w f h m) (ap (λ (o : Outcome). o .state) (dispatch-refused geo c (w .store) k)) (entered-refused geo c (w .store) (w .ledger) k)
-      (ap (λ (o : Done). o .plain) (plain-refused geo c (foundWritten geo c w) (w .plain) h)) x
-
-  -- ---- a call that is served
-
-  power-watch : (old : Disk) (k : ℕ) (f : Progress) (st : State) (l : Ledger) (d : Plain) → Watch geo old f st l d → Watch geo old f (withRecord (withQueue (st .rec .waiting) k (st .rec)) st) l (withPower k d)
-  unfolding Card.cut queue
-  power-watch old k (known quiet) st l d (_⊎_.inl x) = _⊎_.inl (record { mode = x .mode; S = x .S })
-  power-watch old k (known quiet) st l d (_⊎_.inr x) = _⊎_.inr (record { mode = x .mode; S = x .S; laid = x .laid; whole = x .whole })
-  power-watch old k (undecided G place made) st l d x = record { mode = x .mode; S = x .S; group = x .group; laid = x .laid; whole = x .whole }
-  power-watch old k (known (decided G laid all)) st l d x = record { mode = x .mode; S = x .S; laid = x .laid; whole = x .whole }
-
-  power-same : (k : ℕ) (w : World) (f : Progress) → observe geo (power k) w f ≡ f
-  unfolding observe shortSync
-  power-same k w (known quiet) = refl
-  power-same k w (undecided G place made) = refl
-  power-same k w (known (decided G laid all)) = refl
-
-  -- open: no sync was cut short yet
-  open-watch : (old : Disk) (f : Progress) (st : State) (l : Ledger) (d : Plain) → Watch geo old f st l d → st .rec .mode ≡ openMode → (f ≡ known quiet) × (d .S ≡ old)
-  open-watch old (known quiet) st l d (_⊎_.inl x) e = (refl, x .S)
-  open-watch old (known quiet) st l d (_⊎_.inr x) e = absurd (x .mode e)
-  open-watch old (undecided G place made) st l d x e = absurd (omega (arith, x .mode))
-  open-watch old (known (decided G laid all)) st l d x e = absurd (x .mode e)
-
-  -- closed: what became of it is known
-  pub record Closed (old : Disk) (f : Progress) (st : State) (d : Plain) : Type 0 where
-    pub end : Fate
-    pub fated : f ≡ known end
-    pub phase : OtherPhase geo old end st d
-
-  pub closed-watch : (old : Disk) (f : Progress) (st : State) (l : Ledger) (d : Plain) → Watch geo old f st l d → st .rec .mode ≡ closed → Closed old f st d
-  closed-watch old (known quiet) st l d (_⊎_.inl x) e = absurd (omega (arith, x .mode))
-  closed-watch old (known quiet) st l d (_⊎_.inr x) e = record { end = quiet; fated = refl; phase = x }
-  closed-watch old (undecided G place made) st l d x e = absurd (omega (arith, x .mode))
-  closed-watch old (known (decided G laid all)) st l d x e = record { end = decided G laid all; fated = refl; phase = x }
-
-  to-watch : (old : Disk) (f : Fate) (st : State) (l : Ledger) (d : Plain) → OtherPhase geo old f st d → Watch geo old (known f) st l d
-  to-watch old quiet st l d x = _⊎_.inr x
-  to-watch old (decided G laid all) st l d x = x
-
-  -- a call that needs an open record, keeps it open and leaves S
-  open-kept : (old : Disk) (c : Call) (w : World) (f : Progress) → WorldSim geo w → w .store .rec .mode ≡ openMode → Watch geo old f (w .store) (w .ledger) (w .plain)
-      → plainNext geo c w .mode ≡ w .plain .mode → plainNext geo c w .S ≡ w .plain .S → observe geo c w (known quiet) ≡ known quiet
-      → Watch geo old (observe geo c w f) (storeNext geo c w) (ledgerNext geo c w) (plainNext geo c w)
-  open-kept old c w f m o x p s q =
-      let y = open-watch old f (w .store) (w .ledger) (w .plain) x o in
-      watch-at old (ap (observe geo c w) (y .0) ∙ q) refl refl refl
-      (_⊎_.inl (record { mode = step geo c w m .agrees .mode ∙ p ∙ m .basics .mirrors .mode ∙ o; S = s ∙ y .1 }))
-
-  pub open-now : (c : Call) (w : World) → WorldSim geo w → needsOpen geo (requestOf c) ≡ true → refusal geo c (w .plain) ≡ 0 → OpenSim geo (w .store) (w .ledger) (w .plain)
-  open-now c w m n h =
-      is-open geo (w .store) (w .ledger) (w .plain) m (requestOf c) n (cause-passes geo (requestOf c) (w .store) (same-cause geo (w .store) (w .ledger) (w .plain) m c ∙ h))
+use Rattle.history.proofs.Atomicity.Phases.{ShortPhase, Watch, closed-watch, open-kept, open-now, open-watch, planned, power-same, power-watch, to-watch, watch-at, watch-refused}
 
 -- ---- sync
 

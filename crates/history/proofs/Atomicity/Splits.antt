@@ -31,7 +31,8 @@ use Rattle.history.proofs.Steps.Cut as CutStep
 use Rattle.history.proofs.Steps.ListInduction.{step, next-sim, after-sim, after-append, clean-before, clean-first, begun-sim, formatted-now}
 use Rattle.history.proofs.Relation.PlainAnswers.{sync-cases, LocalKind, powers, opens, local-kind, served-N}
 use Rattle.history.proofs.Atomicity.ReadsBack.{found-closed, plain-same, recovered-sim, recovered-mode, power-served}
-use Rattle.history.proofs.Atomicity.ShortSyncs.{Watch, short-is, not-short, open-serves, open-now, closed-watch, watch-list, short-plain}
+use Rattle.history.proofs.Atomicity.Phases.{Watch, short-is, not-short, open-serves, open-now, closed-watch}
+use Rattle.history.proofs.Atomicity.ShortSyncs.{watch-list, short-plain}
 
 -- ---- N never changes
 

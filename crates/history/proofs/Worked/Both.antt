@@ -1,5 +1,5 @@
 -- Document 01's two worked scripts. The statement stands in specs/Worked.antt.
-use Prim.Native.Nat.{ℕ, _+_, _/_, _^_, _<_, _*_}
+use Prim.Native.Nat.{ℕ, _+_, _^_, _<_}
 use mathlib.Core.Path.{_≡_, refl, ap, ap₂, sym, _∙_}
 use mathlib.Core.Logic.{_⊎_}
 use mathlib.Core.Bool.{Bool, true, false, cond, not, _&&_}
@@ -17,15 +17,13 @@ use Rattle.card.specs.Marks.{overOne, marksFit, keptAt, allKept}
 use Rattle.journal.specs.Geometry.{trap}
 use Rattle.journal.specs.declared.lookup.Found.{Found}
 use Rattle.journal.specs.declared.lookup.Found.the-variants.{At, Absent}
-use Rattle.journal.specs.Layout.{descriptorAt, isData, wrongSize}
+use Rattle.journal.specs.Layout.{descriptorAt, isData}
 use Rattle.crash.proofs.Leads.{foundIn}
 use Rattle.crash.proofs.Logs.{slotE, logD}
 use Rattle.store.specs.Request as Request
-use Rattle.store.specs.declared.record.Record.{Record}
 use Rattle.store.specs.State.{State, Outcome, openMode}
-use Rattle.store.specs.CodeState.{stateOf, fresh as Record·fresh}
 use Rattle.store.specs.Lists.{openFrom, find}
-use Rattle.store.specs.Causes.{waitingBytes, workBytes, wrongSizes, cause}
+use Rattle.store.specs.Causes.{cause}
 use Rattle.store.specs.Outcomes.{refused, completed, unless}
 use Rattle.store.specs.Format.{formatCall}
 use Rattle.store.specs.Put.{putAt, putCall}
@@ -48,6 +46,7 @@ use Rattle.history.proofs.Atomicity.Splits.{SplitReading, split-reading
 use Rattle.history.proofs.Worked.Sums.{other-sum}
 use Rattle.history.proofs.Worked.Plain.{openAt, downAt, closedAt, plain-put, plain-commit, plain-filed, plain-power, plain-halted, plain-torn, plain-whole, plain-again, plain-fallback, plain-found, Went, went}
 use Rattle.history.proofs.Worked.Sync.{group-is, grouped-is, no-inner, filed-log, filed-next, halted-written, halted-torn, halted-whole}
+use Rattle.history.proofs.Worked.Blank.{blank}
 
 -- what is known is one
 known-same : {e f : Fate} → known e ≡ known f → e ≡ f
@@ -379,28 +378,6 @@ module _ (st : State) (f : formatCall trap st .answer ≡ 0) (size : blocksIn (s
   whole : Script st (1 ∷ 1 ∷ 1 ∷ []) true true true 0 nines
   unfolding allKept keptAt overlay lay
   whole = script (1 ∷ 1 ∷ 1 ∷ []) true 0 (whole-cuts w₃ all-filed) true true nines refl refl refl
-
--- ---- a card of 64 blocks that format takes
-
-sized : (r : Record) (s q k : List ℕ) → length s ≡ blockBytes * 64 → length q ≡ waitingBytes trap → length k ≡ workBytes trap
-    → (formatCall trap (stateOf r s q k) .answer ≡ 0) × (blocksIn s ≡ 64)
-unfolding formatCall wrongSizes wrongSize trap
-sized r s q k a b c = (rw (a, b, c), ap (λ (x : ℕ). x / blockBytes) a)
-
-naughts : ℕ → List ℕ
-naughts n = replicate n 0
-
-length-naughts : (n : ℕ) → length (naughts n) ≡ n
-unfolding naughts
-length-naughts n = length-replicate n 0
-
-blank : (st : State) × (formatCall trap st .answer ≡ 0) × (blocksIn (st .settled) ≡ 64)
-blank =
-    let s = naughts (blockBytes * 64) in
-    let q = naughts (waitingBytes trap) in
-    let k = naughts (workBytes trap) in
-    let p = sized (Record·fresh 64) s q k (length-naughts (blockBytes * 64)) (length-naughts (waitingBytes trap)) (length-naughts (workBytes trap)) in
-    (stateOf (Record·fresh 64) s q k, p .0, p .1)
 
 pub worked : Worked
 worked = record { torn = torn; whole = whole; card = blank }

@@ -38,7 +38,7 @@ use Rattle.history.proofs.Steps.Gives.{Gives, gives-settled, short-call
 use Rattle.history.proofs.Steps.Worlds.{openWorld, Opened, opened}
 use Rattle.history.proofs.Steps.SyncMeets.{single, met-itself}
 use Rattle.history.proofs.Steps.Sync.{gives, short-whole}
-use Rattle.history.proofs.Atomicity.ShortSyncs.{open-now}
+use Rattle.history.proofs.Atomicity.Phases.{open-now}
 use Rattle.history.proofs.Worked.Card.{second-zero, torn-found}
 use Rattle.history.proofs.Worked.Plain.{openAt}
 

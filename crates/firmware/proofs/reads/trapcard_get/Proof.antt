@@ -5,7 +5,6 @@ use Rattle.firmware.proofs.Faces.{got-length, got-named, got-done}
 use Rattle.firmware.proofs.reads.trapcard_get.Statement.{statement}
 use Rattle.firmware.proofs.reads.trapcard_get.Tie as tie
 
-
 returns : tie.Need-returns
 returns c = got-length trap _ _ _ _ _ (c .if1 .taken)
 

@@ -7,7 +7,6 @@ use Rattle.inspect.proofs.Comparisons.{alike-first, alike-second, alike
 use Rattle.inspect.proofs.alike.alike.Statement.{statement}
 use Rattle.inspect.proofs.alike.alike.Tie as tie
 
-
 -- the first card is taken, and the second
 taken-a : (c : tie.Else1) → TakenList trap (c .before .before .before .before .before .args .a .now) (c .before .before .inspect .result)
 taken-a c = read-taken trap _ _ (c .before .before .inspect .ensures) (c .if1 .left)

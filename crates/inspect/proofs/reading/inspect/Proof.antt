@@ -16,7 +16,6 @@ use Rattle.inspect.proofs.Readings.{right-size, wrong-refused, right-ch
 use Rattle.inspect.proofs.reading.inspect.Statement.{statement}
 use Rattle.inspect.proofs.reading.inspect.Tie as tie
 
-
 -- the size is right, and the choice is that of the card
 right : (c : tie.Else1) → wrongSize trap (c .before .before .before .args .settled .now) ≡ false
 right c = sym (c .before .wrong-size .ensures) ∙ c .if1 .left

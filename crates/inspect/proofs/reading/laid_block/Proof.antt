@@ -14,7 +14,6 @@ use Rattle.inspect.proofs.Readings.{laid-slot, laid-home}
 use Rattle.inspect.proofs.reading.laid_block.Statement.{statement}
 use Rattle.inspect.proofs.reading.laid_block.Tie as tie
 
-
 -- what the lookup found
 in-slot : (c : tie.After-i) → let a = c .before .before .before .before .args in lastSlot (a .settled .now) (a .a) (a .n) ≡ At (c .i .given .0 .0)
 in-slot c = sym (c .before .before .last-slot .ensures) ∙ c .i .given .1

@@ -9,7 +9,6 @@ use Rattle.inspect.proofs.Readings.{laid-home}
 use Rattle.inspect.proofs.reading.marked_block.Statement.{statement}
 use Rattle.inspect.proofs.reading.marked_block.Tie as tie
 
-
 read-requires : tie.Need-read-requires
 read-requires c κs = search needs
 

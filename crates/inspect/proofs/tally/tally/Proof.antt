@@ -7,7 +7,6 @@ use Rattle.inspect.proofs.Sums.{tally-refused, tally-done}
 use Rattle.inspect.proofs.tally.tally.Statement.{statement}
 use Rattle.inspect.proofs.tally.tally.Tie as tie
 
-
 taken : (c : tie.Else1) → TakenList trap (c .before .before .before .before .args .settled .now) (c .before .before .inspect .result)
 taken c = read-taken trap _ _ (c .before .before .inspect .ensures) (c .if1 .left)
 

@@ -1,4 +1,4 @@
--- `journal::checkpoint::fallback` meets its contract.
+-- `journal::fallback::fallback` meets its contract.
 use mathlib.Core.Path.{ap, _∙_}
 use mathlib.Core.List.{[], _∷_}
 use borrow.Author.Needs.{needs}
@@ -6,8 +6,8 @@ use Rattle.card.specs.Card.{run, flush}
 use Rattle.card.specs.CodeQueue.{cardOf}
 use Rattle.journal.specs.declared.header.Header.{Header}
 use Rattle.journal.specs.Orders.{headerWrite, fallbackOrders}
-use Rattle.journal.proofs.checkpoint.fallback.Statement.{statement}
-use Rattle.journal.proofs.checkpoint.fallback.Tie as tie
+use Rattle.journal.proofs.fallback.fallback.Statement.{statement}
+use Rattle.journal.proofs.fallback.fallback.Tie as tie
 
 new-requires : tie.Need-new-requires
 new-requires c κs = search needs
