@@ -5,8 +5,8 @@ use mathlib.Core.List.{List, [], _∷_, _++_}
 use lib.Dec.{eqb}
 use lib.ListN.{replicate}
 use Rattle.cells.specs.Entry.{blockBytes}
-use Rattle.fnv.specs.Fnv.{start}
-use Rattle.store.specs.State.{State, closed}
+use Rattle.store.specs.State.{State, closed, withMode, withQueue}
+use Rattle.store.specs.CodeState.{stateOf, fresh}
 use Rattle.store.specs.Causes.{waitingBytes, workBytes}
 use Rattle.journal.specs.Geometry.{trap}
 use Rattle.script.specs.Fields.{push}
@@ -34,12 +34,7 @@ said (l ∷ ls) st = printed l st ++ said ls (reply l st .state)
 -- "N = 64, starts closed with all bytes and counts 0 and the empty list's sum"
 unfoldable pub beginning : State
 beginning =
-    record {
-      rec = record { mode = closed; blocks = 64; opened = 0; grouped = 0; logged = 0; waiting = 0; power = 0; sum = start };
-      settled = replicate (blockBytes * 64) 0;
-      waiting = replicate (waitingBytes trap) 0;
-      work = replicate (workBytes trap) 0;
-    }
+    stateOf (withMode closed (withQueue 0 0 (fresh 64))) (replicate (blockBytes * 64) 0) (replicate (waitingBytes trap) 0) (replicate (workBytes trap) 0)
 
 unfoldable pub transcript : List ℕ → List ℕ
 transcript input = said (linesOf input) beginning

@@ -9,6 +9,7 @@ use crate::command::parse;
 use crate::perform::perform;
 use crate::text::append;
 use crate::text::write_line;
+use card::queue::Queue;
 use store::record::CLOSED;
 use store::record::Record;
 ghost use mathlib.Core.Path.{_≡_};
@@ -33,16 +34,11 @@ impl Session {
     pub fn new() -> Session
         ensures { λ r. ⌜ (r .rec ≡ beginning .rec) × (r .len ≡ 0) × (r .print ≡ 0) ⌝ }
     {
-        let rec = Record {
-            mode: CLOSED,
-            blocks: BLOCKS,
-            opened: 0,
-            grouped: 0,
-            logged: 0,
+        let none = Queue {
             waiting: 0,
             power: 0,
-            sum: fnv::START,
         };
+        let rec = Record::fresh(BLOCKS).with_mode(CLOSED).with_queue(none);
         Session {
             rec,
             len: 0,

@@ -12,6 +12,27 @@ use lib.ListN.{length, getD}
 use Rattle.card.specs.Marks.{keptAt}
 use Rattle.journal.specs.Geometry.{Geometry}
 use Rattle.history.specs.Plain.{Plain, none, ofSync, ofApply, ofRecover, applies, syncTakes, applyWaits, syncWaits, unchanged, Verdict, applyVerdict, ownVerdict, verdict, cutShort, plainSync, plainApply, plainRecover, headerKept, done, still, synced, cleared, recovered}
+use Rattle.history.specs.Ledger.{Ledger}
+
+-- ---- equal field by field
+
+pub plain-eq : {d e : Plain} → d .N ≡ e .N → d .S ≡ e .S → d .G ≡ e .G → d .T ≡ e .T → d .n ≡ e .n → d .mode ≡ e .mode → d .power ≡ e .power → d .waiting ≡ e .waiting → d .short ≡ e .short
+    → d .F ≡ e .F → d ≡ e
+plain-eq N S G T n mode power waiting short F = λ i. record {
+  N = N i;
+  S = S i;
+  G = G i;
+  T = T i;
+  n = n i;
+  mode = mode i;
+  power = power i;
+  waiting = waiting i;
+  short = short i;
+  F = F i;
+}
+
+pub ledger-eq : {l m : Ledger} → l .written ≡ m .written → l .pending ≡ m .pending → l ≡ m
+ledger-eq written pending = λ i. record { written = written i; pending = pending i }
 
 -- ---- orders and waiting writes
 

@@ -26,9 +26,9 @@ use Rattle.store.specs.Lists.{openFrom, groupFrom, listOf}
 use Rattle.store.specs.Saves.{carried}
 use Rattle.store.proofs.Causes.{SizeFacts, sizes-facts}
 use Rattle.history.specs.Call.{Call, get}
-use Rattle.history.specs.Plain.{Plain, Short, none, Done, plainStep, cutShort}
+use Rattle.history.specs.Plain.{Plain, Short, none, Done, plainStep, cutShort, withS, withLists, withCount, withPower, blankPlain}
 use Rattle.history.specs.Dispatch.{dispatch}
-use Rattle.history.specs.Ledger.{PlannedHeader, nothing, noted}
+use Rattle.history.specs.Ledger.{PlannedHeader, noted, settledBy}
 use Rattle.history.specs.History.{World, ledgerNext, foundWritten}
 use Rattle.journal.proofs.Logs.{allData-all}
 use Rattle.history.proofs.Steps.Plans.{Plan, planned, takes, settles, Fits, Asked, Throughout, length-planned, length-settles, plan-done, Stopped, plan-short}
@@ -80,18 +80,8 @@ module _ (geo : Geometry) where
 
   -- the plain disk of an open record, with the data blocks S and the power p
   abbrev pub openPlain : State → Record → Disk → ℕ → Plain
-  openPlain st r S p = record {
-    N = st .rec .blocks;
-    S = S;
-    G = listOf (st .work) (groupFrom geo) (r .grouped);
-    T = listOf (st .work) openFrom (r .opened);
-    n = r .logged;
-    mode = openMode;
-    power = p;
-    waiting = 0;
-    short = none;
-    F = false;
-  }
+  openPlain st r S p =
+      withLists (listOf (st .work) (groupFrom geo) (r .grouped)) (listOf (st .work) openFrom (r .opened)) (withCount (r .logged) (withPower p (withS S (blankPlain (st .rec .blocks)))))
 
 -- ---- what is asked wherever the call can be cut short: how many writes wait, and that every cut leads to what the plain disk chooses
 
@@ -128,7 +118,7 @@ module _ (geo : Geometry) where
     pub cuts : Throughout (CutsAt w headers short waits) plan (w .store .settled) 0
     -- done
     pub list : List Entry
-    pub noted-all : noted headers (takes plan) (w .ledger) ≡ record { written = list; pending = nothing }
+    pub noted-all : noted headers (takes plan) (w .ledger) ≡ settledBy list
     pub mode : done .mode ≡ openMode
     pub blocks : done .blocks ≡ w .store .rec .blocks
     pub opened : Listed geo (w .store .rec .blocks) (w .store .work) openFrom (done .opened)
@@ -202,7 +192,7 @@ module _ (geo : Geometry) where
         log : entries geo (r .settled) (f .done .logged) ≡ logD geo (blockAt (settles plan (st .settled))) (f .done .logged)
         log = entries-disk geo _ (f .done .logged) ∙ ap (λ (x : List ℕ). logD geo (blockAt x) (f .done .logged)) (left .settled)
 
-        now : Sim geo (withCard r (withRecord (f .done) st)) (record { written = f .list; pending = nothing })
+        now : Sim geo (withCard r (withRecord (f .done) st)) (settledBy (f .list))
             (openPlain geo st (f .done) (f .S) (P - takes plan))
         now = record {
           basics = record {

@@ -34,7 +34,7 @@ use Rattle.store.specs.Saves.{reopened, recovering, recoverCall}
 use Rattle.store.proofs.Causes.{Passes}
 use Rattle.history.specs.Call.{get, recover}
 use Rattle.history.specs.Plain.{Plain, ofRecover, refusal, plainStep, plainRecover, headerKept, unchanged}
-use Rattle.history.specs.Ledger.{Ledger, waits, recoverHeaders, noted, entered, taken, resolved}
+use Rattle.history.specs.Ledger.{Ledger, waits, recoverHeaders, noted, entered, taken, resolved, waitsBehind}
 use Rattle.history.specs.History.{World, foundWritten}
 use Rattle.history.proofs.Relation.CauseLaws.{RecordFacts, record-facts, cause-passes}
 use Rattle.history.proofs.Steps.Plans.{Plan, Asked, for-one}
@@ -163,9 +163,9 @@ module _ (geo : Geometry) where
       }
 
       -- behind it
-      note-top : noted (recoverHeaders geo st) 1 (settledLedger v) ≡ record { written = v; pending = waits 0 (logD geo (blockAt s) n) }
+      note-top : noted (recoverHeaders geo st) 1 (settledLedger v) ≡ waitsBehind 0 (logD geo (blockAt s) n) (settledLedger v)
       unfolding recoverHeaders noted
-      note-top = ap (λ (y : List Entry). record { written = v; pending = waits 0 y }) list
+      note-top = ap (λ (y : List Entry). waitsBehind 0 y (settledLedger v)) list
 
       headed : At s (top ∷ []) 1
       unfolding resolved

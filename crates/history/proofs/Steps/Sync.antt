@@ -37,7 +37,7 @@ use Rattle.store.specs.Causes.{cause}
 use Rattle.store.specs.Saves.{carried, syncCall, groupOf, applies, metByAppend, innerOrders}
 use Rattle.history.specs.Call.{get, sync}
 use Rattle.history.specs.Plain.{Plain, ofSync, refusal, plainStep, plainSync, syncTakes, syncWaits, ownVerdict, unchanged}
-use Rattle.history.specs.Ledger.{Ledger, waits, syncHeaders, noted, entered, ownHeader, standing, inner, resolved, sameLog}
+use Rattle.history.specs.Ledger.{Ledger, waits, syncHeaders, noted, entered, ownHeader, standing, inner, resolved, sameLog, waitsBehind}
 use Rattle.history.specs.History.{World, ledgerNext, foundWritten}
 use Rattle.history.specs.Statements.{Logged}
 use Rattle.history.proofs.Steps.Plans.{Plan, planned, takes, settles, Fits, Asked, Throughout, takes-append, settles-append, throughout-append, throughout-all}
@@ -155,11 +155,11 @@ module _ (geo : Geometry) where
       note-early : (k : ℕ) → takes (y .front) ≤ k → k < takes (y .front) + (length G + 2) → noted (syncHeaders geo st) k (settledLedger v) ≡ settledLedger (y .list)
       note-early k l h = y .notes k l ∙ note-before (ownHeader geo st) [] k (settledLedger (y .list)) (omega (arith, y .inner-is, length-G))
 
-      pub note-top : (k : ℕ) → k ≡ takes (y .front) + (length G + 2) → noted (syncHeaders geo st) k (settledLedger v) ≡ record { written = y .list; pending = waits (length G + 1) (log ++ G) }
+      pub note-top : (k : ℕ) → k ≡ takes (y .front) + (length G + 2) → noted (syncHeaders geo st) k (settledLedger v) ≡ waitsBehind (length G + 1) (log ++ G) (settledLedger (y .list))
       note-top k e =
           y .notes k (omega arith)
           ∙ note-at (ownHeader geo st) [] k (settledLedger (y .list)) (omega (arith, y .inner-is, length-G))
-          ∙ (λ i. record { written = y .list; pending = waits (sym length-G i + 1) (y .standing-is i ++ G) })
+          ∙ (λ i. waitsBehind (sym length-G i + 1) (y .standing-is i ++ G) (settledLedger (y .list)))
 
       note-done : noted (syncHeaders geo st) (takes plan) (settledLedger v) ≡ settledLedger (log ++ G)
       note-done =
@@ -276,7 +276,7 @@ module _ (geo : Geometry) where
           let D = short-call geo sync w plan (f .basics) gives less in
           let end = stopped geo sync w plan (f .basics) gives Whole (st .rec .power) refl less wholes in
           let k : st .rec .power ≡ takes (y .front) + (length G + 2) = sym (ap (λ (i : Outcome). i .orders) D) ∙ q ∙ (omega (arith, y .inner-is, length-G)) in
-          let L : ledgerNext geo sync w ≡ record { written = y .list; pending = waits (length G + 1) (log ++ G) } =
+          let L : ledgerNext geo sync w ≡ waitsBehind (length G + 1) (log ++ G) (settledLedger (y .list)) =
           ap (λ (i : Outcome). noted (syncHeaders geo st) (i .orders) (settledLedger v)) D ∙ note-top (st .rec .power) k in
           let fit : marksFit ms (length (end .q)) ≡ true = ap (marksFit ms) (sym (ap (λ (i : Outcome). i .state .rec .waiting) D ∙ end .left .count)) ∙ l in
           let found = end .met k (run (planned plan) (cardIn st)) (end .left) ms fit o in (

@@ -12,10 +12,11 @@ use Rattle.store.specs.State.{State, closed}
 use Rattle.store.proofs.Causes.{needsOpen}
 use Rattle.journal.specs.Geometry.{Geometry}
 use Rattle.history.specs.Call.{Call, requestOf}
-use Rattle.history.specs.Plain.{Plain, none, refusal}
-use Rattle.history.specs.Ledger.{Ledger, nothing}
+use Rattle.history.specs.Plain.{Plain, withS, withCount, inMode, withPower, withF, blankPlain, refusal}
+use Rattle.history.specs.Ledger.{Ledger, settledBy}
 use Rattle.history.specs.History.{World}
 use Rattle.history.proofs.Relation.Sim.{Basics, OpenSim, ClosedSim, Sim}
+use Rattle.history.proofs.Relation.PlainLaws.{plain-eq, ledger-eq}
 use Rattle.history.proofs.Relation.CauseLaws.{record-facts, idle, cause-passes}
 use Rattle.history.proofs.Steps.Shown.{WorldSim, StepOK, same-cause, refused-step}
 use Rattle.history.proofs.Steps.Local.{is-open}
@@ -24,7 +25,7 @@ use Rattle.history.proofs.Relation.OpenFacts as Facts
 
 -- every header settled, the last one's list v
 abbrev pub settledLedger : List Entry → Ledger
-settledLedger v = record { written = v; pending = nothing }
+settledLedger v = settledBy v
 
 module _ (geo : Geometry) where
   abbrev pub plainNow : State → Disk → Plain
@@ -44,22 +45,18 @@ module _ (geo : Geometry) where
     idle-open : w .store .rec .waiting ≡ 0
     idle-open = Facts.none-waits geo (w .store) (w .ledger) (w .plain) b o
 
+    open-ledger : w .ledger ≡ settledLedger (w .ledger .written)
+    open-ledger = ledger-eq refl (o .pending)
+
+    open-plain : w .plain ≡ plainNow (w .store) (w .plain .S)
+    open-plain =
+        plain-eq (b .mirrors .N) refl (b .mirrors .G (o .mode)) (b .mirrors .T (o .mode)) (o .n) (b .mirrors .mode ∙ o .mode) (b .power) (b .mirrors .waiting ∙ idle-open) (o .short) (o .F)
+
     pub open-world : w ≡ openWorld (w .store) (w .ledger .written) (w .plain .S) (w .excepted)
     open-world = λ i. record {
       store = w .store;
-      ledger = record { written = w .ledger .written; pending = o .pending i };
-      plain = record {
-        N = b .mirrors .N i;
-        S = w .plain .S;
-        G = b .mirrors .G (o .mode) i;
-        T = b .mirrors .T (o .mode) i;
-        n = o .n i;
-        mode = (b .mirrors .mode ∙ o .mode) i;
-        power = b .power i;
-        waiting = (b .mirrors .waiting ∙ idle-open) i;
-        short = o .short i;
-        F = o .F i;
-      };
+      ledger = open-ledger i;
+      plain = open-plain i;
       excepted = w .excepted;
     }
 
@@ -82,7 +79,7 @@ module _ (geo : Geometry) where
 -- ---- closed
 
 abbrev pub plainShut : State → Disk → ℕ → Bool → Plain
-plainShut st S n F = record { N = st .rec .blocks; S = S; G = []; T = []; n = n; mode = closed; power = st .rec .power; waiting = 0; short = none; F = F }
+plainShut st S n F = inMode closed (withF F (withCount n (withPower (st .rec .power) (withS S (blankPlain (st .rec .blocks))))))
 
 abbrev pub closedWorld : State → List Entry → Disk → ℕ → Bool → Bool → World
 closedWorld st v S n F x = record { store = st; ledger = settledLedger v; plain = plainShut st S n F; excepted = x }
@@ -99,22 +96,17 @@ module _ (geo : Geometry) where
     pub idle-closed : w .store .rec .waiting ≡ 0
     idle-closed = idle geo (w .store) (record-facts geo (w .store) (b .counts)) (λ z. omega (arith, o .mode))
 
+    closed-ledger : w .ledger ≡ settledLedger (w .ledger .written)
+    closed-ledger = ledger-eq refl (o .pending)
+
+    closed-plain : w .plain ≡ plainShut (w .store) (w .plain .S) (w .plain .n) (w .plain .F)
+    closed-plain = plain-eq (b .mirrors .N) refl (o .G) (o .T) refl (b .mirrors .mode ∙ o .mode) (b .power) (b .mirrors .waiting ∙ idle-closed) (o .short) refl
+
     pub closed-world : w ≡ closedWorld (w .store) (w .ledger .written) (w .plain .S) (w .plain .n) (w .plain .F) (w .excepted)
     closed-world = λ i. record {
       store = w .store;
-      ledger = record { written = w .ledger .written; pending = o .pending i };
-      plain = record {
-        N = b .mirrors .N i;
-        S = w .plain .S;
-        G = o .G i;
-        T = o .T i;
-        n = w .plain .n;
-        mode = (b .mirrors .mode ∙ o .mode) i;
-        power = b .power i;
-        waiting = (b .mirrors .waiting ∙ idle-closed) i;
-        short = o .short i;
-        F = w .plain .F;
-      };
+      ledger = closed-ledger i;
+      plain = closed-plain i;
       excepted = w .excepted;
     }
 
