@@ -13,7 +13,7 @@ use Rattle.card.specs.Card.{Card, queue, cut, settle, blockAt, blocksIn}
 use Rattle.card.specs.Marks.{marksFit, keptAt, allKept}
 use Rattle.card.proofs.All.{All, all-take}
 use Rattle.card.proofs.Runs.{Whole, NarrowAddress}
-use Rattle.card.proofs.Leaves.{Leaves, cut-leaves, settle-leaves, ones, ones-kept}
+use Rattle.card.proofs.Leaves.{Leaves, cut-leaves, settle-leaves, ones, ones-kept, all-kept-at}
 use Rattle.journal.specs.Geometry.{Geometry}
 use Rattle.journal.specs.Layout.{firstData, isData}
 use Rattle.journal.specs.Header.{header, emptyHeader}
@@ -35,6 +35,10 @@ pub left-leaves : (c r : Card) (s : List ℕ) (q : List Entry) (p N : ℕ) (ms :
 left-leaves c r s q p N ms l some size f w =
     let some-r : 0 < blocksIn (r .settled) = rw (l .settled) (omega arith) in
     leaves-at ms (blockAt (cut ms r .settled)) (ap blocksIn (l .settled) ∙ sym size) (l .waits) (l .settled) (cut-leaves ms r some-r (rw (l .count) f) (rw (l .waits) w))
+
+-- the one write of a cut that keeps all is kept
+one-kept : keptAt (ones 1) 0 ≡ true
+one-kept = all-kept-at (ones 1) 0 (lib.Dec.lit< tt) (ones-kept 1)
 
 -- settled bytes are what a cut that keeps all leaves
 pub settled-leaves : (es : List Entry) (s : List ℕ) (N : ℕ) → 0 < N → N ≡ blocksIn s → All Whole es → Leaves N (ones (length es)) es (blockAt s) (blockAt (settle es s))
@@ -128,9 +132,8 @@ module _ (geo : Geometry) where
   -- an empty log's header is settled
   pub empty-settled : (N : ℕ) (s : List ℕ) (S : Disk) → firstData geo < N → N ≡ blocksIn s → ((a : ℕ) → isData geo N a ≡ true → S a ≡ blockAt s a) → Whole (headerEntry (emptyHeader N))
       → WholeCard geo N (blockAt (settle (headerEntry (emptyHeader N) ∷ []) s)) [] S 0
-  unfolding keptAt
   empty-settled N s S big size homes whole =
-      empty-card geo N s S (settle (headerEntry (emptyHeader N) ∷ []) s) (ones 1) big homes (settled-leaves (headerEntry (emptyHeader N) ∷ []) s N (omega arith) size (whole, tt)) mathlib.Core.Path.refl
+      empty-card geo N s S (settle (headerEntry (emptyHeader N) ∷ []) s) (ones 1) big homes (settled-leaves (headerEntry (emptyHeader N) ∷ []) s N (omega arith) size (whole, tt)) one-kept
 
   -- ---- nothing waits
 
@@ -156,6 +159,5 @@ module _ (geo : Geometry) where
 
   pub fall-settled : (N : ℕ) (s : List ℕ) (w : List Entry) (S : Disk) (n : ℕ) → firstData geo < N → N ≡ blocksIn s → FallCard geo N (blockAt s) w S n → Whole (fallHeader N s n)
       → WholeCard geo N (blockAt (settle (fallHeader N s n ∷ []) s)) (logD geo (blockAt s) n) S n
-  unfolding keptAt
   fall-settled N s w S n big size card whole =
-      fallen-card geo N s w S n (settle (fallHeader N s n ∷ []) s) (ones 1) big card (settled-leaves (fallHeader N s n ∷ []) s N (omega arith) size (whole, tt)) mathlib.Core.Path.refl
+      fallen-card geo N s w S n (settle (fallHeader N s n ∷ []) s) (ones 1) big card (settled-leaves (fallHeader N s n ∷ []) s N (omega arith) size (whole, tt)) one-kept
