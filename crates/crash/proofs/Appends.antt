@@ -1,14 +1,15 @@
 -- What an append leaves when a cut keeps some of its writes.
-use Prim.Native.Nat.{ℕ, zero, suc, _+_, _*_, _^_, _≤_, _<_}
+use Prim.Native.Nat.{ℕ, zero, suc, _+_, _*_, _-_, _/_, _^_, _≤_, _<_}
 use mathlib.Core.Path.{_≡_, refl, ap, ap₂, sym, _∙_}
 use mathlib.Core.Logic.{_≢_}
 use mathlib.Core.Bool.{true, false}
 use mathlib.Core.List.{List, [], _∷_, _++_, append-assoc}
 use native.Mathlib.Omega.{arith}
-use lib.ListN.{length, getD, take, length-append}
-use lib.Seq.{ext-getD, take-append-le}
+use native.Mathlib.Decide.{ℕ-discrete}
+use lib.ListN.{length, getD, take, drop, length-append, length-drop}
+use lib.Seq.{ext-getD, take-append-le, getD-drop}
 use Rattle.cells.specs.Cell.{cell}
-use Rattle.cells.specs.Little.{num}
+use Rattle.cells.specs.Little.{num, le}
 use Rattle.cells.specs.Little.Laws.{num-le}
 use Rattle.cells.specs.Upto.{upTo}
 use Rattle.cells.specs.Upto.Laws.{length-upTo, getD-upTo, upTo-add}
@@ -18,66 +19,90 @@ use Rattle.fnv.specs.Fnv.{start}
 use Rattle.card.specs.Disk.{Disk, lay, overlay}
 use Rattle.card.specs.Card.{Card, blockAt}
 use Rattle.card.specs.Marks.{keptAt, allKept}
-use Rattle.card.proofs.All.{All, all-append, all-map, all-take, all-at}
-use Rattle.card.proofs.Overlays.{lay-same, overlay-cons, overlay-append, overlay-agree, overlay-other}
+use Rattle.card.proofs.All.{All, all-append, all-map, all-take, all-at, all-upTo}
+use Rattle.card.proofs.Overlays.{lay-same, lay-other, overlay-append, overlay-agree, overlay-other}
 use Rattle.card.proofs.Runs.{Whole, NarrowAddress}
 use Rattle.card.proofs.Leaves.{Leaves}
-use Rattle.journal.specs.Geometry.{Geometry}
-use Rattle.journal.specs.Layout.{headerAt, descriptorAt, slotAt, firstData, isData}
+use Rattle.journal.specs.Geometry.{Geometry, perDescriptor}
+use Rattle.journal.specs.Layout.{headerAt, descriptorAt, describedIn, describedAt, slotAt, firstData, isData}
 use Rattle.journal.specs.Header.{encode, header}
 use Rattle.journal.specs.Log.{sumOf}
-use Rattle.journal.specs.Orders.{describe, descriptors}
-use Rattle.journal.proofs.OrderLists.{slotBlock, slotBlocks, headerEntry, descriptorEntry, appendWrites, length-slotBlocks, slots-whole, slots-below, slots-from}
+use Rattle.journal.specs.Orders.{describe, descriptorEntry, descriptors}
+use Rattle.journal.proofs.OrderLists.{slotBlock, slotBlocks, headerEntry, appendWrites, length-slotBlocks, slots-whole, slots-below, slots-from}
 use Rattle.journal.proofs.Headers.{length-encode}
 use Rattle.journal.proofs.Descriptors.{length-describe, describe-byte, describe-new}
-use Rattle.crash.proofs.Batches.{Fit}
 use Rattle.crash.proofs.Logs.{slotE, logD, LogStands, same-log, data-above}
-use Rattle.crash.proofs.Frames.{Aside, log-left, homes-left, Stands, KeepOff, off-aside, off-header, aside-stands}
+use Rattle.crash.proofs.Frames.{Besides, Sized, Aside, log-left, homes-left, Stands, KeepOff, off-aside, off-low, aside-stands}
 
 -- ---- the writes of an append
 
 module _ (geo : Geometry) (N : ℕ) (s : List ℕ) (n h : ℕ) (G : List Entry) where
   -- all but the header
   abbrev pub front : List Entry
-  front = slotBlocks geo n G ++ descriptors s n G
+  front = slotBlocks geo n G ++ descriptors geo s n G
 
   abbrev pub top : Entry
   top = headerEntry (header N n h (n + length G) (sumOf h G))
 
   pub writes-split : appendWrites geo N s n h G ≡ front ++ (top ∷ [])
-  writes-split = sym (append-assoc (slotBlocks geo n G) (descriptors s n G) (top ∷ []))
+  writes-split = sym (append-assoc (slotBlocks geo n G) (descriptors geo s n G) (top ∷ []))
 
-  pub length-front : length front ≡ length G + 1
-  length-front = length-append (slotBlocks geo n G) (descriptors s n G) ∙ ap (λ (k : ℕ). k + 1) (length-slotBlocks geo n G)
+  pub length-front : length front ≡ length G + geo .descriptors
+  length-front = length-append (slotBlocks geo n G) (descriptors geo s n G) ∙ ap₂ (λ (a b : ℕ). a + b) (length-slotBlocks geo n G) (length-upTo (descriptorEntry s n G) (geo .descriptors))
 
-  pub length-append-writes : length (appendWrites geo N s n h G) ≡ length G + 2
-  length-append-writes = length-append (slotBlocks geo n G) _ ∙ ap (λ (k : ℕ). k + 2) (length-slotBlocks geo n G)
+  pub length-append-writes : length (appendWrites geo N s n h G) ≡ length G + geo .descriptors + 1
+  length-append-writes = ap length writes-split ∙ length-append front (top ∷ []) ∙ ap (λ (k : ℕ). k + 1) length-front
 
-  module _ (room : n + length G ≤ geo .slots) (long : 4 * n ≤ length (blockAt s descriptorAt)) where
+  pub writes-whole : All Whole G → All Whole (appendWrites geo N s n h G)
+  writes-whole w =
+      all-append Whole (slotBlocks geo n G) (descriptors geo s n G ++ (top ∷ [])) (slots-whole geo n G w)
+      (all-append Whole (descriptors geo s n G) (top ∷ []) (all-upTo Whole (descriptorEntry s n G) (geo .descriptors) (λ j l. length-describe _ _ _))
+      (length-encode (header N n h (n + length G) (sumOf h G)), tt))
+
+  pub writes-below : (X : ℕ) → n + length G ≤ geo .slots → firstData geo ≤ X → All (λ e. e .address < X) (appendWrites geo N s n h G)
+  writes-below X room l =
+      all-append (λ e. e .address < X) (slotBlocks geo n G) (descriptors geo s n G ++ (top ∷ [])) (slots-below geo X n G (omega arith))
+      (all-append (λ e. e .address < X) (descriptors geo s n G) (top ∷ []) (all-upTo (λ e. e .address < X) (descriptorEntry s n G) (geo .descriptors) (λ j k. omega arith)) (omega arith, tt))
+
+  module _ (room : n + length G ≤ geo .slots) (big : firstData geo < N) (size : Sized N (blockAt s)) where
+    -- a descriptor block has the old addresses as they were
+    described-aside : (j : ℕ) → j < geo .descriptors → Aside geo n (blockAt s) (descriptorEntry s n G j)
+    described-aside j l = record {
+      names = λ i b h k z.
+          let block : j ≡ i / perDescriptor = omega arith in
+          describe-byte (blockAt s (descriptorAt + j)) (n - perDescriptor * j) (drop (perDescriptor * j - n) G) (4 * describedAt i + b) (size (descriptorAt + j) (omega arith)) (omega arith) (omega arith)
+          ∙ ap (λ (a : ℕ). getD (blockAt s a) (4 * describedAt i + b) 0) z;
+      above = λ i h z. omega arith;
+    }
+
+    -- what holds of the writes to slots and of those to descriptor blocks holds of all but the header
+    front-all : (P : Entry → Type 0) → ((e : Entry) → slotAt geo n ≤ e .address → e .address < firstData geo → P e) → ((j : ℕ) → j < geo .descriptors → P (descriptorEntry s n G j)) → All P front
+    front-all P f g =
+        all-append P (slotBlocks geo n G) (descriptors geo s n G)
+        (slots-all (slotBlocks geo n G) (slots-from geo (slotAt geo n) n G (omega arith)) (slots-below geo (firstData geo) n G (omega arith)))
+        (all-upTo P (descriptorEntry s n G) (geo .descriptors) g)
+      where
+        slots-all : (es : List Entry) → All (λ e. slotAt geo n ≤ e .address) es → All (λ e. e .address < firstData geo) es → All P es
+        slots-all [] a b = tt
+        slots-all (e ∷ es) a b = (f e (a .0) (b .0), slots-all es (a .1) (b .1))
+
     front-aside : All (Aside geo n (blockAt s)) front
     front-aside =
-        all-append (Aside geo n (blockAt s)) (slotBlocks geo n G) (descriptors s n G)
-        (all-map (λ e. slotAt geo n ≤ e .address) (Aside geo n (blockAt s))
-        (λ e q. record { names = λ z j l. absurd (omega (arith, geo .single)); above = λ i l z. omega arith })
-        (slotBlocks geo n G)
-        (slots-from geo (slotAt geo n) n G (omega arith)))
-        (record { names = λ z j l. describe-byte (blockAt s descriptorAt) n G j long l; above = λ i l z. omega (arith, geo .single) }, tt)
+        front-all (Aside geo n (blockAt s))
+        (λ e q u. record { names = λ i j l k z. absurd (omega (arith, geo .described)); above = λ i l z. omega arith })
+        described-aside
 
     top-aside : Aside geo n (blockAt s) top
-    top-aside = record { names = λ z j l. absurd (omega arith); above = λ i l z. omega arith }
+    top-aside = record { names = λ i j l k z. absurd (omega arith); above = λ i l z. omega arith }
 
-    front-high : All (λ e. headerAt ≢ e .address) front
-    front-high =
-        all-append (λ e. headerAt ≢ e .address) (slotBlocks geo n G) (descriptors s n G)
-        (all-map (λ e. slotAt geo n ≤ e .address) (λ e. headerAt ≢ e .address) (λ e q z. omega arith) (slotBlocks geo n G) (slots-from geo (slotAt geo n) n G (omega arith)))
-        ((λ z. omega arith), tt)
+    front-high : Besides front headerAt
+    front-high = front-all (λ e. headerAt ≢ e .address) (λ e q u z. omega arith) (λ j l z. omega arith)
 
     -- no write goes to a data block
-    front-homes : (a : ℕ) → isData geo N a ≡ true → All (λ e. a ≢ e .address) front
+    front-homes : (a : ℕ) → isData geo N a ≡ true → Besides front a
     front-homes a l =
-        all-append (λ e. a ≢ e .address) (slotBlocks geo n G) (descriptors s n G)
-        (all-map (λ e. e .address < firstData geo) (λ e. a ≢ e .address) (λ e q z. let u = data-above geo N a l in omega arith) (slotBlocks geo n G) (slots-below geo (firstData geo) n G (omega arith)))
-        ((λ z. let u = data-above geo N a l in omega (arith, geo .single)), tt)
+        let above : firstData geo ≤ a = data-above geo N a l in
+        front-all (λ e. a ≢ e .address) (λ e q u z. omega arith) (λ j k z. omega arith)
 
     all-aside : All (Aside geo n (blockAt s)) (appendWrites geo N s n h G)
     all-aside = rw writes-split (all-append (Aside geo n (blockAt s)) front (top ∷ []) front-aside (top-aside, tt))
@@ -87,14 +112,14 @@ module _ (geo : Geometry) (N : ℕ) (s : List ℕ) (n h : ℕ) (G : List Entry) 
 
     -- ---- behind any queue q₀ that keeps off header and log
 
-    module _ (big : firstData geo < N) (size : length (blockAt s descriptorAt) ≡ blockBytes) (ms : List ℕ) (q₀ : List Entry) (off : KeepOff geo q₀) (e : Disk) where
+    module _ (ms : List ℕ) (q₀ : List Entry) (off : KeepOff geo q₀) (e : Disk) where
       -- without its header
       pub lost-stands : (k : ℕ) → k ≤ length front → Leaves N ms (q₀ ++ take k (appendWrites geo N s n h G)) (blockAt s) e → Stands geo N n q₀ (blockAt s) e
       lost-stands k l v =
           let p : take k (appendWrites geo N s n h G) ≡ take k front = ap (take k) writes-split ∙ take-append-le k front (top ∷ []) l in
           let u : Leaves N ms (q₀ ++ take k front) (blockAt s) e = rw p at v in
           aside-stands geo N ms q₀ (take k front) n (blockAt s) e big (omega arith) off u size (all-take (Aside geo n (blockAt s)) k front front-aside)
-          (u .untouched headerAt (omega arith) (all-append (λ x. headerAt ≢ x .address) q₀ (take k front) (off-header geo q₀ off) (all-take (λ x. headerAt ≢ x .address) k front front-high)))
+          (u .untouched headerAt (omega arith) (all-append (λ x. headerAt ≢ x .address) q₀ (take k front) (off-low geo q₀ off headerAt (omega arith)) (all-take (λ x. headerAt ≢ x .address) k front front-high)))
           (λ a q. all-take (λ x. a ≢ x .address) k front (front-homes a q))
 
       module _ (v : Leaves N ms (q₀ ++ appendWrites geo N s n h G) (blockAt s) e) where
@@ -102,17 +127,17 @@ module _ (geo : Geometry) (N : ℕ) (s : List ℕ) (n h : ℕ) (G : List Entry) 
         last-write : q₀ ++ appendWrites geo N s n h G ≡ (q₀ ++ front) ++ (top ∷ [])
         last-write = ap (λ (l : List Entry). q₀ ++ l) writes-split ∙ sym (append-assoc q₀ front (top ∷ []))
 
-        last-place : length (q₀ ++ front) ≡ length q₀ + (length G + 1)
+        last-place : length (q₀ ++ front) ≡ length q₀ + (length G + geo .descriptors)
         last-place = length-append q₀ front ∙ ap (λ (k : ℕ). length q₀ + k) length-front
 
         -- its header was written, and lost
-        pub header-lost : keptAt ms (length q₀ + (length G + 1)) ≡ false → Stands geo N n q₀ (blockAt s) e
+        pub header-lost : keptAt ms (length q₀ + (length G + geo .descriptors)) ≡ false → Stands geo N n q₀ (blockAt s) e
         header-lost z =
             aside-stands geo N ms q₀ (appendWrites geo N s n h G) n (blockAt s) e big (omega arith) off v size all-aside
-            (v .lost-header (q₀ ++ front) [] top last-write (all-append (λ x. headerAt ≢ x .address) q₀ front (off-header geo q₀ off) front-high) tt (ap (keptAt ms) last-place ∙ z)) all-homes
+            (v .lost-header (q₀ ++ front) [] top last-write (all-append (λ x. headerAt ≢ x .address) q₀ front (off-low geo q₀ off headerAt (omega arith)) front-high) tt (ap (keptAt ms) last-place ∙ z)) all-homes
 
         -- its header was written, and kept
-        pub header-kept : keptAt ms (length q₀ + (length G + 1)) ≡ true → e headerAt ≡ encode (header N n h (n + length G) (sumOf h G))
+        pub header-kept : keptAt ms (length q₀ + (length G + geo .descriptors)) ≡ true → e headerAt ≡ encode (header N n h (n + length G) (sumOf h G))
         header-kept z = v .kept-header (q₀ ++ front) [] top last-write refl tt (ap (keptAt ms) last-place ∙ z)
 
         -- header or not, the first n entries stand, and the homes that q₀ does not write to
@@ -135,46 +160,77 @@ slots-laid geo n (e ∷ G) d zero x h =
 slots-laid geo n (e ∷ G) d (suc i) x h =
     rw (native.Mathlib.Nat.add-suc, ← native.Mathlib.Nat.suc-add n i) (slots-laid geo (suc n) G (lay (slotBlock geo n e) d) i x (omega arith))
 
+-- writes to blocks in a row, from b on
+row-laid : (f : ℕ → Entry) (b : ℕ) → ((i : ℕ) → f i .address ≡ b + i) → (k j : ℕ) (d : Disk) → j < k → overlay (upTo f k) d (b + j) ≡ f j .block
+unfolding overlay
+row-laid f b at zero j d h = absurd (omega arith)
+row-laid f b at (suc k) j d h =
+    ap (λ (g : Disk). g (b + j)) (overlay-append (upTo f k) (f k ∷ []) d)
+    ∙ go (ℕ-discrete j k) (λ l. row-laid f b at k j d l)
+  where
+    go : Dec (j ≡ k) → (j < k → overlay (upTo f k) d (b + j) ≡ f j .block) → lay (f k) (overlay (upTo f k) d) (b + j) ≡ f j .block
+    go (yes e) more = lay-same (f k) (overlay (upTo f k) d) (b + j) (ap (λ (i : ℕ). b + i) e ∙ sym (at k)) ∙ ap (λ (i : ℕ). f i .block) (sym e)
+    go (no e) more = lay-other (f k) (overlay (upTo f k) d) (b + j) (λ z. e (omega (arith, at k))) ∙ more (omega arith)
+
 -- ---- all of them kept: the log found is the log written
 
-module _ (geo : Geometry) (N : ℕ) (s : List ℕ) (n h : ℕ) (G : List Entry) (room : n + length G ≤ geo .slots) (long : 4 * n ≤ length (blockAt s descriptorAt)) (low : All NarrowAddress G)
-    (big : firstData geo < N) (size : length (blockAt s descriptorAt) ≡ blockBytes) (ms : List ℕ) (q₀ : List Entry) (off : KeepOff geo q₀) (e : Disk)
-    (v : Leaves N ms (q₀ ++ appendWrites geo N s n h G) (blockAt s) e) (all : allKept ms ≡ true) where
+module _ (geo : Geometry) (N : ℕ) (s : List ℕ) (n h : ℕ) (G : List Entry) (room : n + length G ≤ geo .slots) (big : firstData geo < N) (size : Sized N (blockAt s)) (low : All NarrowAddress G)
+    (ms : List ℕ) (q₀ : List Entry) (off : KeepOff geo q₀) (e : Disk) (v : Leaves N ms (q₀ ++ appendWrites geo N s n h G) (blockAt s) e) (all : allKept ms ≡ true) where
   -- what q₀ wrote plays no part below the data blocks
   over : (a : ℕ) → a < firstData geo → e a ≡ overlay (appendWrites geo N s n h G) (blockAt s) a
   over a b =
       v .whole all a (omega arith)
       ∙ ap (λ (f : Disk). f a) (overlay-append q₀ (appendWrites geo N s n h G) (blockAt s))
-      ∙ overlay-agree (appendWrites geo N s n h G) (overlay q₀ (blockAt s)) (blockAt s) a
-      (overlay-other q₀ (blockAt s) a (all-map (λ x. firstData geo ≤ x .address) (λ x. a ≢ x .address) (λ x u k. omega arith) q₀ off))
+      ∙ overlay-agree (appendWrites geo N s n h G) (overlay q₀ (blockAt s)) (blockAt s) a (overlay-other q₀ (blockAt s) a (off-low geo q₀ off a b))
 
-  slotted : (a : ℕ) → a ≢ descriptorAt → a ≢ headerAt → overlay (appendWrites geo N s n h G) (blockAt s) a ≡ overlay (slotBlocks geo n G) (blockAt s) a
-  slotted a p q =
-      ap (λ (f : Disk). f a) (overlay-append (slotBlocks geo n G) (descriptorEntry s n G ∷ top geo N s n h G ∷ []) (blockAt s))
-      ∙ overlay-other (descriptorEntry s n G ∷ top geo N s n h G ∷ []) (overlay (slotBlocks geo n G) (blockAt s)) a (p, (q, tt))
+  -- the log blocks, under descriptor and header
+  abbrev blocks : Disk
+  blocks = overlay (slotBlocks geo n G) (blockAt s)
 
-  described : e descriptorAt ≡ describe (blockAt s descriptorAt) n G
-  described =
-      over descriptorAt (omega (arith, geo .single))
-      ∙ ap (λ (f : Disk). f descriptorAt) (overlay-append (slotBlocks geo n G) (descriptorEntry s n G ∷ top geo N s n h G ∷ []) (blockAt s)
-      ∙ overlay-cons (descriptorEntry s n G) (top geo N s n h G ∷ []) (overlay (slotBlocks geo n G) (blockAt s)))
-      ∙ overlay-other (top geo N s n h G ∷ []) (lay (descriptorEntry s n G) (overlay (slotBlocks geo n G) (blockAt s))) descriptorAt ((λ z. omega arith), tt)
-      ∙ lay-same (descriptorEntry s n G) (overlay (slotBlocks geo n G) (blockAt s)) descriptorAt refl
+  abbrev behind : List Entry
+  behind = descriptors geo s n G ++ (top geo N s n h G ∷ [])
+
+  slotted : (a : ℕ) → 1 + geo .descriptors ≤ a → overlay (appendWrites geo N s n h G) (blockAt s) a ≡ blocks a
+  slotted a p =
+      ap (λ (f : Disk). f a) (overlay-append (slotBlocks geo n G) behind (blockAt s))
+      ∙ overlay-other behind blocks a
+      (all-append (λ x. a ≢ x .address) (descriptors geo s n G) (top geo N s n h G ∷ [])
+      (all-upTo (λ x. a ≢ x .address) (descriptorEntry s n G) (geo .descriptors) (λ j l z. omega arith)) ((λ z. omega arith), tt))
+
+  described : (j : ℕ) → j < geo .descriptors → e (descriptorAt + j) ≡ descriptorEntry s n G j .block
+  described j l =
+      over (descriptorAt + j) (omega arith)
+      ∙ ap (λ (f : Disk). f (descriptorAt + j)) (overlay-append (slotBlocks geo n G) behind (blockAt s) ∙ overlay-append (descriptors geo s n G) (top geo N s n h G ∷ []) blocks)
+      ∙ overlay-other (top geo N s n h G ∷ []) (overlay (descriptors geo s n G) blocks) (descriptorAt + j) ((λ z. omega arith), tt)
+      ∙ row-laid (descriptorEntry s n G) descriptorAt (λ i. refl) (geo .descriptors) j blocks l
+
+  -- the address of a new slot, in the block and at the place that are its
+  named : (x : Entry) (i : ℕ) → i < length G → cell 4 (e (describedIn (n + i))) (describedAt (n + i)) ≡ le 4 (getD G i x .address)
+  named x i l =
+      let j : ℕ = (n + i) / perDescriptor in
+      let skip : ℕ = perDescriptor * j - n in
+      let block : j < geo .descriptors = omega (arith, geo .described) in
+      let old : length (blockAt s (descriptorAt + j)) ≡ blockBytes = size (descriptorAt + j) (omega arith) in
+      let rest : length (drop skip G) ≡ length G - skip = length-drop skip G in
+      let place : describedAt (n + i) ≡ n - perDescriptor * j + (i - skip) = omega arith in
+      let at : skip + (i - skip) ≡ i = omega arith in
+      ap (λ (b : List ℕ). cell 4 b (describedAt (n + i))) (described j block)
+      ∙ ap (cell 4 (descriptorEntry s n G j .block)) place
+      ∙ describe-new (blockAt s (descriptorAt + j)) (n - perDescriptor * j) (drop skip G) (i - skip) x (omega arith) (omega arith) (omega arith)
+      ∙ ap (λ (y : Entry). le 4 (y .address)) (getD-drop skip G (i - skip) x ∙ ap (λ (k : ℕ). getD G k x) at)
 
   slot-found : (x : Entry) (i : ℕ) → i < length G → slotE geo e (n + i) ≡ getD G i x
   unfolding slotE
   slot-found x i l =
       entry-eq
-      (ap (λ (b : List ℕ). num (cell 4 b (n + i))) described
-      ∙ ap num (describe-new (blockAt s descriptorAt) n G i x long l)
-      ∙ num-le 4 (getD G i x .address) (all-at NarrowAddress G i x l low))
-      (over (slotAt geo (n + i)) (omega arith) ∙ slotted (slotAt geo (n + i)) (λ z. omega (arith, geo .single)) (λ z. omega arith) ∙ slots-laid geo n G (blockAt s) i x l)
+      (ap num (named x i l) ∙ num-le 4 (getD G i x .address) (all-at NarrowAddress G i x l low))
+      (over (slotAt geo (n + i)) (omega arith) ∙ slotted (slotAt geo (n + i)) (omega arith) ∙ slots-laid geo n G (blockAt s) i x l)
 
   pub found-written : logD geo e (n + length G) ≡ logD geo (blockAt s) n ++ G
   found-written =
       upTo-add (slotE geo e) n (length G)
       ∙ ap₂ (λ (a b : List Entry). a ++ b)
-      (same-log geo n e (blockAt s) (log-stands geo N s n h G room long big size ms q₀ off e v))
+      (same-log geo n e (blockAt s) (log-stands geo N s n h G room big size ms q₀ off e v))
       (new G refl)
     where
       new : (H : List Entry) → H ≡ G → upTo (λ i. slotE geo e (n + i)) (length G) ≡ G
@@ -182,16 +238,3 @@ module _ (geo : Geometry) (N : ℕ) (s : List ℕ) (n h : ℕ) (G : List Entry) 
       new (x ∷ H) p =
           ext-getD x (upTo (λ i. slotE geo e (n + i)) (length G)) G (length-upTo (λ i. slotE geo e (n + i)) (length G))
           (λ i l. let k : i < length G = rw (length-upTo (λ i. slotE geo e (n + i)) (length G)) at l in getD-upTo (λ i. slotE geo e (n + i)) (length G) i x k ∙ slot-found x i k)
-
--- ---- its writes fit a queue on which nothing waits
-
-pub append-fit : (geo : Geometry) (c : Card) (N : ℕ) (s : List ℕ) (n h : ℕ) (G : List Entry) → 4 * n ≤ length (blockAt s descriptorAt)
-    → (c .count ≡ 0) × (entryBytes * (length G + 2) ≤ length (c .waiting)) × (n + length G ≤ geo .slots) × All Whole G → Fit c (appendWrites geo N s n h G)
-append-fit geo c N s n h G d f = record {
-  none = f .0;
-  room = rw (length-append-writes geo N s n h G) (f .1);
-  whole = all-append Whole (slotBlocks geo n G) (descriptorEntry s n G ∷ top geo N s n h G ∷ []) (slots-whole geo n G (f .3))
-      (length-describe _ n G d (omega (arith, f .2, geo .described, geo .single)), (length-encode (header N n h (n + length G) (sumOf h G)), tt));
-  low = all-append NarrowAddress (slotBlocks geo n G) (descriptorEntry s n G ∷ top geo N s n h G ∷ [])
-      (slots-below geo (2 ^ 32) n G (omega (arith, f .2, geo .addressed))) (lib.Dec.lit< tt, (lib.Dec.lit< tt, tt));
-}

@@ -61,42 +61,9 @@ queued-done c es f h =
       room = run-lengths (batch es) c .1;
     }
 
--- ---- where nothing waits
-
--- writes that fit the queue
-pub record Fit (c : Card) (es : List Entry) : Type 0 where
-  pub none : c .count ≡ 0
-  pub room : entryBytes * length es ≤ length (c .waiting)
-  pub whole : All Whole es
-  pub low : All NarrowAddress es
-
-left-at : {c r : Card} {s t : List ℕ} {q v : List Entry} {p : ℕ} → s ≡ t → q ≡ v → Left c r s q p → Left c r t v p
-left-at x y l = record { settled = l .settled ∙ x; waits = l .waits ∙ y; count = l .count ∙ ap length y; power = l .power; room = l .room }
-
-behind-none : (c : Card) (es : List Entry) → Fit c es → Room c es
-behind-none c es f = record { places = omega (arith, f .none, f .room); whole = f .whole; low = f .low }
-
-pub batch-short : (c : Card) (es : List Entry) → Fit c es → c .power ≤ length es → Left c (run (batch es) c) (c .settled) (take (c .power) es) 0
-batch-short c es f h =
-    left-at refl (ap (λ (q : List Entry). q ++ take (c .power) es) (no-queue c (f .none))) (queued-short c es (behind-none c es f) h)
-
-pub batch-done : (c : Card) (es : List Entry) → Fit c es → length es < c .power → Left c (run (batch es) c) (settle es (c .settled)) [] (c .power - (length es + 1))
-batch-done c es f h =
-    left-at (ap (λ (q : List Entry). settle (q ++ es) (c .settled)) (no-queue c (f .none))) refl (queued-done c es (behind-none c es f) h)
-
--- ---- the rest of the orders after a first batch
-
+-- without power the rest of the orders changes nothing
 pub left-dead : (c r : Card) (s : List ℕ) (q : List Entry) (os : List Order) → Left c r s q 0 → Left c (run os r) s q 0
 left-dead c r s q os l = rw (run-dead os r (l .power)) l
-
-pub left-then : {c r t : Card} {s u u′ : List ℕ} {q v v′ : List Entry} {p k k′ : ℕ} → Left c r s q p → Left r t u v k → u ≡ u′ → v ≡ v′ → k ≡ k′ → Left c t u′ v′ k′
-left-then a b x y z = record {
-  settled = b .settled ∙ x;
-  waits = b .waits ∙ y;
-  count = b .count ∙ ap length y;
-  power = b .power ∙ z;
-  room = b .room ∙ a .room;
-}
 
 pub left-power : {c r : Card} {s : List ℕ} {q : List Entry} {p k : ℕ} → p ≡ k → Left c r s q p → Left c r s q k
 left-power e l = record { settled = l .settled; waits = l .waits; count = l .count; power = l .power ∙ e; room = l .room }

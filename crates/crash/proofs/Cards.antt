@@ -1,4 +1,5 @@
--- What a card holds when nothing waits: a header and its log, whole or with a fallback to come; and what writes make of it.
+-- What a card holds when nothing waits: a header and its log, whole or with a fallback to come, and the disk under it at the data blocks
+-- in question; and what writes make of it.
 use Prim.Native.Nat.{ℕ, _+_, _^_, _≤_, _<_}
 use mathlib.Core.Path.{_≡_, refl, ap, sym, _∙_}
 use mathlib.Core.Logic.{_≢_}
@@ -19,14 +20,16 @@ use Rattle.card.specs.Card.{blockAt}
 use Rattle.card.proofs.All.{All, all-map}
 use Rattle.card.proofs.Overlays.{lay-same, lay-other, overlay-append, overlay-other, overlay-agree, overlay-cover}
 use Rattle.journal.specs.Geometry.{Geometry}
-use Rattle.journal.specs.Layout.{headerAt, descriptorAt, slotAt, firstData, isData}
+use Rattle.journal.specs.Layout.{headerAt, describedIn, describedAt, slotAt, firstData, isData}
 use Rattle.journal.specs.Header.{encode, header, emptyHeader}
 use Rattle.journal.specs.Log.{slotAddress, slotEntry, entries, sumOf, allData, good}
 use Rattle.journal.proofs.Logs.{sumOf-nil, sumOf-append, sumOf-lt, allData-append, allData-all, data-bounds}
 use Rattle.journal.proofs.Choices.{both}
 use Rattle.crash.proofs.Logs.{sum-lt, slotE, logD, entries-disk, LogStands, same-log, same-agree, data-above, data-below}
 
--- ---- what the card holds when nothing waits
+-- all data blocks are in question
+abbrev pub Every : ℕ → Type 0
+Every a = Unit {0}
 
 module _ (geo : Geometry) where
   -- block 0 is a header of ours
@@ -37,17 +40,17 @@ module _ (geo : Geometry) where
     pub presum : ps < 2 ^ 64
     pub sum : ns < 2 ^ 64
 
-  -- its first n entries are the log: their list is w, and S is the disk under it
-  pub record WholeCard (N : ℕ) (d : Disk) (w : List Entry) (S : Disk) (n : ℕ) : Type 0 where
+  -- its first n entries are the log: their list is w, and S is the disk under it, at the data blocks X
+  pub record WholeCard (X : ℕ → Type 0) (N : ℕ) (d : Disk) (w : List Entry) (S : Disk) (n : ℕ) : Type 0 where
     pub p : ℕ
     pub ps : ℕ
     pub head : HasHeader d N p ps n (sumOf start (logD geo d n))
     pub all : allData geo N (logD geo d n) ≡ true
     pub same : w ≡ logD geo d n
-    pub disk : (a : ℕ) → isData geo N a ≡ true → S a ≡ overlay (logD geo d n) d a
+    pub disk : (a : ℕ) → isData geo N a ≡ true → X a → S a ≡ overlay (logD geo d n) d a
 
   -- its first c entries are not good, and its first n are the log: those of the list w from which the header took its sum
-  pub record FallCard (N : ℕ) (d : Disk) (w : List Entry) (S : Disk) (n : ℕ) : Type 0 where
+  pub record FallCard (X : ℕ → Type 0) (N : ℕ) (d : Disk) (w : List Entry) (S : Disk) (n : ℕ) : Type 0 where
     pub c : ℕ
     pub ns : ℕ
     pub head : HasHeader d N n (sumOf start (logD geo d n)) c ns
@@ -57,29 +60,29 @@ module _ (geo : Geometry) where
     pub size : length w ≡ c
     pub total : sumOf start w ≡ ns
     pub front : take n w ≡ logD geo d n
-    pub disk : (a : ℕ) → isData geo N a ≡ true → S a ≡ overlay (logD geo d n) d a
+    pub disk : (a : ℕ) → isData geo N a ≡ true → X a → S a ≡ overlay (logD geo d n) d a
 
-  abbrev pub ClosedCard : ℕ → Disk → List Entry → Disk → ℕ → Bool → Type 0
-  ClosedCard N d w S n false = WholeCard N d w S n
-  ClosedCard N d w S n true = FallCard N d w S n
+  abbrev pub ClosedCard : (ℕ → Type 0) → ℕ → Disk → List Entry → Disk → ℕ → Bool → Type 0
+  ClosedCard X N d w S n false = WholeCard X N d w S n
+  ClosedCard X N d w S n true = FallCard X N d w S n
 
   -- a card that some list, as long as v and with its sum, some disk and some count belong to
-  pub record SafeCard (N : ℕ) (d : Disk) (v : List Entry) : Type 0 where
+  pub record SafeCard (X : ℕ → Type 0) (N : ℕ) (d : Disk) (v : List Entry) : Type 0 where
     pub w : List Entry
     pub S : Disk
     pub n : ℕ
     pub F : Bool
     pub size : length w ≡ length v
     pub total : sumOf start w ≡ sumOf start v
-    pub card : ClosedCard N d w S n F
+    pub card : ClosedCard X N d w S n F
 
-  -- ---- a disk that agrees below N
+  -- ---- another disk, with the data blocks Y in question
 
   -- the same header and log, and the same disk under it
-  pub whole-frame : (N : ℕ) (d e : Disk) (w : List Entry) (S : Disk) (n : ℕ) → e headerAt ≡ d headerAt → logD geo e n ≡ logD geo d n
-      → ((a : ℕ) → isData geo N a ≡ true → overlay (logD geo d n) e a ≡ overlay (logD geo d n) d a)
-      → WholeCard N d w S n → WholeCard N e w S n
-  whole-frame N d e w S n h l o r = record {
+  pub whole-frame : (X Y : ℕ → Type 0) (N : ℕ) (d e : Disk) (w : List Entry) (S : Disk) (n : ℕ) → e headerAt ≡ d headerAt → logD geo e n ≡ logD geo d n
+      → ((a : ℕ) → isData geo N a ≡ true → Y a → X a × (overlay (logD geo d n) e a ≡ overlay (logD geo d n) d a))
+      → WholeCard X N d w S n → WholeCard Y N e w S n
+  whole-frame X Y N d e w S n h l o r = record {
     p = r .p;
     ps = r .ps;
     head = record {
@@ -91,52 +94,58 @@ module _ (geo : Geometry) where
     };
     all = rw l (r .all);
     same = r .same ∙ sym l;
-    disk = λ a q. rw l (r .disk a q ∙ sym (o a q));
+    disk = λ a q y. rw l (r .disk a q (o a q y .0) ∙ sym (o a q y .1));
   }
 
-  pub whole-agree : (N : ℕ) (d e : Disk) (w : List Entry) (S : Disk) (n : ℕ) → firstData geo < N → ((a : ℕ) → a < N → e a ≡ d a) → WholeCard N d w S n → WholeCard N e w S n
-  whole-agree N d e w S n b h r =
-      whole-frame N d e w S n (h headerAt (omega arith)) (same-log geo n e d (same-agree geo n e d (r .head .most) (λ a l. h a (omega arith))))
-      (λ a q. overlay-agree (logD geo d n) e d a (h a (data-below geo N a q))) r
+  -- a disk that agrees below the data blocks and at Y
+  module _ (X Y : ℕ → Type 0) (N : ℕ) (d e : Disk) (w : List Entry) (S : Disk) (n : ℕ) (low : (a : ℕ) → a < firstData geo → e a ≡ d a)
+      (homes : (a : ℕ) → isData geo N a ≡ true → Y a → X a × (e a ≡ d a)) where
+    log-agrees : (k : ℕ) → k ≤ geo .slots → logD geo e k ≡ logD geo d k
+    log-agrees k h = same-log geo k e d (same-agree geo k e d h low)
 
-  pub fall-agree : (N : ℕ) (d e : Disk) (w : List Entry) (S : Disk) (n : ℕ) → firstData geo < N → ((a : ℕ) → a < N → e a ≡ d a) → FallCard N d w S n → FallCard N e w S n
-  fall-agree N d e w S n b h r =
-      let k : n ≤ geo .slots = omega (arith, r .head .ordered, r .head .most) in
-      let l : logD geo e n ≡ logD geo d n = same-log geo n e d (same-agree geo n e d k (λ a q. h a (omega arith))) in
-      let m : logD geo e (r .c) ≡ logD geo d (r .c) = same-log geo (r .c) e d (same-agree geo (r .c) e d (r .head .most) (λ a q. h a (omega arith))) in
-      record {
-        c = r .c;
-        ns = r .ns;
-        head = record {
-          block = h headerAt (omega arith) ∙ r .head .block ∙ ap (λ (x : List Entry). encode (header N n (sumOf start x) (r .c) (r .ns))) (sym l);
-          ordered = r .head .ordered;
-          most = r .head .most;
-          presum = rw l (r .head .presum);
-          sum = r .head .sum;
-        };
-        all = rw l (r .all);
-        bad = rw m (r .bad);
-        other = λ q. r .other (q ∙ m);
-        size = r .size;
-        total = r .total;
-        front = r .front ∙ sym l;
-        disk = λ a q. rw l (r .disk a q ∙ sym (overlay-agree (logD geo d n) e d a (h a (data-below geo N a q))));
-      }
+    laid-agrees : (a : ℕ) → isData geo N a ≡ true → Y a → X a × (overlay (logD geo d n) e a ≡ overlay (logD geo d n) d a)
+    laid-agrees a q y = (homes a q y .0, overlay-agree (logD geo d n) e d a (homes a q y .1))
 
-  pub closed-agree : (N : ℕ) (d e : Disk) (w : List Entry) (S : Disk) (n : ℕ) (F : Bool) → firstData geo < N → ((a : ℕ) → a < N → e a ≡ d a) → ClosedCard N d w S n F → ClosedCard N e w S n F
-  closed-agree N d e w S n false b h r = whole-agree N d e w S n b h r
-  closed-agree N d e w S n true b h r = fall-agree N d e w S n b h r
+    whole-agree : WholeCard X N d w S n → WholeCard Y N e w S n
+    whole-agree r = whole-frame X Y N d e w S n (low headerAt (omega arith)) (log-agrees n (r .head .most)) laid-agrees r
+
+    fall-agree : FallCard X N d w S n → FallCard Y N e w S n
+    fall-agree r =
+        let l : logD geo e n ≡ logD geo d n = log-agrees n (omega (arith, r .head .ordered, r .head .most)) in
+        let m : logD geo e (r .c) ≡ logD geo d (r .c) = log-agrees (r .c) (r .head .most) in
+        record {
+          c = r .c;
+          ns = r .ns;
+          head = record {
+            block = low headerAt (omega arith) ∙ r .head .block ∙ ap (λ (x : List Entry). encode (header N n (sumOf start x) (r .c) (r .ns))) (sym l);
+            ordered = r .head .ordered;
+            most = r .head .most;
+            presum = rw l (r .head .presum);
+            sum = r .head .sum;
+          };
+          all = rw l (r .all);
+          bad = rw m (r .bad);
+          other = λ q. r .other (q ∙ m);
+          size = r .size;
+          total = r .total;
+          front = r .front ∙ sym l;
+          disk = λ a q y. rw l (r .disk a q (homes a q y .0) ∙ sym (laid-agrees a q y .1));
+        }
+
+    pub closed-agree : (F : Bool) → ClosedCard X N d w S n F → ClosedCard Y N e w S n F
+    closed-agree false r = whole-agree r
+    closed-agree true r = fall-agree r
 
   -- ---- an append whose header was kept, on the disk e: the first n entries stand, the rest are those found
 
-  pub record Appended (N : ℕ) (d e : Disk) (n h : ℕ) (G : List Entry) : Type 0 where
+  pub record Appended (X : ℕ → Type 0) (N : ℕ) (d e : Disk) (n h : ℕ) (G : List Entry) : Type 0 where
     pub head : e headerAt ≡ encode (header N n h (n + length G) (sumOf h G))
     pub log : LogStands geo n e d
-    pub homes : (a : ℕ) → isData geo N a ≡ true → e a ≡ d a
+    pub homes : (a : ℕ) → isData geo N a ≡ true → X a → e a ≡ d a
     pub sum : h ≡ sumOf start (logD geo d n)
     pub room : n + length G ≤ geo .slots
 
-  module _ (N : ℕ) (d e : Disk) (w : List Entry) (S : Disk) (n h : ℕ) (G : List Entry) (r : WholeCard N d w S n) (t : Appended N d e n h G) where
+  module _ (X Y : ℕ → Type 0) (N : ℕ) (d e : Disk) (w : List Entry) (S : Disk) (n h : ℕ) (G : List Entry) (sub : (a : ℕ) → Y a → X a) (r : WholeCard X N d w S n) (t : Appended Y N d e n h G) where
     -- the list from which that header took its sum
     pub append-sum : sumOf start (logD geo d n ++ G) ≡ sumOf h G
     append-sum = sumOf-append start (logD geo d n) G ∙ ap (λ (k : ℕ). sumOf k G) (sym (t .sum))
@@ -157,22 +166,22 @@ module _ (geo : Geometry) where
     append-log = same-log geo n e d (t .log)
 
     -- the log found is the log written: G is laid over S
-    pub append-found : allData geo N G ≡ true → logD geo e (n + length G) ≡ logD geo d n ++ G → WholeCard N e (logD geo d n ++ G) (overlay G S) (n + length G)
+    pub append-found : allData geo N G ≡ true → logD geo e (n + length G) ≡ logD geo d n ++ G → WholeCard Y N e (logD geo d n ++ G) (overlay G S) (n + length G)
     append-found m q = record {
       p = n;
       ps = h;
       head = rw (q, append-sum) append-head;
       all = rw (q, allData-append geo N (logD geo d n) G, r .all) m;
       same = sym q;
-      disk = λ a x.
+      disk = λ a x y.
           rw q
-          (overlay-agree G S (overlay (logD geo d n) d) a (r .disk a x)
-          ∙ overlay-agree G (overlay (logD geo d n) d) (overlay (logD geo d n) e) a (sym (overlay-agree (logD geo d n) e d a (t .homes a x)))
+          (overlay-agree G S (overlay (logD geo d n) d) a (r .disk a x (sub a y))
+          ∙ overlay-agree G (overlay (logD geo d n) d) (overlay (logD geo d n) e) a (sym (overlay-agree (logD geo d n) e d a (t .homes a x y)))
           ∙ ap (λ (f : Disk). f a) (sym (overlay-append (logD geo d n) G e)));
     }
 
     -- it is not good: the log is the first n entries as before
-    pub append-bad : logD geo d n ++ G ≢ logD geo e (n + length G) → good geo N (logD geo e (n + length G)) (sumOf h G) ≡ false → FallCard N e (logD geo d n ++ G) S n
+    pub append-bad : logD geo d n ++ G ≢ logD geo e (n + length G) → good geo N (logD geo e (n + length G)) (sumOf h G) ≡ false → FallCard Y N e (logD geo d n ++ G) S n
     append-bad z b = record {
       c = n + length G;
       ns = sumOf h G;
@@ -183,14 +192,14 @@ module _ (geo : Geometry) where
       size = append-size;
       total = append-sum;
       front = lib.Seq.take-at (logD geo d n) G n (length-upTo (slotE geo d) n) ∙ sym append-log;
-      disk = λ a x. rw append-log (r .disk a x ∙ sym (overlay-agree (logD geo d n) e d a (t .homes a x)));
+      disk = λ a x y. rw append-log (r .disk a x (sub a y) ∙ sym (overlay-agree (logD geo d n) e d a (t .homes a x y)));
     }
 
     -- it has the sum by a collision: whatever is found then is a log all the same
-    pub append-safe : logD geo d n ++ G ≢ logD geo e (n + length G) → SafeCard N e (logD geo d n ++ G)
+    pub append-safe : logD geo d n ++ G ≢ logD geo e (n + length G) → SafeCard Y N e (logD geo d n ++ G)
     append-safe z = go (good geo N (logD geo e (n + length G)) (sumOf h G)) refl
       where
-        go : (t : Bool) → good geo N (logD geo e (n + length G)) (sumOf h G) ≡ t → SafeCard N e (logD geo d n ++ G)
+        go : (t : Bool) → good geo N (logD geo e (n + length G)) (sumOf h G) ≡ t → SafeCard Y N e (logD geo d n ++ G)
         go true b =
             let parts = both (eqb (sumOf start (logD geo e (n + length G))) (sumOf h G)) (allData geo N (logD geo e (n + length G))) b in
             let q : sumOf start (logD geo e (n + length G)) ≡ sumOf h G = borrow.Author.Tests.eqb-true _ _ (parts .0) in
@@ -201,17 +210,15 @@ module _ (geo : Geometry) where
               F = false;
               size = length-upTo (slotE geo e) (n + length G) ∙ sym append-size;
               total = q ∙ sym append-sum;
-              card = record { p = n; ps = h; head = rw q append-head; all = parts .1; same = refl; disk = λ a x. refl };
+              card = record { p = n; ps = h; head = rw q append-head; all = parts .1; same = refl; disk = λ a x y. refl };
             }
         go false b = record { w = logD geo d n ++ G; S = S; n = n; F = true; size = refl; total = refl; card = append-bad z b }
 
-  -- ---- a checkpoint
+  -- ---- a checkpoint: an empty log's header over home blocks that are S
 
-  -- then an empty log's header
-  pub emptied : (N : ℕ) (d e : Disk) (S : Disk) → e headerAt ≡ encode (emptyHeader N) → ((a : ℕ) → isData geo N a ≡ true → e a ≡ d a)
-      → ((a : ℕ) → isData geo N a ≡ true → S a ≡ d a) → WholeCard N e [] S 0
+  pub emptied : (X : ℕ → Type 0) (N : ℕ) (e : Disk) (S : Disk) → e headerAt ≡ encode (emptyHeader N) → ((a : ℕ) → isData geo N a ≡ true → X a → S a ≡ e a) → WholeCard X N e [] S 0
   unfolding overlay allData
-  emptied N d e S h k s = record {
+  emptied X N e S h s = record {
     p = 0;
     ps = start;
     head = record {
@@ -223,17 +230,21 @@ module _ (geo : Geometry) where
     };
     all = refl;
     same = refl;
-    disk = λ a q. s a q ∙ sym (k a q);
+    disk = s;
   }
 
   -- ---- a fallback's header
 
-  pub fallen : (N : ℕ) (d e : Disk) (w : List Entry) (S : Disk) (n : ℕ) → firstData geo < N
+  pub fallen : (X Y : ℕ → Type 0) (N : ℕ) (d e : Disk) (w : List Entry) (S : Disk) (n : ℕ)
       → e headerAt ≡ encode (header N n (sumOf start (logD geo d n)) n (sumOf start (logD geo d n)))
-      → ((a : ℕ) → a < N → a ≢ headerAt → e a ≡ d a) → FallCard N d w S n → WholeCard N e (logD geo d n) S n
-  fallen N d e w S n big h k r =
+      → ((a : ℕ) → a < firstData geo → a ≢ headerAt → e a ≡ d a) → ((a : ℕ) → isData geo N a ≡ true → Y a → X a × (e a ≡ d a)) → FallCard X N d w S n → WholeCard Y N e (logD geo d n) S n
+  fallen X Y N d e w S n h low homes r =
       let m : n ≤ geo .slots = omega (arith, r .head .ordered, r .head .most) in
-      let l : logD geo e n ≡ logD geo d n = same-log geo n e d (record { addresses = λ i q. ap (λ (b : List ℕ). cell 4 b i) (k descriptorAt (omega (arith, geo .single)) (λ z. omega arith)); blocks = λ i q. k (slotAt geo i) (omega arith) (λ z. omega arith) }) in
+      let l : logD geo e n ≡ logD geo d n =
+      same-log geo n e d (record {
+        addresses = λ i q. ap (λ (b : List ℕ). cell 4 b (describedAt i)) (low (describedIn i) (omega (arith, geo .described)) (λ z. omega arith));
+        blocks = λ i q. low (slotAt geo i) (omega arith) (λ z. omega arith);
+      }) in
       record {
         p = n;
         ps = sumOf start (logD geo d n);
@@ -246,5 +257,5 @@ module _ (geo : Geometry) where
         };
         all = rw l (r .all);
         same = sym l;
-        disk = λ a q. rw l (r .disk a q ∙ sym (overlay-agree (logD geo d n) e d a (k a (data-below geo N a q) (λ z. let u = data-above geo N a q in omega arith))));
+        disk = λ a q y. rw l (r .disk a q (homes a q y .0) ∙ sym (overlay-agree (logD geo d n) e d a (homes a q y .1)));
       }

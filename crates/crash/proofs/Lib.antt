@@ -3,6 +3,7 @@ pub mod Logs
 pub mod Cards
 pub mod Frames
 pub mod Batches
+pub mod Plans
 pub mod Appends
 pub mod Leads
 pub mod CallCuts

@@ -19,7 +19,7 @@ use Rattle.card.specs.Card.{blockAt}
 use Rattle.card.proofs.All.{All, all-map}
 use Rattle.card.proofs.Overlays.{lay-same, lay-other, overlay-append, overlay-other, overlay-agree, overlay-cover}
 use Rattle.journal.specs.Geometry.{Geometry}
-use Rattle.journal.specs.Layout.{headerAt, descriptorAt, slotAt, firstData, isData}
+use Rattle.journal.specs.Layout.{describedIn, describedAt, slotAt, firstData, isData}
 use Rattle.journal.specs.Header.{encode, header, emptyHeader}
 use Rattle.journal.specs.Log.{slotAddress, slotEntry, entries, sumOf, allData, good}
 use Rattle.journal.proofs.Logs.{sumOf-nil, sumOf-append, sumOf-lt, allData-append, allData-all, data-bounds}
@@ -30,7 +30,7 @@ sum-lt es = sumOf-lt start es (lib.Dec.lit< tt)
 
 module _ (geo : Geometry) where
   unfoldable pub slotE : Disk → ℕ → Entry
-  slotE d i = record { address = num (cell 4 (d descriptorAt) i); block = d (slotAt geo i) }
+  slotE d i = record { address = num (cell 4 (d (describedIn i)) (describedAt i)); block = d (slotAt geo i) }
 
   abbrev pub logD : Disk → ℕ → List Entry
   logD d n = upTo (slotE d) n
@@ -41,7 +41,7 @@ module _ (geo : Geometry) where
 
   -- the first n addresses and slots are as on another disk
   pub record LogStands (n : ℕ) (d e : Disk) : Type 0 where
-    pub addresses : (i : ℕ) → i < n → cell 4 (d descriptorAt) i ≡ cell 4 (e descriptorAt) i
+    pub addresses : (i : ℕ) → i < n → cell 4 (d (describedIn i)) (describedAt i) ≡ cell 4 (e (describedIn i)) (describedAt i)
     pub blocks : (i : ℕ) → i < n → d (slotAt geo i) ≡ e (slotAt geo i)
 
   pub same-log : (n : ℕ) (d e : Disk) → LogStands n d e → logD d n ≡ logD e n
@@ -50,7 +50,7 @@ module _ (geo : Geometry) where
 
   pub same-agree : (n : ℕ) (d e : Disk) → n ≤ geo .slots → ((a : ℕ) → a < firstData geo → d a ≡ e a) → LogStands n d e
   same-agree n d e m h = record {
-    addresses = λ i l. ap (λ (b : List ℕ). cell 4 b i) (h descriptorAt (omega (arith, geo .single)));
+    addresses = λ i l. ap (λ (b : List ℕ). cell 4 b (describedAt i)) (h (describedIn i) (omega (arith, geo .described)));
     blocks = λ i l. h (slotAt geo i) (omega arith);
   }
 

@@ -1,5 +1,4 @@
 -- Every call keeps the relation, and so does every list of calls.
-pub mod Plans
 pub mod Shown
 pub mod Local
 pub mod Cut

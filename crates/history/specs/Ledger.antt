@@ -39,8 +39,9 @@ abbrev pub applyHeader : State → PlannedHeader
 applyHeader st = record { at = st .rec .logged + 1; place = 0; list = [] }
 
 module _ (geo : Geometry) where
+  -- behind the log blocks and the descriptor
   abbrev pub ownHeader : State → PlannedHeader
-  ownHeader st = record { at = inner geo st + (st .rec .grouped + 1); place = st .rec .grouped + 1; list = standing geo st ++ groupOf geo st }
+  ownHeader st = record { at = inner geo st + (st .rec .grouped + geo .descriptors); place = st .rec .grouped + geo .descriptors; list = standing geo st ++ groupOf geo st }
 
   -- the list that a recovery takes
   abbrev pub taken : State → List Entry

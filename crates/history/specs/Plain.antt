@@ -113,13 +113,14 @@ module _ (geo : Geometry) where
   abbrev pub applies : ℕ → ℕ → Bool
   applies n m = not (leb (n + m) (geo .slots))
 
--- "n+3 orders", "m+3 orders"
+-- "n+3 orders"
 abbrev pub applyTakes : ℕ → ℕ
 applyTakes n = n + 3
 
 module _ (geo : Geometry) where
+  -- "m+3 orders": m log blocks, the descriptor (one block at the trap), the header, the flush
   abbrev pub syncTakes : ℕ → ℕ → ℕ
-  syncTakes n m = cond (applies geo n m) (applyTakes n + (m + 3)) (m + 3)
+  syncTakes n m = cond (applies geo n m) (applyTakes n + (m + geo .descriptors + 2)) (m + geo .descriptors + 2)
 
 -- the waiting writes after k orders of an apply: n home blocks, flush, header, flush
 abbrev pub applyWaits : ℕ → ℕ → ℕ
@@ -160,8 +161,8 @@ module _ (geo : Geometry) where
   verdict (ofApply k) n m F kept found = applyVerdict k n F kept
   verdict (ofSync k) n m F kept found =
       cond (applies geo n m)
-      (cond (eqb k (applyTakes n + (m + 2))) (ownVerdict 0 m kept found) (applyVerdict k n F kept))
-      (cond (eqb k (m + 2)) (ownVerdict n m kept found) (unchanged n F))
+      (cond (eqb k (applyTakes n + (m + geo .descriptors + 1))) (ownVerdict 0 m kept found) (applyVerdict k n F kept))
+      (cond (eqb k (m + geo .descriptors + 1)) (ownVerdict n m kept found) (unchanged n F))
 
 -- ---- the steps
 

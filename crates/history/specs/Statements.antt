@@ -154,7 +154,7 @@ pub data Progress : Type 0 where
 module _ (geo : Geometry) where
   -- the sync's own header was written, and nothing after it
   abbrev pub headed : World → Bool
-  headed w = eqb (dispatch geo sync (w .store) .orders) (inner geo (w .store) + (w .store .rec .grouped + 2))
+  headed w = eqb (dispatch geo sync (w .store) .orders) (inner geo (w .store) + (w .store .rec .grouped + geo .descriptors + 1))
 
   -- at an accepted cut: its header kept, and the log found is the log written
   abbrev pub atCut : Call → World → List Entry → ℕ → Bool → Progress
@@ -166,7 +166,7 @@ module _ (geo : Geometry) where
       (undecided G place made)
 
   unfoldable pub observe : Call → World → Progress → Progress
-  observe c w (known quiet) = cond (shortSync geo c w) (undecided (groupOf geo (w .store)) (w .store .rec .grouped + 1) (headed w)) (known quiet)
+  observe c w (known quiet) = cond (shortSync geo c w) (undecided (groupOf geo (w .store)) (w .store .rec .grouped + geo .descriptors) (headed w)) (known quiet)
   observe c w (known (decided G laid all)) = known (decided G laid all)
   observe c w (undecided G place made) = atCut c w G place made
 

@@ -4,8 +4,8 @@ use mathlib.Core.Path.{_≡_, refl, ap, sym, _∙_}
 use mathlib.Core.List.{List, [], _∷_, _++_, append-assoc, append-nil}
 use native.Mathlib.Numerals.{add-one}
 use native.Mathlib.Omega.{arith}
-use lib.ListN.{length, getD, take, drop, replicate, length-append, length-drop, length-replicate, List·getD-append}
-use lib.Seq.{sets, sets-eq, length-take-le, take-at, take-take, take-append-le, drop-drop, drop-append-le, drop-append-add, getD-take}
+use lib.ListN.{length, getD, take, drop, replicate, length-append, length-take, length-drop, length-replicate, List·getD-append}
+use lib.Seq.{sets, sets-eq, length-take-le, take-at, take-take, take-append-add, drop-drop, drop-append-add, getD-take}
 use Rattle.cells.specs.Cell.{cell}
 use Rattle.cells.specs.Cell.Laws.{cell-part, drop-take, sets-append}
 use Rattle.cells.specs.Little.{le}
@@ -36,12 +36,38 @@ addresses-more s at f i a e =
     let size : length (addressBytes (upTo f i)) ≡ 4 * i = length-addressBytes (upTo f i) ∙ ap (λ (k : ℕ). 4 * k) (length-upTo f i) in
     rw (add-one, addressBytes-append, append-nil, sets-append, size, e)
 
-pub length-describe : (old : List ℕ) (n : ℕ) (es : List Entry) → 4 * n ≤ length old → 4 * (n + length es) ≤ blockBytes
-    → length (describe old n es) ≡ blockBytes
+-- ---- a descriptor block
+
+pub length-describe : (old : List ℕ) (n : ℕ) (es : List Entry) → length (describe old n es) ≡ blockBytes
 unfolding describe
-length-describe old n es h k =
-    let tail : length (replicate {A = ℕ} (blockBytes - 4 * (n + length es)) 0) ≡ blockBytes - 4 * (n + length es) = length-replicate _ _ in
-    rw (length-append, length-append, length-take-le (4 * n) old h, length-addressBytes) (omega arith)
+length-describe old n es =
+    let tail : length (replicate {A = ℕ} blockBytes 0) ≡ blockBytes = length-replicate {A = ℕ} blockBytes 0 in
+    length-take-le blockBytes (take (4 * n) old ++ (addressBytes es ++ replicate blockBytes 0)) (rw (length-append, length-append, tail) (omega arith))
+
+take-zeros : (k n : ℕ) → k ≤ n → take k (replicate {A = ℕ} n 0) ≡ replicate k 0
+take-zeros zero n h = refl
+take-zeros (suc k) zero h = absurd (omega arith)
+take-zeros (suc k) (suc n) h = ap (λ (l : List ℕ). 0 ∷ l) (take-zeros k n (omega arith))
+
+-- one that holds the whole list
+pub describe-room : (old : List ℕ) (n : ℕ) (es : List Entry) → 4 * n ≤ length old → 4 * (n + length es) ≤ blockBytes
+    → describe old n es ≡ take (4 * n) old ++ (addressBytes es ++ replicate (blockBytes - 4 * (n + length es)) 0)
+unfolding describe
+describe-room old n es h k =
+    let front : length (take (4 * n) old) ≡ 4 * n = length-take-le (4 * n) old h in
+    let new : length (addressBytes es) ≡ 4 * length es = length-addressBytes es in
+    let zeros : List ℕ = replicate blockBytes 0 in
+    let size : blockBytes ≡ length (take (4 * n) old) + (length (addressBytes es) + (blockBytes - 4 * (n + length es))) = omega arith in
+    ap (λ (i : ℕ). take i (take (4 * n) old ++ (addressBytes es ++ zeros))) size
+    ∙ take-append-add (take (4 * n) old) (addressBytes es ++ zeros) (length (addressBytes es) + (blockBytes - 4 * (n + length es)))
+    ∙ ap (λ (l : List ℕ). take (4 * n) old ++ l)
+    (take-append-add (addressBytes es) zeros (blockBytes - 4 * (n + length es))
+    ∙ ap (λ (l : List ℕ). addressBytes es ++ l) (take-zeros (blockBytes - 4 * (n + length es)) blockBytes (omega arith)))
+
+-- with no address kept, the old block plays no part
+pub describe-afresh : (a b : List ℕ) (n : ℕ) (es : List Entry) → n ≡ 0 → describe a n es ≡ describe b n es
+unfolding describe
+describe-afresh a b n es z = rw z
 
 drop-zeros : (k n : ℕ) → drop k (replicate {A = ℕ} n 0) ≡ replicate (n - k) 0
 drop-zeros zero n = let e : n - 0 ≡ n = omega arith in rw e
@@ -51,9 +77,8 @@ drop-zeros (suc k) (suc n) = let e : suc n - suc k ≡ n - k = omega arith in rw
 -- the old addresses copied into zeros, and the new ones stored behind them
 pub described : (old z : List ℕ) (n : ℕ) (es : List Entry) → 4 * n ≤ length old → z ≡ replicate blockBytes 0 → 4 * (n + length es) ≤ blockBytes
     → sets (take (4 * n) old ++ drop (4 * n) z) (4 * n) (addressBytes es) ≡ describe old n es
-unfolding describe
 described old z n es h zeros k =
-    rw (sets-eq (addressBytes es) (take (4 * n) old ++ drop (4 * n) z) (4 * n) room, take-at (take (4 * n) old) (drop (4 * n) z) (4 * n) front, append-assoc, new)
+    rw (describe-room old n es h k, sets-eq (addressBytes es) (take (4 * n) old ++ drop (4 * n) z) (4 * n) room, take-at (take (4 * n) old) (drop (4 * n) z) (4 * n) front, append-assoc, new)
     (ap (λ (r : List ℕ). take (4 * n) old ++ (addressBytes es ++ r)) behind)
   where
     front : length (take (4 * n) old) ≡ 4 * n
@@ -76,11 +101,13 @@ described old z n es h zeros k =
 -- ---- read back
 
 -- the bytes of the old list's addresses stand as they did
-pub describe-byte : (old : List ℕ) (n : ℕ) (es : List Entry) (j : ℕ) → 4 * n ≤ length old → j < 4 * n → getD (describe old n es) j 0 ≡ getD old j 0
+pub describe-byte : (old : List ℕ) (n : ℕ) (es : List Entry) (j : ℕ) → length old ≡ blockBytes → j < 4 * n → j < blockBytes → getD (describe old n es) j 0 ≡ getD old j 0
 unfolding describe
-describe-byte old n es j h k =
-    let front : length (take (4 * n) old) ≡ 4 * n = length-take-le (4 * n) old h in
-    List·getD-append (take (4 * n) old) (addressBytes es ++ replicate (blockBytes - 4 * (n + length es)) 0) 0 j (omega arith) ∙ getD-take (4 * n) old j 0 k
+describe-byte old n es j h k l =
+    let front : j < length (take (4 * n) old) = rw (length-take) (omega arith) in
+    getD-take blockBytes (take (4 * n) old ++ (addressBytes es ++ replicate blockBytes 0)) j 0 l
+    ∙ List·getD-append (take (4 * n) old) (addressBytes es ++ replicate blockBytes 0) 0 j front
+    ∙ getD-take (4 * n) old j 0 k
 
 address-at : (es : List Entry) (i : ℕ) (d : Entry) (rest : List ℕ) → i < length es
     → take 4 (drop (4 * i) (addressBytes es ++ rest)) ≡ le 4 (getD es i d .address)
@@ -94,14 +121,18 @@ address-at (e ∷ es) (suc i) d rest h =
     ∙ address-at es i d rest (omega arith))
 
 -- and the new ones behind them
-pub describe-new : (old : List ℕ) (n : ℕ) (es : List Entry) (i : ℕ) (d : Entry) → 4 * n ≤ length old → i < length es
+pub describe-new : (old : List ℕ) (n : ℕ) (es : List Entry) (i : ℕ) (d : Entry) → 4 * n ≤ length old → i < length es → 4 * (n + i) + 4 ≤ blockBytes
     → cell 4 (describe old n es) (n + i) ≡ le 4 (getD es i d .address)
 unfolding describe
-describe-new old n es i d h k =
-    let rest : List ℕ = replicate (blockBytes - 4 * (n + length es)) 0 in
+describe-new old n es i d h k l =
+    let rest : List ℕ = replicate blockBytes 0 in
     let front : length (take (4 * n) old) ≡ 4 * n = length-take-le (4 * n) old h in
     let place : 4 * (n + i) ≡ length (take (4 * n) old) + 4 * i = omega arith in
+    let whole : blockBytes ≡ 4 * (n + i) + (blockBytes - 4 * (n + i)) = omega arith in
     cell-part 4 (describe old n es) (n + i)
-    ∙ ap (λ (x : ℕ). take 4 (drop x (describe old n es))) place
+    ∙ ap (λ (x : ℕ). take 4 (drop (4 * (n + i)) (take x (take (4 * n) old ++ (addressBytes es ++ rest))))) whole
+    ∙ ap (take 4) (drop-take (4 * (n + i)) (blockBytes - 4 * (n + i)) (take (4 * n) old ++ (addressBytes es ++ rest)))
+    ∙ take-take 4 (blockBytes - 4 * (n + i)) (drop (4 * (n + i)) (take (4 * n) old ++ (addressBytes es ++ rest))) (omega arith)
+    ∙ ap (λ (x : ℕ). take 4 (drop x (take (4 * n) old ++ (addressBytes es ++ rest)))) place
     ∙ ap (take 4) (drop-append-add (take (4 * n) old) (addressBytes es ++ rest) (4 * i))
     ∙ address-at es i d rest k

@@ -24,7 +24,7 @@ use Rattle.card.specs.Card.{blockAt, blocksIn}
 use Rattle.card.proofs.All.{All, all-upTo, upTo-all}
 use Rattle.card.proofs.Runs.{Whole, NarrowAddress}
 use Rattle.journal.specs.Geometry.{Geometry}
-use Rattle.journal.specs.Layout.{slotAt, descriptorAt, firstData, isData}
+use Rattle.journal.specs.Layout.{slotAt, describedIn, describedAt, firstData, isData}
 use Rattle.journal.specs.Log.{slotAddress, slotEntry, entries, entriesFrom, sumOf, allData}
 
 -- ---- tests
@@ -149,10 +149,10 @@ module _ (geo : Geometry) where
   pub slotAddress-lt : (s : List ℕ) (i : ℕ) → Bytes s → firstData geo < blocksIn s → i < geo .slots → slotAddress s i < 2 ^ 32
   unfolding slotAddress
   slotAddress-lt s i b h k =
-      let whole : length (blockAt s descriptorAt) ≡ blockBytes = length-blockAt s descriptorAt (omega arith) in
-      let four : length (cell 4 (blockAt s descriptorAt) i) ≡ 4 = length-cell 4 (blockAt s descriptorAt) i (omega arith) in
-      let small : num (cell 4 (blockAt s descriptorAt) i) < 256 ^ length (cell 4 (blockAt s descriptorAt) i) =
-      num-lt (cell 4 (blockAt s descriptorAt) i) (bytes-cell 4 (blockAt s descriptorAt) i (bytes-cell blockBytes s descriptorAt b)) in
+      let whole : length (blockAt s (describedIn i)) ≡ blockBytes = length-blockAt s (describedIn i) (omega (arith, geo .described)) in
+      let four : length (cell 4 (blockAt s (describedIn i)) (describedAt i)) ≡ 4 = length-cell 4 (blockAt s (describedIn i)) (describedAt i) (omega arith) in
+      let small : num (cell 4 (blockAt s (describedIn i)) (describedAt i)) < 256 ^ length (cell 4 (blockAt s (describedIn i)) (describedAt i)) =
+      num-lt (cell 4 (blockAt s (describedIn i)) (describedAt i)) (bytes-cell 4 (blockAt s (describedIn i)) (describedAt i) (bytes-cell blockBytes s (describedIn i) b)) in
       rw four at small
 
   pub entries-below : (X : ℕ) (s : List ℕ) (n : ℕ) → ((i : ℕ) → i < n → slotAddress s i < X) → All (λ e. e .address < X) (entries geo s n)

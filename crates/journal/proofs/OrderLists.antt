@@ -1,28 +1,30 @@
 -- The laws of the lists of orders: how long they are, what they write and where.
-use Prim.Native.Nat.{ℕ, zero, suc, _+_, _*_, _^_, _≤_, _<_}
+use Prim.Native.Nat.{ℕ, zero, suc, _+_, _*_, _-_, _^_, _≤_, _<_}
 use mathlib.Core.Path.{_≡_, refl, ap, ap₂, sym, _∙_}
 use mathlib.Core.Bool.{Bool, true, false, cond}
 use mathlib.Core.List.{List, [], _∷_, _++_, map, map-append, append-assoc}
 use native.Mathlib.Nat.{add-zero, add-suc, suc-add}
 use native.Mathlib.Omega.{arith}
 use lib.Dec.{eqb, leb}
-use lib.ListN.{length, length-append, length-map}
+use lib.ListN.{length, drop, length-append, length-map}
 use Rattle.cells.specs.Upto.{upTo}
-use Rattle.cells.specs.Upto.Laws.{length-upTo}
+use Rattle.cells.specs.Upto.Laws.{length-upTo, ext-upTo}
 use Rattle.cells.specs.Entry.{entryBytes, Entry}
+use Rattle.cells.specs.Entry.Laws.{entry-eq}
 use Rattle.fnv.specs.Fnv.{start}
 use Rattle.card.specs.Card.{Order, write, flush, run, blockAt}
 use Rattle.card.specs.declared.queue.Queue.{Queue}
 use Rattle.card.specs.CodeQueue.{cardOf, Below}
 use Rattle.card.proofs.All.{All, all-append}
 use Rattle.card.proofs.Runs.{Whole, NarrowAddress, writes-below}
-use Rattle.journal.specs.Geometry.{Geometry}
+use Rattle.journal.specs.Geometry.{Geometry, perDescriptor, trap}
+use Rattle.journal.specs.Geometry.Laws.{trap-descriptors}
 use Rattle.journal.specs.declared.header.Header.{Header}
 use Rattle.journal.specs.Layout.{headerAt, descriptorAt, slotAt, firstData}
 use Rattle.journal.specs.Header.{encode, header, emptyHeader}
 use Rattle.journal.specs.Log.{slotEntry, entries, sumOf}
-use Rattle.journal.specs.Orders.{headerWrite, slotWrites, describe, appendOrders, checkpointOrders, fallbackOrders, applyOrders, syncOrders}
-pub use Rattle.journal.proofs.Descriptors.{length-describe}
+use Rattle.journal.specs.Orders.{headerWrite, slotWrites, describe, descriptorEntry, descriptors, appendOrders, checkpointOrders, fallbackOrders, applyOrders, syncOrders}
+pub use Rattle.journal.proofs.Descriptors.{length-describe, describe-afresh}
 use Rattle.journal.proofs.Phases.{below-card}
 
 -- ---- log blocks
@@ -81,33 +83,42 @@ module _ (geo : Geometry) where
 
 -- ---- the writes of each list
 
--- a header, a descriptor, as entries
+-- a header as an entry
 abbrev pub headerEntry : Header → Entry
 headerEntry h = record { address = headerAt; block = encode h }
 
-abbrev pub descriptorEntry : List ℕ → ℕ → List Entry → Entry
-descriptorEntry s n es = record { address = descriptorAt; block = describe (blockAt s descriptorAt) n es }
+-- the one descriptor block of the trap
+abbrev pub oneDescriptor : List ℕ → ℕ → List Entry → Entry
+oneDescriptor s n es = record { address = descriptorAt; block = describe (blockAt s descriptorAt) n es }
+
+pub one-descriptor : (s : List ℕ) (n : ℕ) (es : List Entry) → descriptors trap s n es ≡ oneDescriptor s n es ∷ []
+one-descriptor s n es =
+    let kept : n - 0 ≡ n = omega arith in
+    let all : 0 - n ≡ 0 = omega arith in
+    ap (upTo (descriptorEntry s n es)) trap-descriptors
+    ∙ ap₂ (λ (k i : ℕ). record { address = descriptorAt; block = describe (blockAt s descriptorAt) k (drop i es) } ∷ []) kept all
 
 module _ (geo : Geometry) where
   -- what an append writes before its flush
   abbrev pub appendWrites : ℕ → List ℕ → ℕ → ℕ → List Entry → List Entry
-  appendWrites N s n h es = slotBlocks geo n es ++ (descriptorEntry s n es ∷ headerEntry (header N n h (n + length es) (sumOf h es)) ∷ [])
+  appendWrites N s n h es = slotBlocks geo n es ++ (descriptors geo s n es ++ (headerEntry (header N n h (n + length es) (sumOf h es)) ∷ []))
 
   pub append-writes : (N : ℕ) (s : List ℕ) (n h : ℕ) (es : List Entry) → appendOrders geo N s n h es ≡ map write (appendWrites N s n h es) ++ (flush ∷ [])
   unfolding appendOrders
   append-writes N s n h es =
-      rw (map-append write (slotBlocks geo n es) (descriptorEntry s n es ∷ headerEntry (header N n h (n + length es) (sumOf h es)) ∷ []), append-assoc, ← slotWrites-blocks geo n es)
+      let top : List Entry = headerEntry (header N n h (n + length es) (sumOf h es)) ∷ [] in
+      rw (map-append write (slotBlocks geo n es) (descriptors geo s n es ++ top), map-append write (descriptors geo s n es) top, append-assoc, append-assoc, ← slotWrites-blocks geo n es)
 
   -- in the two phases in which it is given: log blocks and descriptor, then header and flush
   pub append-split : (N : ℕ) (s : List ℕ) (n h : ℕ) (es : List Entry)
-      → appendOrders geo N s n h es ≡ (slotWrites geo n es ++ (write (descriptorEntry s n es) ∷ [])) ++ (headerWrite (header N n h (n + length es) (sumOf h es)) ∷ flush ∷ [])
+      → appendOrders geo N s n h es ≡ (slotWrites geo n es ++ map write (descriptors geo s n es)) ++ (headerWrite (header N n h (n + length es) (sumOf h es)) ∷ flush ∷ [])
   unfolding appendOrders
   append-split N s n h es =
-      sym (append-assoc (slotWrites geo n es) (write (descriptorEntry s n es) ∷ []) (headerWrite (header N n h (n + length es) (sumOf h es)) ∷ flush ∷ []))
+      sym (append-assoc (slotWrites geo n es) (map write (descriptors geo s n es)) (headerWrite (header N n h (n + length es) (sumOf h es)) ∷ flush ∷ []))
 
-  -- what waits after the first
+  -- what waits after the first, with one descriptor block
   pub list-below : (X : ℕ) (s w : List ℕ) (q : Queue) (w′ : List ℕ) (q′ : Queue) (n : ℕ) (es : List Entry) (d : Entry)
-      → cardOf s w′ q′ ≡ run (slotWrites geo n es ++ (write d ∷ [])) (cardOf s w q)
+      → cardOf s w′ q′ ≡ run (slotWrites geo n es ++ map write (d ∷ [])) (cardOf s w q)
       → entryBytes * (q .waiting + length es + 1) ≤ length w → All Whole es → Whole d → d .address < slotAt geo 0 → n + length es ≤ geo .slots → firstData geo ≤ X
       → Below X w (q .waiting) → Below X w′ (q′ .waiting)
   list-below X s w q w′ q′ n es d told room whole d-whole d-low fits large old =
@@ -131,17 +142,21 @@ fallback-writes N p h = refl
 module _ (geo : Geometry) where
   -- at n = 0 the descriptor that stands on the card plays no part
   pub append-afresh : (N : ℕ) (s t : List ℕ) (h : ℕ) (es : List Entry) → appendOrders geo N s 0 h es ≡ appendOrders geo N t 0 h es
-  unfolding appendOrders describe
-  append-afresh N s t h es = refl
+  unfolding appendOrders
+  append-afresh N s t h es =
+      ap (λ (l : List Entry). slotWrites geo 0 es ++ (map write l ++ (headerWrite (header N 0 h (0 + length es) (sumOf h es)) ∷ flush ∷ [])))
+      (ext-upTo (descriptorEntry s 0 es) (descriptorEntry t 0 es) (geo .descriptors)
+      (λ j l. entry-eq refl (describe-afresh (blockAt s (descriptorAt + j)) (blockAt t (descriptorAt + j)) (0 - perDescriptor * j) (drop (perDescriptor * j - 0) es) (omega arith))))
 
   -- ---- lengths
 
   pub length-slotWrites : (n : ℕ) (es : List Entry) → length (slotWrites geo n es) ≡ length es
   length-slotWrites n es = rw (slotWrites-blocks geo, length-map) (length-slotBlocks geo n es)
 
-  pub length-append-orders : (N : ℕ) (s : List ℕ) (n h : ℕ) (es : List Entry) → length (appendOrders geo N s n h es) ≡ length es + 3
+  pub length-append-orders : (N : ℕ) (s : List ℕ) (n h : ℕ) (es : List Entry) → length (appendOrders geo N s n h es) ≡ length es + geo .descriptors + 2
   unfolding appendOrders
-  length-append-orders N s n h es = simp (length-append, length-slotWrites)
+  length-append-orders N s n h es =
+      rw (length-append, length-slotWrites, length-append, length-map, length-upTo (descriptorEntry s n es) (geo .descriptors)) (omega arith)
 
 pub length-checkpoint : (N : ℕ) (es : List Entry) → length (checkpointOrders N es) ≡ length es + 3
 unfolding checkpointOrders
@@ -166,7 +181,7 @@ module _ (geo : Geometry) where
 
   -- "m = 0: done, no orders. If n+m > 32, apply runs first and n is then 0 […] m+3 orders"
   abbrev pub syncCount : ℕ → ℕ → ℕ
-  syncCount n m = cond (eqb m 0) 0 (cond (leb (n + m) (geo .slots)) (m + 3) (n + 3 + (m + 3)))
+  syncCount n m = cond (eqb m 0) 0 (cond (leb (n + m) (geo .slots)) (m + geo .descriptors + 2) (n + 3 + (m + geo .descriptors + 2)))
 
   pub length-sync : (N : ℕ) (s : List ℕ) (n h : ℕ) (es : List Entry) → length (syncOrders geo N s n h es) ≡ syncCount n (length es)
   unfolding syncOrders
@@ -174,7 +189,7 @@ module _ (geo : Geometry) where
     where
       go : (t u : Bool)
           → length (cond t [] (cond u (appendOrders geo N s n h es) (checkpointOrders N (entries geo s n) ++ appendOrders geo N s 0 start es)))
-          ≡ cond t 0 (cond u (length es + 3) (n + 3 + (length es + 3)))
+          ≡ cond t 0 (cond u (length es + geo .descriptors + 2) (n + 3 + (length es + geo .descriptors + 2)))
       go true u = refl
       go false true = length-append-orders geo N s n h es
       go false false = rw (length-append, length-checkpoint, length-upTo, length-append-orders geo)

@@ -2,7 +2,6 @@
 -- these numbers. Definitions and laws take a geometry as their parameter; only `trap` has numbers in it.
 pub mod Laws
 use Prim.Native.Nat.{ℕ, _+_, _*_, _≤_, _<_}
-use mathlib.Core.Path.{_≡_}
 use Rattle.card.specs.Card.{mostPlaces}
 
 -- the addresses that a descriptor block holds
@@ -17,9 +16,8 @@ pub record Geometry : Type 0 where
   pub slots : ℕ
   pub descriptors : ℕ
   pub places : ℕ
-  -- the descriptor blocks have an address for each slot; there is one of them
+  -- the descriptor blocks have an address for each slot
   pub described : slots ≤ perDescriptor * descriptors
-  pub single : descriptors ≡ 1
   -- the longest list of orders: all slots, the descriptor blocks and the header wait
   pub queued : slots + descriptors + 1 ≤ places
   pub counted : places ≤ mostPlaces
@@ -40,7 +38,6 @@ trap = record {
   descriptors = 1;
   places = trapPlaces;
   described = lib.Dec.lit≤ tt;
-  single = mathlib.Core.Path.refl;
   queued = lib.Dec.lit≤ tt;
   counted = lib.Dec.lit≤ tt;
   addressed = lib.Dec.lit< tt;

@@ -11,15 +11,15 @@ use Rattle.fnv.specs.Fnv.{start, sumFrom}
 use Rattle.card.specs.Card.{blockAt}
 use Rattle.journal.specs.declared.header.Header.{Header}
 use Rattle.journal.specs.Geometry.{Geometry}
-use Rattle.journal.specs.Layout.{headerAt, descriptorAt, slotAt, isData}
+use Rattle.journal.specs.Layout.{headerAt, describedIn, describedAt, slotAt, isData}
 use Rattle.journal.specs.Header.{decode}
 
 abbrev pub headerOf : List ℕ → Header
 headerOf s = decode (blockAt s headerAt)
 
--- "slot i (0 to 31) has its address in bytes 4i to 4i+3"
+-- "slot i (0 to 31) has its address in bytes 4i to 4i+3" of the descriptor, 128 addresses to a block
 unfoldable pub slotAddress : List ℕ → ℕ → ℕ
-slotAddress s i = num (cell 4 (blockAt s descriptorAt) i)
+slotAddress s i = num (cell 4 (blockAt s (describedIn i)) (describedAt i))
 
 -- m entries of a run of them in memory, from place `from` on
 abbrev pub entriesFrom : List ℕ → ℕ → ℕ → List Entry

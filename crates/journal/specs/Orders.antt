@@ -3,13 +3,14 @@ use Prim.Native.Nat.{ℕ, suc, _+_, _*_, _-_}
 use mathlib.Core.Bool.{cond}
 use mathlib.Core.List.{List, [], _∷_, _++_, map}
 use lib.Dec.{eqb, leb}
-use lib.ListN.{length, take, replicate}
+use lib.ListN.{length, take, drop, replicate}
 use Rattle.cells.specs.Little.{le}
+use Rattle.cells.specs.Upto.{upTo}
 use Rattle.cells.specs.Entry.{blockBytes, Entry}
 use Rattle.fnv.specs.Fnv.{start}
 use Rattle.card.specs.Card.{Order, write, flush, blockAt}
 use Rattle.journal.specs.declared.header.Header.{Header}
-use Rattle.journal.specs.Geometry.{Geometry}
+use Rattle.journal.specs.Geometry.{Geometry, perDescriptor}
 use Rattle.journal.specs.Layout.{headerAt, descriptorAt, slotAt}
 use Rattle.journal.specs.Header.{encode, header, emptyHeader}
 use Rattle.journal.specs.Log.{entries, sumOf}
@@ -22,14 +23,15 @@ unfoldable pub addressBytes : List Entry → List ℕ
 addressBytes [] = []
 addressBytes (e ∷ es) = le 4 (e .address) ++ addressBytes es
 
--- the descriptor: n addresses as they stand, then the new ones; "a sync writes the slots from its new count on, and bytes
--- 128–511, as zero"
+-- a descriptor block: n addresses as they stand, then the new ones, as far as it holds them; "a sync writes the slots from its new
+-- count on, and bytes 128–511, as zero"
 unfoldable pub describe : List ℕ → ℕ → List Entry → List ℕ
-describe old n es = take (4 * n) old ++ (addressBytes es ++ replicate (blockBytes - 4 * (n + length es)) 0)
+describe old n es = take blockBytes (take (4 * n) old ++ (addressBytes es ++ replicate blockBytes 0))
 
--- the descriptor blocks that list es behind n entries: one
-abbrev pub descriptors : List ℕ → ℕ → List Entry → List Entry
-descriptors s n es = record { address = descriptorAt; block = describe (blockAt s descriptorAt) n es } ∷ []
+-- block j of the descriptor, as it lists es behind n entries: the slots from 128 j on are its own
+abbrev pub descriptorEntry : List ℕ → ℕ → List Entry → ℕ → Entry
+descriptorEntry s n es j =
+    record { address = descriptorAt + j; block = describe (blockAt s (descriptorAt + j)) (n - perDescriptor * j) (drop (perDescriptor * j - n) es) }
 
 -- "n home blocks in slot order, flush, an empty log's header, flush: n+3 orders"
 unfoldable pub checkpointOrders : ℕ → List Entry → List Order
@@ -40,6 +42,10 @@ unfoldable pub fallbackOrders : ℕ → ℕ → ℕ → List Order
 fallbackOrders N p sum = headerWrite (header N p sum p sum) ∷ flush ∷ []
 
 module _ (geo : Geometry) where
+  -- "the descriptor": its blocks in turn, one at the trap
+  abbrev pub descriptors : List ℕ → ℕ → List Entry → List Entry
+  descriptors s n es = upTo (descriptorEntry s n es) (geo .descriptors)
+
   -- "m log blocks in slot order", from slot n on
   unfoldable pub slotWrites : ℕ → List Entry → List Order
   slotWrites n [] = []

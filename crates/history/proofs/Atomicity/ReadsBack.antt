@@ -18,7 +18,7 @@ use Rattle.journal.specs.declared.choice.Choice.{Choice}
 use Rattle.journal.specs.Log.{headerOf, entries, sumOf}
 use Rattle.journal.specs.Choice.{takenCount}
 use Rattle.journal.proofs.Choices.{both}
-use Rattle.crash.proofs.Cards.{WholeCard, FallCard}
+use Rattle.crash.proofs.Cards.{Every, WholeCard, FallCard}
 use Rattle.crash.proofs.Leads.{read-head, same-logs, logs-same}
 use Rattle.crash.proofs.Logs.{slotE, logD, entries-disk}
 use Rattle.store.specs.Local.{Local}
@@ -216,7 +216,7 @@ module _ (geo : Geometry) where
     unfolding entered
     noted-orders k e = ap (λ (x : ℕ). noted (recoverHeaders geo (w .store)) x (w .ledger)) (orders-are ∙ e)
 
-    taken-whole : w .plain .F ≡ false → WholeCard geo (w .store .rec .blocks) (blockAt (w .store .settled)) (w .ledger .written) (w .plain .S) (w .plain .n) → Chosen
+    taken-whole : w .plain .F ≡ false → WholeCard geo Every (w .store .rec .blocks) (blockAt (w .store .settled)) (w .ledger .written) (w .plain .S) (w .plain .n) → Chosen
     unfolding logFound
     taken-whole f r =
         let hd = read-head geo (w .store .settled) (w .store .rec .blocks) (r .p) (r .ps) (w .plain .n) _ small (r .head) in
@@ -230,7 +230,7 @@ module _ (geo : Geometry) where
     unfolding recoverHeaders noted
     noted-two = refl
 
-    taken-fall : w .plain .F ≡ true → 2 ≤ w .plain .power → FallCard geo (w .store .rec .blocks) (blockAt (w .store .settled)) (w .ledger .written) (w .plain .S) (w .plain .n) → Chosen
+    taken-fall : w .plain .F ≡ true → 2 ≤ w .plain .power → FallCard geo Every (w .store .rec .blocks) (blockAt (w .store .settled)) (w .ledger .written) (w .plain .S) (w .plain .n) → Chosen
     unfolding logFound
     taken-fall f p r =
         let s = w .store .settled in
@@ -295,7 +295,7 @@ module _ (geo : Geometry) where
       low : w .store .rec .blocks < 2 ^ 32
       low = small-N geo (w .store) (w .plain) (m .basics)
 
-      whole : WholeCard geo (w .store .rec .blocks) (blockAt (w .store .settled)) (w .ledger .written) (w .plain .S) (w .plain .n) → Totals (w .store) (w .ledger)
+      whole : WholeCard geo Every (w .store .rec .blocks) (blockAt (w .store .settled)) (w .ledger .written) (w .plain .S) (w .plain .n) → Totals (w .store) (w .ledger)
       whole r =
           let hd = read-head geo (w .store .settled) (w .store .rec .blocks) (r .p) (r .ps) (w .plain .n) _ low (r .head) in
           record {
@@ -303,7 +303,7 @@ module _ (geo : Geometry) where
             sum = ap (λ (x : Header). x .sum) hd ∙ ap (sumOf start) (sym (r .same));
           }
 
-      fall : FallCard geo (w .store .rec .blocks) (blockAt (w .store .settled)) (w .ledger .written) (w .plain .S) (w .plain .n) → Totals (w .store) (w .ledger)
+      fall : FallCard geo Every (w .store .rec .blocks) (blockAt (w .store .settled)) (w .ledger .written) (w .plain .S) (w .plain .n) → Totals (w .store) (w .ledger)
       fall r =
           let hd = read-head geo (w .store .settled) (w .store .rec .blocks) (w .plain .n) _ (r .c) (r .ns) low (r .head) in
           record { count = ap (λ (x : Header). x .count) hd ∙ sym (r .size); sum = ap (λ (x : Header). x .sum) hd ∙ sym (r .total) }

@@ -94,14 +94,14 @@ module _ (geo : Geometry) where
         ap (λ (t : Bool). cond (not t && not (leb (w .store .rec .logged + w .store .rec .grouped) (geo .slots))) (w .store .rec .logged + 3) 0) (ne-eqb _ 0 grouped-some)
         ∙ ap₂ (λ (x y : ℕ). cond (not (leb (x + y) (geo .slots))) (x + 3) 0) (sym (o .n)) (sym count)
 
-    headed-is : headed geo w ≡ eqb (w .plain .power) (innerTakes geo (w .plain .n) (length (w .plain .G)) + (length (w .plain .G) + 2))
-    headed-is = ap₂ (λ (x y : ℕ). eqb x y) orders-power (ap₂ (λ (x y : ℕ). x + (y + 2)) inner-is (sym count))
+    headed-is : headed geo w ≡ eqb (w .plain .power) (innerTakes geo (w .plain .n) (length (w .plain .G)) + (length (w .plain .G) + geo .descriptors + 1))
+    headed-is = ap₂ (λ (x y : ℕ). eqb x y) orders-power (ap₂ (λ (x y : ℕ). x + (y + geo .descriptors + 1)) inner-is (sym count))
 
-    observed : observe geo sync w (known quiet) ≡ undecided (groupOf geo (w .store)) (w .store .rec .grouped + 1) (headed geo w)
+    observed : observe geo sync w (known quiet) ≡ undecided (groupOf geo (w .store)) (w .store .rec .grouped + geo .descriptors) (headed geo w)
     unfolding observe shortSync
     observed =
         let e : eqb (w .store .rec .mode) openMode && eqb (dispatch geo sync (w .store) .answer) 4 ≡ true = rw (eq-eqb _ _ (o .mode), eq-eqb _ 4 answer-four) in
-        ap (λ (t : Bool). cond t (undecided (groupOf geo (w .store)) (w .store .rec .grouped + 1) (headed geo w)) (known quiet)) e
+        ap (λ (t : Bool). cond t (undecided (groupOf geo (w .store)) (w .store .rec .grouped + geo .descriptors) (headed geo w)) (known quiet)) e
 
     sync-watch : (f : Progress) → Watch geo old f (w .store) (w .ledger) (w .plain) → Watch geo old (observe geo sync w f) (storeNext geo sync w) (ledgerNext geo sync w) (plainNext geo sync w)
     sync-watch f x =
@@ -114,7 +114,7 @@ module _ (geo : Geometry) where
           group = Facts.plain-group geo (w .store) (w .ledger) (w .plain) b o;
           laid = λ ms u.
               PlainLaws.sync-laid geo (w .plain .n) (length (w .plain .G)) (w .plain .power) (w .plain .F) u ms
-              ∙ ap₂ (λ (t : Bool) (i : ℕ). t && keptAt ms (i + 1) && u) (sym headed-is) count;
+              ∙ ap₂ (λ (t : Bool) (i : ℕ). t && keptAt ms (i + geo .descriptors) && u) (sym headed-is) count;
           whole = λ e ms l a.
               let y = short-whole geo w m h o grouped-some answer-four (eqb-true _ _ e) ms l a in
               (y .0, y .1);

@@ -4,7 +4,7 @@ use Prim.Native.Nat.{ℕ, _+_, _-_, _≤_, _<_}
 use mathlib.Core.Path.{_≡_, refl, ap, sym, _∙_}
 use mathlib.Core.Logic.{_≢_}
 use mathlib.Core.Bool.{Bool, true, false, cond, _&&_}
-use mathlib.Core.List.{List, [], _∷_, _++_, append-assoc, append-nil}
+use mathlib.Core.List.{List, [], _∷_, _++_, append-nil}
 use native.Mathlib.Omega.{arith}
 use native.Mathlib.Decide.{decLe}
 use borrow.Author.Tests.{eqb-false, leb-true, leb-false, lt-leb, not-true}
@@ -14,24 +14,25 @@ use lib.Seq.{take-append-add}
 use Rattle.cells.specs.Upto.Laws.{length-upTo}
 use Rattle.cells.specs.Entry.{Entry}
 use Rattle.fnv.specs.Fnv.{start}
-use Rattle.card.specs.Card.{Card, Order, run, blockAt}
+use Rattle.card.specs.Card.{Card, Order, queue, run, blockAt}
 use Rattle.card.proofs.All.{All, all-append, all-map}
-use Rattle.card.proofs.Runs.{run-nil, run-dead, run-append, run-power, settle-other}
+use Rattle.card.proofs.Runs.{NarrowAddress, run-nil, run-dead, run-append, run-power, settle-other}
 use Rattle.journal.specs.Geometry.{Geometry}
 use Rattle.journal.specs.declared.header.Header.{Header}
 use Rattle.journal.specs.declared.choice.Choice.{Choice}
 use Rattle.journal.specs.declared.choice.Choice.the-variants.{Whole, Fallback, Foreign, Neither}
-use Rattle.journal.specs.Layout.{descriptorAt}
+use Rattle.journal.specs.Layout.{mostBlocks}
 use Rattle.journal.specs.Header.{header, emptyHeader}
 use Rattle.journal.specs.Log.{entries, slotEntry}
 use Rattle.journal.specs.Orders.{appendOrders, checkpointOrders, applyOrders, syncOrders}
 use Rattle.journal.specs.Choice.{choose, recoverOrders}
-use Rattle.journal.proofs.Logs.{from-whole, entries-whole, length-blockAt}
+use Rattle.journal.proofs.Logs.{from-whole, entries-whole}
 use Rattle.journal.proofs.Choices.{both}
 use Rattle.journal.proofs.Headers.{length-encode}
 use Rattle.journal.proofs.OrderLists.{headerEntry, appendWrites, append-writes, checkpoint-writes, fallback-writes, length-fallback}
-use Rattle.crash.proofs.Batches.{batch, Fit, batch-short, batch-done}
-use Rattle.crash.proofs.Appends.{append-fit}
+use Rattle.crash.proofs.Batches.{batch, Room, no-queue, queued-short, queued-done}
+use Rattle.crash.proofs.Plans.{Plan, planned, planned-append}
+use Rattle.crash.proofs.Appends.{length-append-writes, writes-whole, writes-below}
 use Rattle.store.specs.declared.record.Record.{Record}
 use Rattle.store.specs.State.{State, Outcome, down, withMode, withLog, withRecord, cardIn, withCard}
 use Rattle.store.specs.Lists.{groupFrom, listed}
@@ -51,10 +52,6 @@ use Rattle.history.proofs.Steps.CallEnds.{carried-done, carried-short}
 
 -- ---- batches in a row leave a block alone that none of them writes to
 
-abbrev batches : List (List Entry) → List Order
-batches [] = []
-batches (es ∷ bs) = batch es ++ batches bs
-
 untouched-batch : (x : ℕ) (es : List Entry) (os : List Order) → untouched x (batch es ++ os) ≡ true → All (λ e. x ≢ e .address) es × (untouched x os ≡ true)
 unfolding untouched
 untouched-batch x [] os h = (tt, h)
@@ -66,32 +63,36 @@ untouched-batch x (e ∷ es) os h =
 length-batch : (es : List Entry) → length (batch es) ≡ length es + 1
 length-batch es = simp (length-append, length-map)
 
-batches-keep : (x : ℕ) (bs : List (List Entry)) (c : Card) → All (Fit c) bs → untouched x (take (c .power) (batches bs)) ≡ true
-    → blockAt (run (batches bs) c .settled) x ≡ blockAt (c .settled) x
+-- writes that fit the queue, where nothing waits
+record Fit (c : Card) (es : List Entry) : Type 0 where
+  none : c .count ≡ 0
+  room : Room c es
+
+batches-keep : (x : ℕ) (bs : Plan) (c : Card) → All (Fit c) bs → untouched x (take (c .power) (planned bs)) ≡ true → blockAt (run (planned bs) c .settled) x ≡ blockAt (c .settled) x
 batches-keep x [] c f h = rw (run-nil)
-batches-keep x (es ∷ bs) c f h = rw (run-append (batch es) (batches bs) c) (go (decLe (c .power) (length es)) (λ g. batches-keep x bs (run (batch es) c) g))
+batches-keep x (es ∷ bs) c f h = rw (run-append (batch es) (planned bs) c) (go (decLe (c .power) (length es)) (λ g. batches-keep x bs (run (batch es) c) g))
   where
     go : Dec (c .power ≤ length es)
-        → (All (Fit (run (batch es) c)) bs → untouched x (take (run (batch es) c .power) (batches bs)) ≡ true → blockAt (run (batches bs) (run (batch es) c) .settled) x ≡ blockAt (run (batch es) c .settled) x)
-        → blockAt (run (batches bs) (run (batch es) c) .settled) x ≡ blockAt (c .settled) x
-    go (yes p) rest =
-        let l = batch-short c es (f .0) p in
-        rw (run-dead (batches bs) (run (batch es) c) (l .power), l .settled)
-    go (no p) rest =
-        let l = batch-done c es (f .0) (omega arith) in
+        → (All (Fit (run (batch es) c)) bs → untouched x (take (run (batch es) c .power) (planned bs)) ≡ true → blockAt (run (planned bs) (run (batch es) c) .settled) x ≡ blockAt (run (batch es) c .settled) x)
+        → blockAt (run (planned bs) (run (batch es) c) .settled) x ≡ blockAt (c .settled) x
+    go (yes p) more =
+        let l = queued-short c es (f .0 .room) p in
+        rw (run-dead (planned bs) (run (batch es) c) (l .power), l .settled)
+    go (no p) more =
+        let l = queued-done c es (f .0 .room) (omega arith) in
         let k : c .power ≡ length (batch es) + (c .power - (length es + 1)) = omega (arith, length-batch es) in
-        let q : untouched x (take (length (batch es) + (c .power - (length es + 1))) (batch es ++ batches bs)) ≡ true = ap (λ (n : ℕ). untouched x (take n (batch es ++ batches bs))) (sym k) ∙ h in
-        let u = untouched-batch x es (take (c .power - (length es + 1)) (batches bs)) (rw (take-append-add (batch es) (batches bs) (c .power - (length es + 1))) at q) in
-        rest
-        (all-map (Fit c) (Fit (run (batch es) c)) (λ e g. record { none = l .count; room = rw (l .room) (g .room); whole = g .whole; low = g .low }) bs (f .1))
-        (ap (λ (n : ℕ). untouched x (take n (batches bs))) (l .power) ∙ u .1)
+        let q : untouched x (take (length (batch es) + (c .power - (length es + 1))) (batch es ++ planned bs)) ≡ true = ap (λ (n : ℕ). untouched x (take n (batch es ++ planned bs))) (sym k) ∙ h in
+        let u = untouched-batch x es (take (c .power - (length es + 1)) (planned bs)) (rw (take-append-add (batch es) (planned bs) (c .power - (length es + 1))) at q) in
+        more
+        (all-map (Fit c) (Fit (run (batch es) c)) (λ e g. record { none = l .count; room = record { places = omega (arith, l .count, l .room, g .room .places); whole = g .room .whole; low = g .room .low } }) bs (f .1))
+        (ap (λ (n : ℕ). untouched x (take n (planned bs))) (l .power) ∙ u .1)
         ∙ ap (λ (s : List ℕ). blockAt s x) (l .settled)
-        ∙ settle-other es (c .settled) x (u .0)
+        ∙ settle-other (queue c ++ es) (c .settled) x (rw (no-queue c (f .0 .none)) (u .0))
 
 -- orders that are such batches
 record Batched (c : Card) (os : List Order) : Type 0 where
-  parts : List (List Entry)
-  same : os ≡ batches parts
+  parts : Plan
+  same : os ≡ planned parts
   fit : All (Fit c) parts
 
 batched-keep : (x : ℕ) (os : List Order) (c : Card) → Batched c os → untouched x (take (c .power) os) ≡ true → blockAt (run os c .settled) x ≡ blockAt (c .settled) x
@@ -103,14 +104,10 @@ no-batches c = record { parts = []; same = refl; fit = tt }
 one-batch : (c : Card) (es : List Entry) → Fit c es → Batched c (batch es)
 one-batch c es f = record { parts = es ∷ []; same = sym (append-nil (batch es)); fit = (f, tt) }
 
-batches-append : (a b : List (List Entry)) → batches (a ++ b) ≡ batches a ++ batches b
-batches-append [] b = refl
-batches-append (es ∷ a) b = ap (λ (os : List Order). batch es ++ os) (batches-append a b) ∙ sym (append-assoc (batch es) (batches a) (batches b))
-
 more-batches : (c : Card) (os ps : List Order) → Batched c os → Batched c ps → Batched c (os ++ ps)
 more-batches c os ps a b = record {
   parts = a .parts ++ b .parts;
-  same = rw (a .same, b .same) (sym (batches-append (a .parts) (b .parts)));
+  same = rw (a .same, b .same) (sym (planned-append (a .parts) (b .parts)));
   fit = all-append (Fit c) (a .parts) (b .parts) (a .fit) (b .fit);
 }
 
@@ -119,7 +116,7 @@ more-batches c os ps a b = record {
 module _ (geo : Geometry) where
   module _ (st : State) (none : st .rec .waiting ≡ 0) (room : length (st .waiting) ≡ waitingBytes geo) where
     header-batch : (h : Header) → Batched (cardIn st) (batch (headerEntry h ∷ []))
-    header-batch h = one-batch (cardIn st) (headerEntry h ∷ []) (record { none = none; room = omega arith; whole = (length-encode h, tt); low = (lit< tt, tt) })
+    header-batch h = one-batch (cardIn st) (headerEntry h ∷ []) (record { none = none; room = record { places = omega (arith, none); whole = (length-encode h, tt); low = (lit< tt, tt) } })
 
     recover-batched : (N : ℕ) (c : Choice) → Batched (cardIn st) (recoverOrders N c)
     recover-batched N (Whole n h) = no-batches (cardIn st)
@@ -141,9 +138,11 @@ module _ (geo : Geometry) where
         (one-batch (cardIn st) log
         (record {
           none = none-waits;
-          room = omega (arith, length-upTo (slotEntry geo (st .settled)) (st .rec .logged), rc .log-count, sz .waiting);
-          whole = entries-whole geo (st .settled) (st .rec .logged) (omega (arith, sz .least)) (rc .log-count);
-          low = data-short geo (st .rec .blocks) (omega (arith, sz .most, rc .blocks)) log (o .lists .log-data);
+          room = record {
+            places = omega (arith, none-waits, length-upTo (slotEntry geo (st .settled)) (st .rec .logged), rc .log-count, sz .waiting);
+            whole = entries-whole geo (st .settled) (st .rec .logged) (omega (arith, sz .least)) (rc .log-count);
+            low = data-short geo (st .rec .blocks) (omega (arith, sz .most, rc .blocks)) log (o .lists .log-data);
+          };
         }))
         (header-batch st none-waits (sz .waiting) (emptyHeader (st .rec .blocks))))
 
@@ -153,9 +152,15 @@ module _ (geo : Geometry) where
         let rc = o .facts .counts in
         rw (append-writes geo (st .rec .blocks) (st .settled) n h (groupOf geo st))
         (one-batch (cardIn st) (appendWrites geo (st .rec .blocks) (st .settled) n h (groupOf geo st))
-        (append-fit geo (cardIn st) (st .rec .blocks) (st .settled) n h (groupOf geo st)
-        (omega (arith, length-blockAt (st .settled) descriptorAt (omega (arith, sz .least))))
-        (none-waits, omega (arith, sz .waiting), p, from-whole (st .work) (groupFrom geo) (st .rec .grouped) (omega (arith, sz .work, rc .group-count)))))
+        (record {
+          none = none-waits;
+          room = record {
+            places = omega (arith, none-waits, p, sz .waiting, length-append-writes geo (st .rec .blocks) (st .settled) n h (groupOf geo st), geo .queued);
+            whole = writes-whole geo (st .rec .blocks) (st .settled) n h (groupOf geo st) (from-whole (st .work) (groupFrom geo) (st .rec .grouped) (omega (arith, sz .work, rc .group-count)));
+            low = all-map (λ e. e .address < mostBlocks) NarrowAddress (λ e l. omega arith) (appendWrites geo (st .rec .blocks) (st .settled) n h (groupOf geo st))
+                (writes-below geo (st .rec .blocks) (st .settled) n h (groupOf geo st) mostBlocks p (omega (arith, geo .addressed)));
+          };
+        }))
 
     apply-batched : Batched (cardIn st) (applyOrders geo (st .rec .blocks) (st .settled) (st .rec .logged))
     unfolding applyOrders

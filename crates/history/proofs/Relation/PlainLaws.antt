@@ -64,10 +64,10 @@ module _ (geo : Geometry) where
   abbrev pub countMet : ℕ → ℕ → ℕ
   countMet n m = cond (applies geo n m) 0 n
 
-  pub sync-takes : (n m : ℕ) → syncTakes geo n m ≡ innerTakes n m + (m + 3)
+  pub sync-takes : (n m : ℕ) → syncTakes geo n m ≡ innerTakes n m + (m + geo .descriptors + 2)
   sync-takes n m = go (applies geo n m)
     where
-      go : (t : Bool) → cond t (n + 3 + (m + 3)) (m + 3) ≡ cond t (n + 3) 0 + (m + 3)
+      go : (t : Bool) → cond t (n + 3 + (m + geo .descriptors + 2)) (m + geo .descriptors + 2) ≡ cond t (n + 3) 0 + (m + geo .descriptors + 2)
       go true = refl
       go false = omega arith
 
@@ -163,35 +163,35 @@ module _ (geo : Geometry) where
   unfolding verdict
   choose-recover n m F kept found = refl
 
-  pub choose-sync-apply : (k n m : ℕ) (F kept found : Bool) → geo .slots < n + m → k ≢ n + 3 + (m + 2) → verdict geo (ofSync k) n m F kept found ≡ applyVerdict k n F kept
+  pub choose-sync-apply : (k n m : ℕ) (F kept found : Bool) → geo .slots < n + m → k ≢ n + 3 + (m + geo .descriptors + 1) → verdict geo (ofSync k) n m F kept found ≡ applyVerdict k n F kept
   unfolding verdict
-  choose-sync-apply k n m F kept found h z = rw (do-apply geo n m h, ne-eqb k (n + 3 + (m + 2)) z)
+  choose-sync-apply k n m F kept found h z = rw (do-apply geo n m h, ne-eqb k (n + 3 + (m + geo .descriptors + 1)) z)
 
   -- its own at its header, else the apply's inside or none
   sync-verdict : (k n m : ℕ) (F kept found : Bool)
-      → verdict geo (ofSync k) n m F kept found ≡ cond (eqb k (innerTakes geo n m + (m + 2))) (ownVerdict (countMet geo n m) m kept found) (cond (applies geo n m) (applyVerdict k n F kept) (unchanged n F))
+      → verdict geo (ofSync k) n m F kept found ≡ cond (eqb k (innerTakes geo n m + (m + geo .descriptors + 1))) (ownVerdict (countMet geo n m) m kept found) (cond (applies geo n m) (applyVerdict k n F kept) (unchanged n F))
   unfolding verdict
   sync-verdict k n m F kept found = go (applies geo n m)
     where
-      go : (t : Bool) → cond t (cond (eqb k (n + 3 + (m + 2))) (ownVerdict 0 m kept found) (applyVerdict k n F kept)) (cond (eqb k (m + 2)) (ownVerdict n m kept found) (unchanged n F))
-          ≡ cond (eqb k (cond t (n + 3) 0 + (m + 2))) (ownVerdict (cond t 0 n) m kept found) (cond t (applyVerdict k n F kept) (unchanged n F))
+      go : (t : Bool) → cond t (cond (eqb k (n + 3 + (m + geo .descriptors + 1))) (ownVerdict 0 m kept found) (applyVerdict k n F kept)) (cond (eqb k (m + geo .descriptors + 1)) (ownVerdict n m kept found) (unchanged n F))
+          ≡ cond (eqb k (cond t (n + 3) 0 + (m + geo .descriptors + 1))) (ownVerdict (cond t 0 n) m kept found) (cond t (applyVerdict k n F kept) (unchanged n F))
       go true = refl
-      go false = let e : 0 + (m + 2) ≡ m + 2 = omega arith in rw e
+      go false = let e : 0 + (m + geo .descriptors + 1) ≡ m + geo .descriptors + 1 = omega arith in rw e
 
-  pub choose-sync-own : (k n m : ℕ) (F kept found : Bool) → k ≡ innerTakes geo n m + (m + 2) → verdict geo (ofSync k) n m F kept found ≡ ownVerdict (countMet geo n m) m kept found
-  choose-sync-own k n m F kept found e = sync-verdict k n m F kept found ∙ rw (eq-eqb k (innerTakes geo n m + (m + 2)) e)
+  pub choose-sync-own : (k n m : ℕ) (F kept found : Bool) → k ≡ innerTakes geo n m + (m + geo .descriptors + 1) → verdict geo (ofSync k) n m F kept found ≡ ownVerdict (countMet geo n m) m kept found
+  choose-sync-own k n m F kept found e = sync-verdict k n m F kept found ∙ rw (eq-eqb k (innerTakes geo n m + (m + geo .descriptors + 1)) e)
 
   -- behind the apply inside, before its own header
-  pub choose-sync-before : (k n m : ℕ) (kept found : Bool) → innerTakes geo n m ≤ k → k < innerTakes geo n m + (m + 2) → verdict geo (ofSync k) n m false kept found ≡ unchanged (countMet geo n m) false
-  choose-sync-before k n m kept found h l = sync-verdict k n m false kept found ∙ rw (ne-eqb k (innerTakes geo n m + (m + 2)) (λ e. omega arith)) (go (applies geo n m) h)
+  pub choose-sync-before : (k n m : ℕ) (kept found : Bool) → innerTakes geo n m ≤ k → k < innerTakes geo n m + (m + geo .descriptors + 1) → verdict geo (ofSync k) n m false kept found ≡ unchanged (countMet geo n m) false
+  choose-sync-before k n m kept found h l = sync-verdict k n m false kept found ∙ rw (ne-eqb k (innerTakes geo n m + (m + geo .descriptors + 1)) (λ e. omega arith)) (go (applies geo n m) h)
     where
       go : (t : Bool) → cond t (n + 3) 0 ≤ k → cond t (applyVerdict k n false kept) (unchanged n false) ≡ unchanged (cond t 0 n) false
       go true a = apply-behind k n false kept (omega arith)
       go false a = refl
 
   -- but at its own header it lays nothing
-  pub sync-still : (k n m : ℕ) (F kept found : Bool) → k ≢ innerTakes geo n m + (m + 2) → verdict geo (ofSync k) n m F kept found .laid ≡ false
-  sync-still k n m F kept found e = ap (λ (v : Verdict). v .laid) (sync-verdict k n m F kept found) ∙ rw (ne-eqb k (innerTakes geo n m + (m + 2)) e) (go (applies geo n m))
+  pub sync-still : (k n m : ℕ) (F kept found : Bool) → k ≢ innerTakes geo n m + (m + geo .descriptors + 1) → verdict geo (ofSync k) n m F kept found .laid ≡ false
+  sync-still k n m F kept found e = ap (λ (v : Verdict). v .laid) (sync-verdict k n m F kept found) ∙ rw (ne-eqb k (innerTakes geo n m + (m + geo .descriptors + 1)) e) (go (applies geo n m))
     where
       go : (t : Bool) → cond t (applyVerdict k n F kept) (unchanged n F) .laid ≡ false
       go true = apply-laid k n F kept
@@ -224,16 +224,16 @@ own-laid n m false u = refl
 
 module _ (geo : Geometry) where
   pub sync-laid : (n m k : ℕ) (F found : Bool) (ms : List ℕ)
-      → verdict geo (ofSync k) n m F (headerKept ms (syncWaits geo n m k)) found .laid ≡ eqb k (innerTakes geo n m + (m + 2)) && keptAt ms (m + 1) && found
-  sync-laid n m k F found ms = go (ℕ-discrete k (innerTakes geo n m + (m + 2)))
+      → verdict geo (ofSync k) n m F (headerKept ms (syncWaits geo n m k)) found .laid ≡ eqb k (innerTakes geo n m + (m + geo .descriptors + 1)) && keptAt ms (m + geo .descriptors) && found
+  sync-laid n m k F found ms = go (ℕ-discrete k (innerTakes geo n m + (m + geo .descriptors + 1)))
     where
-      go : Dec (k ≡ innerTakes geo n m + (m + 2)) → verdict geo (ofSync k) n m F (headerKept ms (syncWaits geo n m k)) found .laid ≡ eqb k (innerTakes geo n m + (m + 2)) && keptAt ms (m + 1) && found
+      go : Dec (k ≡ innerTakes geo n m + (m + geo .descriptors + 1)) → verdict geo (ofSync k) n m F (headerKept ms (syncWaits geo n m k)) found .laid ≡ eqb k (innerTakes geo n m + (m + geo .descriptors + 1)) && keptAt ms (m + geo .descriptors) && found
       go (yes e) =
-          let w : syncWaits geo n m k ≡ suc (m + 1) = sync-waits-own geo n m k (omega arith) ∙ (omega arith) in
+          let w : syncWaits geo n m k ≡ suc (m + geo .descriptors) = sync-waits-own geo n m k (omega arith) ∙ (omega arith) in
           ap (λ (v : Verdict). v .laid) (choose-sync-own geo k n m F (headerKept ms (syncWaits geo n m k)) found e)
           ∙ own-laid (countMet geo n m) m (headerKept ms (syncWaits geo n m k)) found
-          ∙ ap (λ (t : Bool). t && found) (kept-mark ms (syncWaits geo n m k) (m + 1) w)
-          ∙ sym (ap (λ (t : Bool). t && keptAt ms (m + 1) && found) (eq-eqb k (innerTakes geo n m + (m + 2)) e))
+          ∙ ap (λ (t : Bool). t && found) (kept-mark ms (syncWaits geo n m k) (m + geo .descriptors) w)
+          ∙ sym (ap (λ (t : Bool). t && keptAt ms (m + geo .descriptors) && found) (eq-eqb k (innerTakes geo n m + (m + geo .descriptors + 1)) e))
       go (no e) =
           sync-still geo k n m F (headerKept ms (syncWaits geo n m k)) found e
-          ∙ sym (ap (λ (t : Bool). t && keptAt ms (m + 1) && found) (ne-eqb k (innerTakes geo n m + (m + 2)) e))
+          ∙ sym (ap (λ (t : Bool). t && keptAt ms (m + geo .descriptors) && found) (ne-eqb k (innerTakes geo n m + (m + geo .descriptors + 1)) e))

@@ -13,7 +13,7 @@ use Rattle.card.specs.Card.{blockAt}
 use Rattle.card.specs.Marks.{marksFit}
 use Rattle.journal.specs.Geometry.{Geometry}
 use Rattle.journal.specs.Log.{entries, sumOf}
-use Rattle.crash.proofs.Cards.{WholeCard, ClosedCard}
+use Rattle.crash.proofs.Cards.{Every, WholeCard, ClosedCard}
 use Rattle.crash.proofs.Leads.{Leads, foundIn}
 use Rattle.store.specs.State.{State, closed, openMode, down, cardIn}
 use Rattle.store.specs.Causes.{wrongSizes, wrongRecord}
@@ -38,7 +38,7 @@ module _ (geo : Geometry) where
     pub short : d .short ≡ none
     pub pending : l .pending ≡ nothing
     pub sum : st .rec .sum ≡ sumOf start (entries geo (st .settled) (st .rec .logged))
-    pub card : WholeCard geo (st .rec .blocks) (blockAt (st .settled)) (l .written) (d .S) (st .rec .logged)
+    pub card : WholeCard geo Every (st .rec .blocks) (blockAt (st .settled)) (l .written) (d .S) (st .rec .logged)
 
   -- closed: the card as a cut left it
   pub record ClosedSim (st : State) (l : Ledger) (d : Plain) : Type 0 where
@@ -47,7 +47,7 @@ module _ (geo : Geometry) where
     pub G : d .G ≡ []
     pub short : d .short ≡ none
     pub pending : l .pending ≡ nothing
-    pub card : ClosedCard geo (st .rec .blocks) (blockAt (st .settled)) (l .written) (d .S) (d .n) (d .F)
+    pub card : ClosedCard geo Every (st .rec .blocks) (blockAt (st .settled)) (l .written) (d .S) (d .n) (d .F)
 
 -- what a cut by these marks would leave, and what the plain disk would choose
 abbrev pub cutSettled : List ℕ → State → List ℕ
@@ -63,17 +63,17 @@ module _ (geo : Geometry) where
 
   abbrev pub CutLeads : List ℕ → State → Ledger → Plain → Type 0
   CutLeads ms st l d =
-      Leads geo (st .rec .blocks) (cutSettled ms st) (cutWritten ms l) (cond (cutVerdict ms st l d .laid) (overlay (d .G) (d .S)) (d .S)) (cutVerdict ms st l d .n)
+      Leads geo Every (st .rec .blocks) (cutSettled ms st) (cutWritten ms l) (cond (cutVerdict ms st l d .laid) (overlay (d .G) (d .S)) (d .S)) (cutVerdict ms st l d .n)
       (cutVerdict ms st l d .F)
 
   -- a choice that lays nothing, by another name
-  pub leads-still : {N : ℕ} {s : List ℕ} {w : List Entry} {S : Disk} (X : Disk) (v v′ : Verdict) → v ≡ v′ → v′ .laid ≡ false → Leads geo N s w S (v′ .n) (v′ .F)
-      → Leads geo N s w (cond (v .laid) X S) (v .n) (v .F)
+  pub leads-still : {N : ℕ} {s : List ℕ} {w : List Entry} {S : Disk} (X : Disk) (v v′ : Verdict) → v ≡ v′ → v′ .laid ≡ false → Leads geo Every N s w S (v′ .n) (v′ .F)
+      → Leads geo Every N s w (cond (v .laid) X S) (v .n) (v .F)
   leads-still X v v′ e f l = rw (e, f) l
 
   -- one that lays X
-  pub leads-laid : {N : ℕ} {s : List ℕ} {w : List Entry} (S X : Disk) (v v′ : Verdict) → v ≡ v′ → Leads geo N s w (cond (v′ .laid) X S) (v′ .n) (v′ .F)
-      → Leads geo N s w (cond (v .laid) X S) (v .n) (v .F)
+  pub leads-laid : {N : ℕ} {s : List ℕ} {w : List Entry} (S X : Disk) (v v′ : Verdict) → v ≡ v′ → Leads geo Every N s w (cond (v′ .laid) X S) (v′ .n) (v′ .F)
+      → Leads geo Every N s w (cond (v .laid) X S) (v .n) (v .F)
   leads-laid S X v v′ e l = rw e l
 
   -- down: every cut leads to what the plain disk chooses

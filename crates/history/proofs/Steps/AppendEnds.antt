@@ -1,102 +1,85 @@
 -- An append: the writes of its one batch, what they leave, and what every cut of them leads to.
-use Prim.Native.Nat.{ℕ, _+_, _*_, _^_, _≤_, _<_}
+use Prim.Native.Nat.{ℕ, _+_, _≤_}
 use mathlib.Core.Path.{_≡_, refl, ap, sym, _∙_}
 use mathlib.Core.Bool.{Bool, true, false, cond}
 use mathlib.Core.List.{List, [], _++_}
 use native.Mathlib.Omega.{arith}
+use native.Mathlib.Nat.{zero-add}
 use lib.ListN.{length, take, length-append}
 use Rattle.cells.specs.Upto.Laws.{length-upTo}
 use Rattle.cells.specs.Entry.{Entry}
 use Rattle.fnv.specs.Fnv.{start}
 use Rattle.card.specs.Disk.{Disk, overlay}
-use Rattle.card.specs.Card.{Card, cut, settle, blockAt, blocksIn}
-use Rattle.card.proofs.All.{All, all-append}
-use Rattle.card.proofs.Runs.{Whole, NarrowAddress}
+use Rattle.card.specs.Card.{Card, cut, settle, blockAt}
 use Rattle.card.specs.Marks.{marksFit, keptAt, allKept}
 use Rattle.journal.specs.Geometry.{Geometry}
-use Rattle.journal.specs.Layout.{firstData, headerAt, descriptorAt}
+use Rattle.journal.specs.Layout.{headerAt}
 use Rattle.journal.specs.Header.{encode, header}
-use Rattle.journal.specs.Log.{entries, sumOf, allData}
-use Rattle.journal.proofs.Headers.{length-encode}
-use Rattle.journal.proofs.Logs.{sumOf-append, length-blockAt}
-use Rattle.journal.proofs.OrderLists.{appendWrites, slotBlocks, slots-whole, slots-below, length-describe}
+use Rattle.journal.specs.Log.{entries, sumOf}
+use Rattle.journal.proofs.Logs.{sumOf-append}
+use Rattle.journal.proofs.OrderLists.{appendWrites}
 use Rattle.crash.proofs.Batches.{Left}
 use Rattle.crash.proofs.CallCuts as CallCuts
 use Rattle.crash.proofs.CallCuts.{append-cuts, append-cuts-lost, append-cuts-new, append-cuts-old, append-cuts-kept, append-cuts-whole}
-use Rattle.crash.proofs.Cards.{WholeCard, append-head}
-use Rattle.crash.proofs.Leads.{Leads, foundIn}
+use Rattle.crash.proofs.Cards.{Every, WholeCard, append-head}
+use Rattle.crash.proofs.Leads.{Leads, Appending, ownPlace, foundIn}
 use Rattle.crash.proofs.Logs.{slotE, logD, entries-disk}
-use Rattle.crash.proofs.Appends.{length-append-writes}
+use Rattle.crash.proofs.Appends.{length-append-writes, writes-whole, writes-below}
 use Rattle.history.specs.Plain.{ownVerdict}
 use Rattle.history.specs.Ledger.{sameLog}
 use Rattle.history.proofs.Relation.PlainLaws.{own-lost, own-new, own-other}
-use Rattle.history.proofs.Steps.Plans.{Fits}
+use Rattle.crash.proofs.Plans.{Fits}
 
 module _ (geo : Geometry) where
-  -- the writes of an append are addressed below N
-  writes-low : (N : ℕ) (s : List ℕ) (n h : ℕ) (G : List Entry) → firstData geo < N → n + length G ≤ geo .slots → All (λ e. e .address < N) (appendWrites geo N s n h G)
-  writes-low N s n h G big room =
-      all-append (λ e. e .address < N) (slotBlocks geo n G) _ (slots-below geo N n G (omega arith)) (omega arith, (omega arith, tt))
-
-  -- the group G is appended to n entries with the sum h on s; v is their list, S the disk
-  pub record Appends (N : ℕ) (s : List ℕ) (n h : ℕ) (G v : List Entry) (S : Disk) : Type 0 where
-    pub big : firstData geo < N
-    pub small : N < 2 ^ 32
-    pub size : N ≡ blocksIn s
-    pub room : n + length G ≤ geo .slots
-    pub sum : h ≡ sumOf start (logD geo (blockAt s) n)
-    pub card : WholeCard geo N (blockAt s) v S n
-    pub whole : All Whole G
-    pub low : All NarrowAddress G
-    pub all-data : allData geo N G ≡ true
+  -- the group G is appended to n entries with the sum h on s, where nothing waits; v is their list, S the disk
+  abbrev pub Appends : ℕ → List ℕ → ℕ → ℕ → List Entry → List Entry → Disk → Type 0
+  Appends N s n h G v S = Appending geo Every Every N s [] n h G v S
 
   module _ {N : ℕ} {s : List ℕ} {n h : ℕ} {G v : List Entry} {S : Disk} (x : Appends N s n h G v S) where
     abbrev W : List Entry
     W = appendWrites geo N s n h G
 
-    pub wide : 4 * n ≤ length (blockAt s descriptorAt)
-    wide = rw (length-blockAt s descriptorAt (omega (arith, x .big, x .size))) (omega (arith, x .room))
-
-    pub writes-whole : All Whole W
-    writes-whole = all-append Whole (slotBlocks geo n G) _ (slots-whole geo n G (x .whole)) (length-describe _ n G wide (omega (arith, x .room)), (length-encode (header N n h (n + length G) (sumOf h G)), tt))
-
-    pub writes-fit : Fits geo N W
+    pub writes-fit : Fits geo N 0 W
     writes-fit = record {
-      few = let e : length W ≡ length G + 2 = length-append-writes geo N s n h G in omega (arith, x .room);
-      whole = writes-whole;
-      low = writes-low N s n h G (x .big) (x .room);
+      few = let e : length W ≡ length G + geo .descriptors + 1 = length-append-writes geo N s n h G in omega (arith, x .room, geo .queued);
+      whole = writes-whole geo N s n h G (x .blocks);
+      low = writes-below geo N s n h G N (x .room) (omega (arith, x .behind .big));
     }
+
+    -- its header's place
+    place : ownPlace geo x ≡ length G + geo .descriptors
+    place = zero-add (length G + geo .descriptors)
 
     -- ---- cut short after j of its orders
 
-    pub short-before : (c r : Card) (j : ℕ) → Left c r s (take j W) 0 → j ≤ length G + 1 → (ms : List ℕ) → marksFit ms (length (take j W)) ≡ true → Leads geo N (cut ms r .settled) v S n false
-    short-before c r j f l ms m = append-cuts geo N s n h G v S (x .big) (x .small) (x .size) (x .room) (x .sum) (x .card) writes-whole c r j f ms m l
+    pub short-before : (c r : Card) (j : ℕ) → Left c r s (take j W) 0 → j ≤ length G + geo .descriptors → (ms : List ℕ) → marksFit ms (length (take j W)) ≡ true → Leads geo Every N (cut ms r .settled) v S n false
+    short-before c r j f l ms m = append-cuts geo x c r j f ms m l
 
-    pub short-top : (c r : Card) (j : ℕ) → Left c r s (take j W) 0 → j ≡ length G + 2 → (ms : List ℕ) → marksFit ms (length (take j W)) ≡ true
-        → (t u : Bool) → keptAt ms (length G + 1) ≡ t → sameLog (foundIn geo (cut ms r .settled)) (cond t (logD geo (blockAt s) n ++ G) v) ≡ u
-        → Leads geo N (cut ms r .settled) (cond t (logD geo (blockAt s) n ++ G) v) (cond (ownVerdict n (length G) t u .laid) (overlay G S) S) (ownVerdict n (length G) t u .n) (ownVerdict n (length G) t u .F)
+    pub short-top : (c r : Card) (j : ℕ) → Left c r s (take j W) 0 → j ≡ length G + geo .descriptors + 1 → (ms : List ℕ) → marksFit ms (length (take j W)) ≡ true
+        → (t u : Bool) → keptAt ms (length G + geo .descriptors) ≡ t → sameLog (foundIn geo (cut ms r .settled)) (cond t (logD geo (blockAt s) n ++ G) v) ≡ u
+        → Leads geo Every N (cut ms r .settled) (cond t (logD geo (blockAt s) n ++ G) v) (cond (ownVerdict n (length G) t u .laid) (overlay G S) S) (ownVerdict n (length G) t u .n) (ownVerdict n (length G) t u .F)
     short-top c r j f e ms m false u p q =
         rw (own-lost n (length G) u)
-        (append-cuts-lost geo N s n h G v S (x .big) (x .small) (x .size) (x .room) (x .sum) (x .card) writes-whole c r j f ms m e p)
+        (append-cuts-lost geo x c r j f ms m e (ap (keptAt ms) place ∙ p))
     short-top c r j f e ms m true true p q =
         rw (own-new n (length G))
-        (append-cuts-new geo N s n h G v S (x .big) (x .small) (x .size) (x .room) (x .sum) (x .card) writes-whole c r j f ms m e p (x .all-data) q)
+        (append-cuts-new geo x c r j f ms m e (ap (keptAt ms) place ∙ p) q)
     short-top c r j f e ms m true false p q =
         rw (own-other n (length G))
-        (append-cuts-old geo N s n h G v S (x .big) (x .small) (x .size) (x .room) (x .sum) (x .card) writes-whole c r j f ms m e p q)
+        (append-cuts-old geo x c r j f ms m e (ap (keptAt ms) place ∙ p) q)
 
     -- with every write kept the log found is the log written
-    pub whole-found : (c r : Card) (j : ℕ) → Left c r s (take j W) 0 → j ≡ length G + 2 → (ms : List ℕ) → marksFit ms (length (take j W)) ≡ true → allKept ms ≡ true
-        → (keptAt ms (length G + 1) ≡ true) × (sameLog (foundIn geo (cut ms r .settled)) (logD geo (blockAt s) n ++ G) ≡ true)
+    pub whole-found : (c r : Card) (j : ℕ) → Left c r s (take j W) 0 → j ≡ length G + geo .descriptors + 1 → (ms : List ℕ) → marksFit ms (length (take j W)) ≡ true → allKept ms ≡ true
+        → (keptAt ms (length G + geo .descriptors) ≡ true) × (sameLog (foundIn geo (cut ms r .settled)) (logD geo (blockAt s) n ++ G) ≡ true)
     whole-found c r j f e ms m all = (
-      append-cuts-kept geo N s n h G v S (x .big) (x .small) (x .size) (x .room) (x .sum) (x .card) writes-whole c r j f ms m e all (x .low),
-      append-cuts-whole geo N s n h G v S (x .big) (x .small) (x .size) (x .room) (x .sum) (x .card) writes-whole c r j f ms m e all (x .low),
+      ap (keptAt ms) (sym place) ∙ append-cuts-kept geo x c r j f ms m e all,
+      append-cuts-whole geo x c r j f ms m e all,
     )
 
     -- ---- done
 
-    pub done-card : WholeCard geo N (blockAt (settle W s)) (logD geo (blockAt s) n ++ G) (overlay G S) (n + length G)
-    done-card = CallCuts.done-card geo N s n h G v S (x .big) (x .small) (x .size) (x .room) (x .sum) (x .card) writes-whole (x .low) (x .all-data)
+    pub done-card : WholeCard geo Every N (blockAt (settle W s)) (logD geo (blockAt s) n ++ G) (overlay G S) (n + length G)
+    done-card = CallCuts.done-card geo x
 
     pub done-sum : sumOf h G ≡ sumOf start (logD geo (blockAt (settle W s)) (n + length G))
     done-sum = ap (λ (k : ℕ). sumOf k G) (x .sum) ∙ sym (sumOf-append start (logD geo (blockAt s) n) G) ∙ ap (sumOf start) (done-card .same)
@@ -104,9 +87,7 @@ module _ (geo : Geometry) where
     -- block 0 then
     done-head : blockAt (settle W s) headerAt ≡ encode (header N n h (n + length G) (sumOf h G))
     done-head =
-        append-head geo N (blockAt s) (blockAt (settle W s)) v S n h G (x .card)
-        (CallCuts.done-append geo N s n h G v S (x .big) (x .small) (x .size) (x .room) (x .sum) (x .card) writes-whole (x .low))
-        .block
+        append-head geo Every Every N (blockAt s) (blockAt (settle W s)) v S n h G (λ a y. y) (x .behind .card) (CallCuts.done-append geo x) .block
 
     size-log : length (logD geo (blockAt s) n) ≡ n
     size-log = length-upTo (slotE geo (blockAt s)) n

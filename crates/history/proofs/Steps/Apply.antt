@@ -24,7 +24,7 @@ use Rattle.history.specs.Plain.{ofApply, Done, refusal, plainStep, plain
 use Rattle.history.specs.Dispatch.{dispatch}
 use Rattle.history.specs.Ledger.{applyHeaders, noted, entered, applyHeader}
 use Rattle.history.specs.History.{World, ledgerNext, foundWritten}
-use Rattle.history.proofs.Steps.Plans.{Plan, planned, takes, Throughout, throughout-map}
+use Rattle.crash.proofs.Plans.{Plan, planned, takes, Throughout, throughout-map}
 use Rattle.history.proofs.Relation.CauseLaws.{RecordFacts, record-facts, cause-passes}
 use Rattle.history.proofs.Relation.Sim.{Basics, OpenSim, leads-still}
 use Rattle.history.proofs.Relation.PlainLaws.{apply-laid, apply-nothing, apply-finished, apply-short, choose-apply}
@@ -96,9 +96,9 @@ module _ (geo : Geometry) where
       unfolding applyCall
       call = rw (eq-eqb _ 0 accepted, ne-eqb _ 0 z) (ap (λ (os : List Order). carried os (withLog 0 start (st .rec)) (st .rec) st) (checkpoint-orders geo st (settledLedger v) (plainNow geo st S) b o))
 
-      cuts : Throughout (CutsAt geo w (applyHeader st ∷ []) ofApply (applyWaits (st .rec .logged))) plan (st .settled) 0
+      cuts : Throughout (CutsAt geo w (applyHeader st ∷ []) ofApply (applyWaits (st .rec .logged))) [] plan (st .settled) 0
       cuts =
-          throughout-map (CheckpointCuts geo st (settledLedger v) (plainNow geo st S) b o []) (CutsAt geo w (applyHeader st ∷ []) ofApply (applyWaits (st .rec .logged))) plan (st .settled) 0
+          throughout-map (CheckpointCuts geo st (settledLedger v) (plainNow geo st S) b o []) (CutsAt geo w (applyHeader st ∷ []) ofApply (applyWaits (st .rec .logged))) [] plan (st .settled) 0
           (λ s q k h y. record {
             waiting = y .waiting;
             leads = λ r l ms e. leads-still geo _ _ _ (choose-apply geo k (st .rec .logged) (length (groupOf geo st)) false (headerKept ms (applyWaits (st .rec .logged) k)) _) (apply-laid k _ _ _) (y .leads r l ms e);

@@ -20,13 +20,13 @@ use Rattle.journal.proofs.Headers.{length-encode}
 use Rattle.journal.proofs.OrderLists.{headerEntry, checkpoint-writes}
 use Rattle.crash.proofs.Batches.{Left}
 use Rattle.crash.proofs.CallCuts.{homes-settled, homes-cuts, header-cuts, empty-settled, still-cuts}
-use Rattle.crash.proofs.Cards.{WholeCard}
-use Rattle.crash.proofs.Leads.{Leads}
+use Rattle.crash.proofs.Cards.{Every, WholeCard}
+use Rattle.crash.proofs.Leads.{Leads, Behind, none-behind}
 use Rattle.crash.proofs.Logs.{data-below}
 use Rattle.store.specs.State.{State, cardIn}
 use Rattle.history.specs.Plain.{Plain, applyVerdict, applyWaits, headerKept}
 use Rattle.history.specs.Ledger.{Ledger, PlannedHeader, noted, applyHeader, resolved}
-use Rattle.history.proofs.Steps.Plans.{Plan, planned, takes, settles, Fits, Throughout, for-one, length-settles}
+use Rattle.crash.proofs.Plans.{Plan, planned, takes, settles, Fits, Throughout, for-one, length-settles}
 use Rattle.history.proofs.Relation.Lists.{Data}
 use Rattle.history.proofs.Relation.Sim.{Basics, OpenSim, cutWritten}
 use Rattle.history.proofs.Relation.PlainLaws.{waits-homes, waits-flushed, waits-header, apply-before, apply-at, kept-mark}
@@ -66,7 +66,7 @@ module _ (geo : Geometry) where
     log-low : All (λ e. e .address < N) log
     log-low = all-map (Data geo N) (λ e. e .address < N) (λ e q. data-below geo N (e .address) q) log (Facts.log-data geo st l d b o)
 
-    pub checkpoint-fits : All (Fits geo N) checkpoint
+    pub checkpoint-fits : All (Fits geo N 0) checkpoint
     checkpoint-fits = (
       record { few = omega (arith, length-log, Facts.n-most geo st l d b o); whole = Facts.log-whole geo st l d b o; low = log-low },
       (record { few = omega arith; whole = (top-whole, tt); low = (omega (arith, Facts.big geo st l d b o), tt) }, tt),
@@ -78,26 +78,33 @@ module _ (geo : Geometry) where
     homed = settle log (st .settled)
 
     abbrev pub emptied : List ℕ
-    emptied = settles checkpoint (st .settled)
+    emptied = settles [] checkpoint (st .settled)
 
     size-homed : N ≡ blocksIn homed
     size-homed = Facts.size geo st l d b o ∙ ap (λ (k : ℕ). k / blockBytes) (sym (length-settle log (st .settled)))
 
     pub size-emptied : N ≡ blocksIn emptied
-    size-emptied = Facts.size geo st l d b o ∙ ap (λ (k : ℕ). k / blockBytes) (sym (length-settles checkpoint (st .settled)))
+    size-emptied = Facts.size geo st l d b o ∙ ap (λ (k : ℕ). k / blockBytes) (sym (length-settles [] checkpoint (st .settled)))
 
-    homes : WholeCard geo N (blockAt homed) (l .written) (d .S) n × ((a : ℕ) → isData geo N a ≡ true → d .S a ≡ blockAt homed a)
-    homes = homes-settled geo N (st .settled) n (l .written) (d .S) (Facts.big geo st l d b o) (Facts.size geo st l d b o) (o .card) (Facts.log-whole geo st l d b o)
+    -- nothing waits: all blocks are in question
+    begins : Behind geo Every Every N (st .settled) [] (l .written) (d .S) n false
+    begins = none-behind geo (Facts.big geo st l d b o) (Facts.small geo st l d b o) (Facts.size geo st l d b o) (o .card)
 
-    pub emptied-card : WholeCard geo N (blockAt emptied) [] (d .S) 0
-    emptied-card = empty-settled geo N homed (d .S) (Facts.big geo st l d b o) size-homed (homes .1) top-whole
+    homes : WholeCard geo Every N (blockAt homed) (l .written) (d .S) n × ((a : ℕ) → isData geo N a ≡ true → Every a → d .S a ≡ blockAt homed a)
+    homes = homes-settled geo begins (Facts.log-whole geo st l d b o)
+
+    flushed-behind : Behind geo Every Every N homed [] (l .written) (d .S) n false
+    flushed-behind = none-behind geo (Facts.big geo st l d b o) (Facts.small geo st l d b o) size-homed (homes .0)
+
+    pub emptied-card : WholeCard geo Every N (blockAt emptied) [] (d .S) 0
+    emptied-card = empty-settled geo flushed-behind (homes .1)
 
     -- ---- cut short, whatever headers follow
 
     pub record CheckpointCuts (hs : List PlannedHeader) (s : List ℕ) (q : List Entry) (k : ℕ) : Type 0 where
       pub waiting : applyWaits n k ≡ length q
       pub leads : (r : Card) → Left (cardIn st) r s q 0 → (ms : List ℕ) → marksFit ms (length q) ≡ true
-          → Leads geo N (cut ms r .settled) (cutWritten ms (noted (applyHeader st ∷ hs) k l)) (d .S)
+          → Leads geo Every N (cut ms r .settled) (cutWritten ms (noted (applyHeader st ∷ hs) k l)) (d .S)
           (applyVerdict k n false (headerKept ms (applyWaits n k)) .n) (applyVerdict k n false (headerKept ms (applyWaits n k)) .F)
 
     nothing-waits : (ms : List ℕ) → cutWritten ms l ≡ l .written
@@ -111,7 +118,7 @@ module _ (geo : Geometry) where
         waiting = waits-homes n k (omega (arith, length-log)) ∙ sym (length-take j log ∙ (omega arith));
         leads = λ r f ms m.
             rw (note-before (applyHeader st) hs k l (omega (arith, length-log)), nothing-waits ms, apply-before k n false (headerKept ms (applyWaits n k)) (omega (arith, length-log)))
-            (homes-cuts geo N (st .settled) n (l .written) (d .S) (Facts.big geo st l d b o) (Facts.size geo st l d b o) (o .card) (cardIn st) r ms j (Facts.log-whole geo st l d b o) f m);
+            (homes-cuts geo begins (cardIn st) r ms j (Facts.log-whole geo st l d b o) f m);
       }
 
       -- behind their flush
@@ -120,7 +127,7 @@ module _ (geo : Geometry) where
         waiting = waits-flushed n k e;
         leads = λ r f ms m.
             rw (note-before (applyHeader st) hs k l (omega arith), nothing-waits ms, apply-before k n false (headerKept ms (applyWaits n k)) (omega arith))
-            (still-cuts geo N homed n (l .written) (d .S) false (cardIn st) r 0 ms (Facts.big geo st l d b o) size-homed (homes .0) f m);
+            (still-cuts geo flushed-behind (cardIn st) r 0 ms f m);
       }
 
       -- behind the header
@@ -132,8 +139,8 @@ module _ (geo : Geometry) where
             waiting = one;
             leads = λ r f ms m.
                 rw (note-at (applyHeader st) hs k l (omega arith), apply-at k n false (headerKept ms (applyWaits n k)) e, kept-mark ms (applyWaits n k) 0 one)
-                (header-cuts geo N homed n (l .written) (d .S) (Facts.big geo st l d b o) size-homed (homes .0) (cardIn st) r ms (homes .1) top-whole f m (keptAt ms 0) refl);
+                (header-cuts geo flushed-behind (cardIn st) r ms (homes .1) f m (keptAt ms 0) refl);
           }
 
-      pub checkpoint-cuts : Throughout (CheckpointCuts hs) checkpoint (st .settled) 0
-      checkpoint-cuts = (at-home, for-one (CheckpointCuts hs) top homed (0 + (length log + 1)) (λ k e. flushed k (omega (arith, length-log))) (λ k e. headed k (omega (arith, length-log))))
+      pub checkpoint-cuts : Throughout (CheckpointCuts hs) [] checkpoint (st .settled) 0
+      checkpoint-cuts = (at-home, for-one (CheckpointCuts hs) [] top homed (0 + (length log + 1)) (λ k e. flushed k (omega (arith, length-log))) (λ k e. headed k (omega (arith, length-log))))

@@ -15,10 +15,10 @@ use Rattle.card.specs.Card as Card
 use Rattle.card.specs.Card.{blockAt}
 use Rattle.card.proofs.Cuts.{cut-length}
 use Rattle.card.specs.Marks.{marksFit}
-use Rattle.crash.proofs.Cards.{ClosedCard}
+use Rattle.crash.proofs.Cards.{Every, ClosedCard}
 use Rattle.crash.proofs.Batches.{no-queue}
 use Rattle.crash.proofs.CallCuts.{still-cuts}
-use Rattle.crash.proofs.Leads.{foundIn}
+use Rattle.crash.proofs.Leads.{foundIn, none-behind}
 use Rattle.store.specs.Request as Request
 use Rattle.store.specs.State.{State, Outcome, down, withRecord, withCard, cardIn}
 use Rattle.store.specs.Causes.{cause}
@@ -34,18 +34,18 @@ use Rattle.history.specs.History.{World, storeNext, ledgerNext, foundWri
 use Rattle.history.proofs.Relation.CauseLaws.{facts-sizes, record-facts, facts-record, idle}
 use Rattle.history.proofs.Relation.Sim.{Basics, OpenSim, ClosedSim, DownSim, Sim, cutSettled, cutWritten, cutVerdict, CutLeads}
 use Rattle.history.proofs.Relation.PlainLaws.{choose-none}
-use Rattle.history.proofs.Steps.Shown.{WorldSim, StepOK, sim-at, big-N, same-cause, refused-step, plain-served}
+use Rattle.history.proofs.Steps.Shown.{WorldSim, StepOK, sim-at, small-N, big-N, same-cause, refused-step, plain-served}
 
 -- ---- every cut leads to what the plain disk chooses
 
 module _ (geo : Geometry) where
   -- nothing waits, no header does, no call was cut short: the card stands as it is
   still-leads : (ms : List ℕ) (st : State) (l : Ledger) (d : Plain) → Basics geo st d → st .rec .waiting ≡ 0 → marksFit ms (st .rec .waiting) ≡ true → d .short ≡ none → l .pending ≡ nothing
-      → ClosedCard geo (st .rec .blocks) (blockAt (st .settled)) (l .written) (d .S) (d .n) (d .F) → CutLeads geo ms st l d
+      → ClosedCard geo Every (st .rec .blocks) (blockAt (st .settled)) (l .written) (d .S) (d .n) (d .F) → CutLeads geo ms st l d
   unfolding resolved
   still-leads ms st l d b z h s p r =
       rw (s, p, choose-none geo (d .n) (length (d .G)) (d .F) (headerKept ms (d .waiting)) (sameLog (foundIn geo (cutSettled ms st)) (l .written)))
-      (still-cuts geo (st .rec .blocks) (st .settled) (d .n) (l .written) (d .S) (d .F) (cardIn st) (cardIn st) (st .rec .power) ms (big-N geo st d b) (record-facts geo st (b .counts) .blocks) r
+      (still-cuts geo (none-behind geo (big-N geo st d b) (small-N geo st d b) (record-facts geo st (b .counts) .blocks) r) (cardIn st) (cardIn st) (st .rec .power) ms
       (record { settled = refl; waits = no-queue (cardIn st) z; count = z; power = refl; room = refl })
       (ap (marksFit ms) (sym z) ∙ h))
 
@@ -108,7 +108,7 @@ module _ (geo : Geometry) where
       }
 
   pub cut-sim : (ms : List ℕ) (st : State) (d : Plain) (w : List Entry) (S : Disk) (n : ℕ) (F : Bool) → Basics geo st d
-      → ClosedCard geo (st .rec .blocks) (blockAt (cutSettled ms st)) w S n F
+      → ClosedCard geo Every (st .rec .blocks) (blockAt (cutSettled ms st)) w S n F
       → Sim geo (afterCut ms st) (settledBy w) (plainAt st d S n F)
   cut-sim ms st d w S n F b r = record {
     basics = cut-basics ms st d S n F b;

@@ -1,6 +1,6 @@
 -- A call that gives the orders of a plan, for any power: done, it leaves an open record; cut short, one that is down.
 use Prim.Native.Nat.{ℕ, _-_, _/_, _≤_, _<_}
-use mathlib.Core.Path.{_≡_, refl, ap, sym, _∙_}
+use mathlib.Core.Path.{_≡_, refl, ap, sym, subst, _∙_}
 use mathlib.Core.Logic.{_⊎_}
 use mathlib.Core.Bool.{true, false}
 use mathlib.Core.List.{List, []}
@@ -18,7 +18,7 @@ use Rattle.card.specs.Marks.{marksFit}
 use Rattle.journal.specs.Geometry.{Geometry}
 use Rattle.journal.specs.Log.{entries, sumOf}
 use Rattle.crash.proofs.Batches.{Left, no-queue}
-use Rattle.crash.proofs.Cards.{WholeCard}
+use Rattle.crash.proofs.Cards.{Every, WholeCard}
 use Rattle.crash.proofs.Logs.{logD, entries-disk}
 use Rattle.store.specs.declared.record.Record.{Record}
 use Rattle.store.specs.State.{State, Outcome, openMode, down, withMode, withLog, withRecord, withCard, cardIn}
@@ -31,7 +31,7 @@ use Rattle.history.specs.Dispatch.{dispatch}
 use Rattle.history.specs.Ledger.{PlannedHeader, noted, settledBy}
 use Rattle.history.specs.History.{World, ledgerNext, foundWritten}
 use Rattle.journal.proofs.Logs.{allData-all}
-use Rattle.history.proofs.Steps.Plans.{Plan, planned, takes, settles, Fits, Asked, Throughout, length-planned, length-settles, plan-done, Stopped, plan-short}
+use Rattle.crash.proofs.Plans.{Plan, planned, takes, settles, Fits, Asked, Throughout, rest-none, length-planned, length-settles, plan-done, Stopped, plan-short}
 use Rattle.history.proofs.Relation.Lists.{Data, Distinct}
 use Rattle.history.proofs.Relation.CauseLaws.{RecordFacts, facts-sizes, record-facts, facts-record}
 use Rattle.history.proofs.Relation.Sim.{Basics, Sim, CutLeads}
@@ -102,7 +102,7 @@ module _ (geo : Geometry) where
     pub gone : Record
     pub call : dispatch geo c (w .store) ≡ carried (planned plan) done gone (w .store)
     pub none-waits : w .store .rec .waiting ≡ 0
-    pub fits : All (Fits geo (w .store .rec .blocks)) plan
+    pub fits : All (Fits geo (w .store .rec .blocks) 0) plan
     pub counts : Countable geo (w .store .rec .blocks) gone
     -- the ledger
     pub headers : List PlannedHeader
@@ -115,7 +115,7 @@ module _ (geo : Geometry) where
         → plainStep geo c (foundWritten geo c w) (w .plain) ≡ record { answer = 0; orders = takes plan; plain = openPlain geo (w .store) done S (w .plain .power - takes plan) }
     pub plain-short : w .plain .power < takes plan → plainStep geo c (foundWritten geo c w) (w .plain) ≡ cutShort (short (w .plain .power)) (waits (w .plain .power)) (w .plain)
     -- cut short
-    pub cuts : Throughout (CutsAt w headers short waits) plan (w .store .settled) 0
+    pub cuts : Throughout (CutsAt w headers short waits) [] plan (w .store .settled) 0
     -- done
     pub list : List Entry
     pub noted-all : noted headers (takes plan) (w .ledger) ≡ settledBy list
@@ -123,8 +123,8 @@ module _ (geo : Geometry) where
     pub blocks : done .blocks ≡ w .store .rec .blocks
     pub opened : Listed geo (w .store .rec .blocks) (w .store .work) openFrom (done .opened)
     pub grouped : Listed geo (w .store .rec .blocks) (w .store .work) (groupFrom geo) (done .grouped)
-    pub sum : done .sum ≡ sumOf start (logD geo (blockAt (settles plan (w .store .settled))) (done .logged))
-    pub card : WholeCard geo (w .store .rec .blocks) (blockAt (settles plan (w .store .settled))) list S (done .logged)
+    pub sum : done .sum ≡ sumOf start (logD geo (blockAt (settles [] plan (w .store .settled))) (done .logged))
+    pub card : WholeCard geo Every (w .store .rec .blocks) (blockAt (settles [] plan (w .store .settled))) list S (done .logged)
     pub no-get : (a : ℕ) → c ≡ get a → ⊥
 
   module _ (c : Call) (w : World) (plan : Plan) (b : Basics geo (w .store) (w .plain)) (f : Gives c w plan) where
@@ -155,16 +155,18 @@ module _ (geo : Geometry) where
         let e : length (planned plan) ≡ takes plan = length-planned plan in
         f .call ∙ carried-done (planned plan) (f .done) (f .gone) st (omega arith) ∙ ap (λ (k : ℕ). record { answer = 0; orders = k; state = withCard r (withRecord (f .done) st) }) e
 
-    done-left : takes plan ≤ P → Left (cardIn st) r (settles plan (st .settled)) [] (P - takes plan)
-    done-left p = plan-done geo N (cardIn st) (small-N geo st (w .plain) b) (sz .waiting) plan (cardIn st) (st .settled) P begins (f .fits) p
+    done-left : takes plan ≤ P → Left (cardIn st) r (settles [] plan (st .settled)) [] (P - takes plan)
+    done-left p =
+        subst (λ (q : List Entry). Left (cardIn st) r (settles [] plan (st .settled)) q (P - takes plan)) (rest-none plan)
+        (plan-done geo N (cardIn st) (small-N geo st (w .plain) b) (sz .waiting) plan (cardIn st) (st .settled) [] P begins (f .fits) p)
 
     pub short-call : P < takes plan → dispatch geo c st ≡ record { answer = 4; orders = P; state = withCard r (withRecord (withMode down (f .gone)) st) }
     short-call p =
         let e : length (planned plan) ≡ takes plan = length-planned plan in
         f .call ∙ carried-short (planned plan) (f .done) (f .gone) st (omega arith)
 
-    pub stopped : (X : Asked) (k : ℕ) → k ≡ P → P < takes plan → Throughout X plan (st .settled) 0 → Stopped geo N (cardIn st) r X (st .settled) k
-    stopped X k e p x = plan-short geo N (cardIn st) (small-N geo st (w .plain) b) (sz .waiting) X plan (cardIn st) (st .settled) P 0 k (omega arith) begins (f .fits) p x
+    pub stopped : (X : Asked) (k : ℕ) → k ≡ P → P < takes plan → Throughout X [] plan (st .settled) 0 → Stopped geo N (cardIn st) r X (st .settled) k
+    stopped X k e p x = plan-short geo N (cardIn st) (small-N geo st (w .plain) b) (sz .waiting) X plan (cardIn st) (st .settled) [] P 0 k (omega arith) begins tt (f .fits) p x
 
     shows : (k : ℕ) (o : Outcome) (d : Done) → dispatch geo c st ≡ o → plainStep geo c (foundWritten geo c w) (w .plain) ≡ d → o .answer ≡ d .answer → o .orders ≡ k → d .orders ≡ k
         → Sim geo (o .state) (noted (f .headers) k (w .ledger)) (d .plain) → StepOK geo c w
@@ -183,13 +185,13 @@ module _ (geo : Geometry) where
         shows (takes plan) _ _ (done-call p) (f .plain-done (omega (arith, b .power))) refl refl refl
         (sim-at geo refl (f .noted-all) (ap (λ (k : ℕ). openPlain geo st (f .done) (f .S) (k - takes plan)) (b .power)) now)
       where
-        left : Left (cardIn st) r (settles plan (st .settled)) [] (P - takes plan)
+        left : Left (cardIn st) r (settles [] plan (st .settled)) [] (P - takes plan)
         left = done-left p
 
         settled-size : length (r .settled) ≡ length (st .settled)
-        settled-size = ap length (left .settled) ∙ length-settles plan (st .settled)
+        settled-size = ap length (left .settled) ∙ length-settles [] plan (st .settled)
 
-        log : entries geo (r .settled) (f .done .logged) ≡ logD geo (blockAt (settles plan (st .settled))) (f .done .logged)
+        log : entries geo (r .settled) (f .done .logged) ≡ logD geo (blockAt (settles [] plan (st .settled))) (f .done .logged)
         log = entries-disk geo _ (f .done .logged) ∙ ap (λ (x : List ℕ). logD geo (blockAt x) (f .done .logged)) (left .settled)
 
         now : Sim geo (withCard r (withRecord (f .done) st)) (settledBy (f .list))
@@ -288,5 +290,5 @@ module _ (geo : Geometry) where
         go (yes p) = absurd (let z : _≡_ {A = ℕ} 0 4 = sym (ap (λ (o : Outcome). o .answer) (done-call p)) ∙ e in omega arith)
         go (no p) = omega arith
 
-    pub gives-settled : takes plan ≤ P → dispatch geo c st .state .settled ≡ settles plan (st .settled)
+    pub gives-settled : takes plan ≤ P → dispatch geo c st .state .settled ≡ settles [] plan (st .settled)
     gives-settled p = ap (λ (o : Outcome). o .state .settled) (done-call p) ∙ done-left p .settled

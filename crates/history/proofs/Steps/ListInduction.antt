@@ -18,7 +18,7 @@ use Rattle.journal.specs.Layout.{headerAt, isData}
 use Rattle.journal.specs.Header.{encode, emptyHeader}
 use Rattle.journal.proofs.Headers.{length-encode}
 use Rattle.journal.proofs.Logs.{neither, sumOf-nil}
-use Rattle.crash.proofs.Cards.{emptied}
+use Rattle.crash.proofs.Cards.{Every, emptied}
 use Rattle.crash.proofs.Logs.{data-above, data-below}
 use Rattle.store.specs.Local as Local
 use Rattle.store.specs.Save as Save
@@ -175,8 +175,7 @@ module _ (geo : Geometry) where
             short = refl;
             pending = refl;
             sum = sym (sumOf-nil start);
-            card = emptied geo N (blockAt (setCell blockBytes zeros headerAt (encode (emptyHeader N)))) (blockAt (setCell blockBytes zeros headerAt (encode (emptyHeader N)))) (λ a. replicate blockBytes 0)
-                header-now (λ a q. refl) (λ a q. sym (data-now a q));
+            card = emptied geo Every N (blockAt (setCell blockBytes zeros headerAt (encode (emptyHeader N)))) (λ a. replicate blockBytes 0) header-now (λ a q y. sym (data-now a q));
           });
         })
 

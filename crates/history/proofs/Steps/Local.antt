@@ -311,7 +311,7 @@ module _ (geo : Geometry) where
   newest-plain a st l d o f h =
       newest-get geo a st
       ∙ rw (f .in-open .list, f .in-group .list, entries-disk geo (st .settled) (st .rec .logged))
-      (overlay-agree (d .T) _ _ a (overlay-agree (d .G) _ _ a (sym (o .card .disk a h))))
+      (overlay-agree (d .T) _ _ a (overlay-agree (d .G) _ _ a (sym (o .card .disk a h tt))))
 
   pub get-step : (a : ℕ) (w : World) → WorldSim geo w → StepOK geo (get a) w
   unfolding entered getPlace

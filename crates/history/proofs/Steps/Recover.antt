@@ -23,9 +23,10 @@ use Rattle.journal.specs.Header.{header}
 use Rattle.journal.specs.Log.{entries, sumOf}
 use Rattle.journal.specs.Choice.{choose, takenCount}
 use Rattle.journal.proofs.Headers.{length-encode}
-use Rattle.journal.proofs.OrderLists.{fallback-writes}
-use Rattle.crash.proofs.CallCuts.{fallHeader, still-cuts, fall-cuts, fall-settled}
-use Rattle.crash.proofs.Cards.{WholeCard, FallCard}
+use Rattle.journal.proofs.OrderLists.{headerEntry, fallback-writes}
+use Rattle.crash.proofs.CallCuts.{still-cuts, fall-cuts, fall-settled}
+use Rattle.crash.proofs.Leads.{Behind, none-behind, fallHeader}
+use Rattle.crash.proofs.Cards.{Every, WholeCard, FallCard}
 use Rattle.crash.proofs.Logs.{logD, entries-disk}
 use Rattle.store.specs.Request as Request
 use Rattle.store.specs.State.{State}
@@ -37,7 +38,7 @@ use Rattle.history.specs.Plain.{Plain, ofRecover, refusal, plainStep, pl
 use Rattle.history.specs.Ledger.{Ledger, waits, recoverHeaders, noted, entered, taken, resolved, waitsBehind}
 use Rattle.history.specs.History.{World, foundWritten}
 use Rattle.history.proofs.Relation.CauseLaws.{RecordFacts, record-facts, cause-passes}
-use Rattle.history.proofs.Steps.Plans.{Plan, Asked, for-one}
+use Rattle.crash.proofs.Plans.{Plan, Asked, for-one}
 use Rattle.history.proofs.Relation.Sim.{OpenSim, ClosedSim, DownSim, Sim, leads-still}
 use Rattle.history.proofs.Relation.PlainLaws.{recover-whole, recover-fallback, recover-short, choose-recover-none, choose-recover, kept-mark}
 use Rattle.history.proofs.Steps.Shown.{WorldSim, StepOK, same-cause, refused-step, plain-served, noted-none, small-N, big-N, choose-whole, choose-fallback}
@@ -100,7 +101,7 @@ module _ (geo : Geometry) where
     plain = plain-served geo recover (foundWritten geo recover w) d served
 
     -- no header is to be written
-    whole : F ≡ false → WholeCard geo N (blockAt s) v S n → Gives geo recover w []
+    whole : F ≡ false → WholeCard geo Every N (blockAt s) v S n → Gives geo recover w []
     unfolding entered
     whole e r = record {
       done = reopened n sum (st .rec);
@@ -129,9 +130,9 @@ module _ (geo : Geometry) where
     }
 
     -- one is: the fallback's
-    module _ (e : F ≡ true) (r : FallCard geo N (blockAt s) v S n) where
+    module _ (e : F ≡ true) (r : FallCard geo Every N (blockAt s) v S n) where
       abbrev top : Entry
-      top = fallHeader geo N s n
+      top = headerEntry (fallHeader geo N s n)
 
       abbrev plan : Plan
       plan = (top ∷ []) ∷ []
@@ -146,7 +147,10 @@ module _ (geo : Geometry) where
       list = ap (λ (c : Choice). entries geo s (takenCount c)) chosen ∙ log-is
 
       top-whole : Whole top
-      top-whole = length-encode (header N n (sumOf start (logD geo (blockAt s) n)) n (sumOf start (logD geo (blockAt s) n)))
+      top-whole = length-encode (fallHeader geo N s n)
+
+      begins : Behind geo Every Every N s [] v S n true
+      begins = none-behind geo big small (rc .blocks) r
 
       abbrev At : Asked
       At = CutsAt geo w (recoverHeaders geo st) ofRecover (λ k. k)
@@ -159,7 +163,7 @@ module _ (geo : Geometry) where
         leads = λ c l ms y.
             rw (noted-none (recoverHeaders geo st) (settledLedger v))
             (leads-still geo _ _ (unchanged n F) (choose-recover-none geo n 0 F (headerKept ms 0) _) refl
-            (rw e (still-cuts geo N s n v S true _ c 0 ms big (rc .blocks) r l y)));
+            (rw e (still-cuts geo begins _ c 0 ms l y)));
       }
 
       -- behind it
@@ -175,11 +179,11 @@ module _ (geo : Geometry) where
             rw note-top
             (leads-still geo _ _ (unchanged n (not (keptAt ms 0)))
             (choose-recover geo n 0 F (headerKept ms 1) _ ∙ ap (λ (t : Bool). unchanged n (not t)) (kept-mark ms 1 0 refl)) refl
-            (fall-cuts geo N s n v S _ c ms big (rc .blocks) r top-whole l y (keptAt ms 0) refl));
+            (fall-cuts geo begins _ c ms l y (keptAt ms 0) refl));
       }
 
-      fallen : WholeCard geo N (blockAt (settle (top ∷ []) s)) (logD geo (blockAt s) n) S n
-      fallen = fall-settled geo N s v S n big (rc .blocks) r top-whole
+      fallen : WholeCard geo Every N (blockAt (settle (top ∷ []) s)) (logD geo (blockAt s) n) S n
+      fallen = fall-settled geo begins
 
       fallback : Gives geo recover w plan
       unfolding entered recoverHeaders noted
@@ -197,7 +201,7 @@ module _ (geo : Geometry) where
         S = S;
         plain-done = λ p. plain ∙ recover-fallback d e p;
         plain-short = λ p. plain ∙ recover-short d e p;
-        cuts = for-one At top s 0 (λ i z. subst (At s []) (sym z) still) (λ i z. subst (At s (top ∷ [])) (let q : 1 ≡ i = omega arith in q) headed);
+        cuts = for-one At [] top s 0 (λ i z. subst (At s []) (sym z) still) (λ i z. subst (At s (top ∷ [])) (let q : 1 ≡ i = omega arith in q) headed);
         list = logD geo (blockAt s) n;
         noted-all = ap settledLedger list;
         mode = refl;

@@ -15,7 +15,7 @@ use Rattle.journal.specs.Layout.{firstData}
 use Rattle.journal.specs.Header.{header}
 use Rattle.journal.specs.Log.{headerOf, entries, sumOf}
 use Rattle.journal.specs.Choice.{foreign, choose, choiceNumber}
-use Rattle.crash.proofs.Cards.{WholeCard, FallCard, ClosedCard}
+use Rattle.crash.proofs.Cards.{Every, WholeCard, FallCard, ClosedCard}
 use Rattle.crash.proofs.Leads.{read-head}
 use Rattle.crash.proofs.Logs.{logD, entries-disk}
 use Rattle.store.specs.Request as Request
@@ -99,14 +99,14 @@ module _ (geo : Geometry) where
 
   -- the head of an opened card gives no foreign header
   module _ (N : ℕ) (s : List ℕ) (small : N < 2 ^ 32) where
-    pub choose-whole : (w : List Entry) (S : Rattle.card.specs.Disk.Disk) (n : ℕ) → WholeCard geo N (blockAt s) w S n → choose geo N s ≡ Whole n (sumOf start (entries geo s n))
+    pub choose-whole : (w : List Entry) (S : Rattle.card.specs.Disk.Disk) (n : ℕ) → WholeCard geo Every N (blockAt s) w S n → choose geo N s ≡ Whole n (sumOf start (entries geo s n))
     unfolding choose
     choose-whole w S n r =
         let h : headerOf s ≡ header N (r .p) (r .ps) n (sumOf start (logD geo (blockAt s) n)) = read-head geo s N (r .p) (r .ps) n (sumOf start (logD geo (blockAt s) n)) small (r .head) in
         let e : entries geo s n ≡ logD geo (blockAt s) n = entries-disk geo s n in
         rw (h, ours N (r .p) (r .ps) n (sumOf start (logD geo (blockAt s) n)) (r .head .ordered) (r .head .most), e, eq-eqb (sumOf start (logD geo (blockAt s) n)) (sumOf start (logD geo (blockAt s) n)) refl, r .all)
 
-    pub choose-fallback : (w : List Entry) (S : Rattle.card.specs.Disk.Disk) (n : ℕ) → FallCard geo N (blockAt s) w S n → choose geo N s ≡ Fallback n (sumOf start (entries geo s n))
+    pub choose-fallback : (w : List Entry) (S : Rattle.card.specs.Disk.Disk) (n : ℕ) → FallCard geo Every N (blockAt s) w S n → choose geo N s ≡ Fallback n (sumOf start (entries geo s n))
     unfolding choose
     choose-fallback w S n r =
         let h : headerOf s ≡ header N n (sumOf start (logD geo (blockAt s) n)) (r .c) (r .ns) = read-head geo s N n (sumOf start (logD geo (blockAt s) n)) (r .c) (r .ns) small (r .head) in
@@ -114,7 +114,7 @@ module _ (geo : Geometry) where
         let f : entries geo s (r .c) ≡ logD geo (blockAt s) (r .c) = entries-disk geo s (r .c) in
         rw (h, ours N n (sumOf start (logD geo (blockAt s) n)) (r .c) (r .ns) (r .head .ordered) (r .head .most), f, r .bad, e, eq-eqb (sumOf start (logD geo (blockAt s) n)) (sumOf start (logD geo (blockAt s) n)) refl, r .all)
 
-  pub closed-choice : (N : ℕ) (s : List ℕ) (w : List Entry) (S : Rattle.card.specs.Disk.Disk) (n : ℕ) (F : Bool) → N < 2 ^ 32 → ClosedCard geo N (blockAt s) w S n F → choiceNumber (choose geo N s) ≡ 0
+  pub closed-choice : (N : ℕ) (s : List ℕ) (w : List Entry) (S : Rattle.card.specs.Disk.Disk) (n : ℕ) (F : Bool) → N < 2 ^ 32 → ClosedCard geo Every N (blockAt s) w S n F → choiceNumber (choose geo N s) ≡ 0
   closed-choice N s w S n false l r = ap choiceNumber (choose-whole N s l w S n r)
   closed-choice N s w S n true l r = ap choiceNumber (choose-fallback N s l w S n r)
 

@@ -25,7 +25,7 @@ use Rattle.journal.proofs.Logs.{sumOf-nil}
 use Rattle.journal.proofs.Choices.{both}
 use Rattle.journal.proofs.OrderLists.{appendWrites}
 use Rattle.crash.proofs.Batches.{Left}
-use Rattle.crash.proofs.Cards.{WholeCard}
+use Rattle.crash.proofs.Cards.{Every, WholeCard}
 use Rattle.crash.proofs.Leads.{foundIn}
 use Rattle.crash.proofs.Logs.{logD}
 use Rattle.crash.proofs.Appends.{length-append-writes}
@@ -40,7 +40,7 @@ use Rattle.history.specs.Plain.{Plain, ofSync, refusal, plainStep, plain
 use Rattle.history.specs.Ledger.{Ledger, waits, syncHeaders, noted, entered, ownHeader, standing, inner, resolved, sameLog, waitsBehind}
 use Rattle.history.specs.History.{World, ledgerNext, foundWritten}
 use Rattle.history.specs.Statements.{Logged}
-use Rattle.history.proofs.Steps.Plans.{Plan, planned, takes, settles, Fits, Asked, Throughout, takes-append, settles-append, throughout-append, throughout-all}
+use Rattle.crash.proofs.Plans.{Plan, planned, takes, settles, Fits, Asked, Throughout, rest-none, takes-append, settles-append, throughout-append, throughout-all}
 use Rattle.history.proofs.Steps.AppendEnds.{writes-fit, short-before, short-top, whole-found, done-card, done-sum, done-logged}
 use Rattle.history.proofs.Relation.CauseLaws.{RecordFacts, record-facts, cause-passes}
 use Rattle.history.proofs.Relation.Sim.{OpenSim, cutWritten, cutSettled, leads-still, leads-laid}
@@ -127,22 +127,31 @@ module _ (geo : Geometry) where
 
       -- the settled bytes that it meets, the log there, its writes
       abbrev s : List ℕ
-      s = settles (y .front) (st .settled)
+      s = settles [] (y .front) (st .settled)
 
       abbrev log : List Entry
-      log = logD geo (blockAt (settles (y .front) (st .settled))) (y .n)
+      log = logD geo (blockAt (settles [] (y .front) (st .settled))) (y .n)
 
       abbrev W : List Entry
-      W = appendWrites geo N (settles (y .front) (st .settled)) (y .n) (y .sum) G
+      W = appendWrites geo N (settles [] (y .front) (st .settled)) (y .n) (y .sum) G
 
       abbrev plan : Plan
       plan = y .front ++ (W ∷ [])
 
-      length-W : length W ≡ length G + 2
+      length-W : length W ≡ length G + geo .descriptors + 1
       length-W = length-append-writes geo N s (y .n) (y .sum) G
 
-      count : takes plan ≡ takes (y .front) + (length G + 3)
+      count : takes plan ≡ takes (y .front) + (length G + geo .descriptors + 2)
       count = takes-append (y .front) (W ∷ []) ∙ (omega (arith, length-W))
+
+      -- behind the batches in front nothing waits
+      settled-plan : settles [] plan (st .settled) ≡ settle W s
+      settled-plan = settles-append [] (y .front) (W ∷ []) (st .settled) ∙ ap (λ (q : List Entry). settle (q ++ W) s) (rest-none (y .front))
+
+      behind-front : (X : Asked) → Throughout X [] (y .front) (st .settled) 0 → ((j k : ℕ) → j ≤ length W → k ≡ takes (y .front) + j → X s (take j W) k) → Throughout X [] plan (st .settled) 0
+      behind-front X a b =
+          throughout-append X [] (y .front) (W ∷ []) (st .settled) 0 (takes (y .front)) (omega arith) a
+          (subst (λ (q : List Entry). Throughout X q (W ∷ []) s (takes (y .front))) (sym (rest-none (y .front))) (b, tt))
 
       waits-own : (k : ℕ) → takes (y .front) ≤ k → syncWaits geo (st .rec .logged) (length G) k ≡ k - takes (y .front)
       waits-own k l = sync-waits-own geo (st .rec .logged) (length G) k (omega (arith, y .inner-plain)) ∙ ap (λ (i : ℕ). k - i) (y .inner-plain)
@@ -152,14 +161,14 @@ module _ (geo : Geometry) where
 
       -- ---- its own header in the ledger
 
-      note-early : (k : ℕ) → takes (y .front) ≤ k → k < takes (y .front) + (length G + 2) → noted (syncHeaders geo st) k (settledLedger v) ≡ settledLedger (y .list)
+      note-early : (k : ℕ) → takes (y .front) ≤ k → k < takes (y .front) + (length G + geo .descriptors + 1) → noted (syncHeaders geo st) k (settledLedger v) ≡ settledLedger (y .list)
       note-early k l h = y .notes k l ∙ note-before (ownHeader geo st) [] k (settledLedger (y .list)) (omega (arith, y .inner-is, length-G))
 
-      pub note-top : (k : ℕ) → k ≡ takes (y .front) + (length G + 2) → noted (syncHeaders geo st) k (settledLedger v) ≡ waitsBehind (length G + 1) (log ++ G) (settledLedger (y .list))
+      pub note-top : (k : ℕ) → k ≡ takes (y .front) + (length G + geo .descriptors + 1) → noted (syncHeaders geo st) k (settledLedger v) ≡ waitsBehind (length G + geo .descriptors) (log ++ G) (settledLedger (y .list))
       note-top k e =
           y .notes k (omega arith)
           ∙ note-at (ownHeader geo st) [] k (settledLedger (y .list)) (omega (arith, y .inner-is, length-G))
-          ∙ (λ i. waitsBehind (sym length-G i + 1) (y .standing-is i ++ G) (settledLedger (y .list)))
+          ∙ (λ i. waitsBehind (sym length-G i + geo .descriptors) (y .standing-is i ++ G) (settledLedger (y .list)))
 
       note-done : noted (syncHeaders geo st) (takes plan) (settledLedger v) ≡ settledLedger (log ++ G)
       note-done =
@@ -170,7 +179,7 @@ module _ (geo : Geometry) where
 
       -- ---- cut short in the append, before its header and behind it
 
-      cuts-before : (j k : ℕ) → j ≤ length G + 1 → k ≡ takes (y .front) + j → CutsAt geo w (syncHeaders geo st) ofSync (syncWaits geo (st .rec .logged) (length G)) s (take j W) k
+      cuts-before : (j k : ℕ) → j ≤ length G + geo .descriptors → k ≡ takes (y .front) + j → CutsAt geo w (syncHeaders geo st) ofSync (syncWaits geo (st .rec .logged) (length G)) s (take j W) k
       unfolding resolved
       cuts-before j k h e = record {
         waiting = waits-own k (omega arith) ∙ sym (length-take j W ∙ (omega (arith, length-W)));
@@ -179,26 +188,26 @@ module _ (geo : Geometry) where
             (leads-still geo _ _ (unchanged (y .n) false) (choose-sync-before geo k (st .rec .logged) (length G) _ _ (omega (arith, y .inner-plain)) (omega (arith, y .inner-plain)) ∙ ap (λ (i : ℕ). unchanged i false) (y .n-is)) refl (short-before geo (y .meets) (cardIn st) r j l h ms q));
       }
 
-      cuts-top : (j k : ℕ) → j ≡ length G + 2 → k ≡ takes (y .front) + j → CutsAt geo w (syncHeaders geo st) ofSync (syncWaits geo (st .rec .logged) (length G)) s (take j W) k
+      cuts-top : (j k : ℕ) → j ≡ length G + geo .descriptors + 1 → k ≡ takes (y .front) + j → CutsAt geo w (syncHeaders geo st) ofSync (syncWaits geo (st .rec .logged) (length G)) s (take j W) k
       unfolding resolved
       cuts-top j k h e =
-          let long : length (take j W) ≡ length G + 2 = length-take j W ∙ (omega (arith, length-W)) in
-          let wt : syncWaits geo (st .rec .logged) (length G) k ≡ suc (length G + 1) = waits-own k (omega arith) ∙ (omega arith) in
+          let long : length (take j W) ≡ length G + geo .descriptors + 1 = length-take j W ∙ (omega (arith, length-W)) in
+          let wt : syncWaits geo (st .rec .logged) (length G) k ≡ suc (length G + geo .descriptors) = waits-own k (omega arith) ∙ (omega arith) in
           record {
             waiting = wt ∙ (omega (arith, long));
             leads = λ r l ms q.
-                let t : Bool = keptAt ms (length G + 1) in
-                let u : Bool = sameLog (foundIn geo (cut ms r .settled)) (cond (keptAt ms (length G + 1)) (log ++ G) (y .list)) in
+                let t : Bool = keptAt ms (length G + geo .descriptors) in
+                let u : Bool = sameLog (foundIn geo (cut ms r .settled)) (cond (keptAt ms (length G + geo .descriptors)) (log ++ G) (y .list)) in
                 rw (note-top k (omega arith))
                 (leads-laid geo _ _ _ (ownVerdict (y .n) (length G) t u)
-                (choose-sync-own geo k (st .rec .logged) (length G) false _ u (omega (arith, y .inner-plain)) ∙ (λ i. ownVerdict (y .n-is i) (length G) (kept-mark ms _ (length G + 1) wt i) u))
+                (choose-sync-own geo k (st .rec .logged) (length G) false _ u (omega (arith, y .inner-plain)) ∙ (λ i. ownVerdict (y .n-is i) (length G) (kept-mark ms _ (length G + geo .descriptors) wt i) u))
                 (short-top geo (y .meets) (cardIn st) r j l h ms q t u refl refl));
           }
 
-      cuts : Throughout (CutsAt geo w (syncHeaders geo st) ofSync (syncWaits geo (st .rec .logged) (length G))) plan (st .settled) 0
-      cuts = throughout-append _ (y .front) (W ∷ []) (st .settled) 0 (takes (y .front)) (omega arith) (y .cuts) (λ j k h e. go j k h e (decLe j (length G + 1)), tt)
+      cuts : Throughout (CutsAt geo w (syncHeaders geo st) ofSync (syncWaits geo (st .rec .logged) (length G))) [] plan (st .settled) 0
+      cuts = behind-front _ (y .cuts) (λ j k h e. go j k h e (decLe j (length G + geo .descriptors)))
         where
-          go : (j k : ℕ) → j ≤ length W → k ≡ takes (y .front) + j → Dec (j ≤ length G + 1) → CutsAt geo w (syncHeaders geo st) ofSync (syncWaits geo (st .rec .logged) (length G)) s (take j W) k
+          go : (j k : ℕ) → j ≤ length W → k ≡ takes (y .front) + j → Dec (j ≤ length G + geo .descriptors) → CutsAt geo w (syncHeaders geo st) ofSync (syncWaits geo (st .rec .logged) (length G)) s (take j W) k
           go j k h e (yes p) = cuts-before j k p e
           go j k h e (no p) = cuts-top j k (omega (arith, length-W)) e
 
@@ -208,13 +217,13 @@ module _ (geo : Geometry) where
       gone-counts true = countable geo st rc (y .n) (y .sum) (omega (arith, y .meets .room))
       gone-counts false = countable geo st rc (st .rec .logged) (st .rec .sum) (rc .log-count)
 
-      sum-is : sumOf (y .sum) G ≡ sumOf start (logD geo (blockAt (settles plan (st .settled))) (y .n + st .rec .grouped))
-      sum-is = done-sum geo (y .meets) ∙ (λ i. sumOf start (logD geo (blockAt (sym (settles-append (y .front) (W ∷ []) (st .settled)) i)) (y .n + length-G i)))
+      sum-is : sumOf (y .sum) G ≡ sumOf start (logD geo (blockAt (settles [] plan (st .settled))) (y .n + st .rec .grouped))
+      sum-is = done-sum geo (y .meets) ∙ (λ i. sumOf start (logD geo (blockAt (sym settled-plan i)) (y .n + length-G i)))
 
-      card-is : WholeCard geo N (blockAt (settles plan (st .settled))) (log ++ G) (overlay G S) (y .n + st .rec .grouped)
+      card-is : WholeCard geo Every N (blockAt (settles [] plan (st .settled))) (log ++ G) (overlay G S) (y .n + st .rec .grouped)
       card-is =
           let e : y .n + length G ≡ y .n + st .rec .grouped = ap (λ (k : ℕ). y .n + k) length-G in
-          rw (settles-append (y .front) (W ∷ []) (st .settled)) (subst (WholeCard geo N (blockAt (settle W s)) (log ++ G) (overlay G S)) e (done-card geo (y .meets)))
+          rw settled-plan (subst (WholeCard geo Every N (blockAt (settle W s)) (log ++ G) (overlay G S)) e (done-card geo (y .meets)))
 
       pub gives : Gives geo sync w plan
       unfolding entered
@@ -223,7 +232,7 @@ module _ (geo : Geometry) where
         gone = cond (leb (length (innerOrders geo st)) (st .rec .power)) (withLog (y .n) (y .sum) (st .rec)) (st .rec);
         call = call ∙ ap₂ saving (y .orders some-G) (y .record-is);
         none-waits = none;
-        fits = all-append (Fits geo N) (y .front) (W ∷ []) (y .fits) (writes-fit geo (y .meets), tt);
+        fits = all-append (Fits geo N 0) (y .front) (W ∷ []) (y .fits) (writes-fit geo (y .meets), tt);
         counts = gone-counts (leb (length (innerOrders geo st)) (st .rec .power));
         headers = syncHeaders geo st;
         notes = refl;
@@ -252,35 +261,34 @@ module _ (geo : Geometry) where
       own-logged : syncCall geo st .answer ≡ 0 → Logged geo st (syncCall geo st .state)
       own-logged e =
           let q = done-logged geo (y .meets) (standing geo st) (y .standing-is) in
-          let t : syncCall geo st .state .settled ≡ settle W s = gives-settled geo sync w plan (f .basics) gives (gives-enough geo sync w plan (f .basics) gives e) ∙ settles-append (y .front) (W ∷ []) (st .settled) in
+          let t : syncCall geo st .state .settled ≡ settle W s = gives-settled geo sync w plan (f .basics) gives (gives-enough geo sync w plan (f .basics) gives e) ∙ settled-plan in
           record { head = ap (λ (i : List ℕ). blockAt i headerAt) t ∙ q .0; list = ap (λ (i : List ℕ). entries geo i (length (standing geo st ++ G))) t ∙ q .1 }
 
       -- ---- cut short behind its own header, with every write kept: the log found is the log written
 
       abbrev Whole : Asked
       Whole t q k =
-          k ≡ takes (y .front) + (length G + 2) → (r : Card) → Left (cardIn st) r t q 0 → (ms : List ℕ) → marksFit ms (length q) ≡ true → allKept ms ≡ true
-          → (keptAt ms (length G + 1) ≡ true) × (sameLog (foundIn geo (cut ms r .settled)) (log ++ G) ≡ true)
+          k ≡ takes (y .front) + (length G + geo .descriptors + 1) → (r : Card) → Left (cardIn st) r t q 0 → (ms : List ℕ) → marksFit ms (length q) ≡ true → allKept ms ≡ true
+          → (keptAt ms (length G + geo .descriptors) ≡ true) × (sameLog (foundIn geo (cut ms r .settled)) (log ++ G) ≡ true)
 
-      wholes : Throughout Whole plan (st .settled) 0
+      wholes : Throughout Whole [] plan (st .settled) 0
       wholes =
-          throughout-append Whole (y .front) (W ∷ []) (st .settled) 0 (takes (y .front)) (omega arith)
-          (throughout-all Whole (y .front) (st .settled) 0 (λ t q k h e. absurd (omega arith)))
-          (λ j k h e u r l ms. whole-found geo (y .meets) (cardIn st) r j l (omega arith) ms, tt)
+          behind-front Whole (throughout-all Whole [] (y .front) (st .settled) 0 (λ t q k h e. absurd (omega arith)))
+          (λ j k h e u r l ms. whole-found geo (y .meets) (cardIn st) r j l (omega arith) ms)
 
-      own-whole : syncCall geo st .answer ≡ 4 → syncCall geo st .orders ≡ inner geo st + (st .rec .grouped + 2) → (ms : List ℕ) → marksFit ms (syncCall geo st .state .rec .waiting) ≡ true → allKept ms ≡ true
-          → (keptAt ms (st .rec .grouped + 1) ≡ true) × (sameLog (foundIn geo (cutSettled ms (syncCall geo st .state))) (cutWritten ms (ledgerNext geo sync w)) ≡ true)
+      own-whole : syncCall geo st .answer ≡ 4 → syncCall geo st .orders ≡ inner geo st + (st .rec .grouped + geo .descriptors + 1) → (ms : List ℕ) → marksFit ms (syncCall geo st .state .rec .waiting) ≡ true → allKept ms ≡ true
+          → (keptAt ms (st .rec .grouped + geo .descriptors) ≡ true) × (sameLog (foundIn geo (cutSettled ms (syncCall geo st .state))) (cutWritten ms (ledgerNext geo sync w)) ≡ true)
       unfolding entered resolved
       own-whole a q ms l o =
           let less = gives-less geo sync w plan (f .basics) gives a in
           let D = short-call geo sync w plan (f .basics) gives less in
           let end = stopped geo sync w plan (f .basics) gives Whole (st .rec .power) refl less wholes in
-          let k : st .rec .power ≡ takes (y .front) + (length G + 2) = sym (ap (λ (i : Outcome). i .orders) D) ∙ q ∙ (omega (arith, y .inner-is, length-G)) in
-          let L : ledgerNext geo sync w ≡ waitsBehind (length G + 1) (log ++ G) (settledLedger (y .list)) =
+          let k : st .rec .power ≡ takes (y .front) + (length G + geo .descriptors + 1) = sym (ap (λ (i : Outcome). i .orders) D) ∙ q ∙ (omega (arith, y .inner-is, length-G)) in
+          let L : ledgerNext geo sync w ≡ waitsBehind (length G + geo .descriptors) (log ++ G) (settledLedger (y .list)) =
           ap (λ (i : Outcome). noted (syncHeaders geo st) (i .orders) (settledLedger v)) D ∙ note-top (st .rec .power) k in
           let fit : marksFit ms (length (end .q)) ≡ true = ap (marksFit ms) (sym (ap (λ (i : Outcome). i .state .rec .waiting) D ∙ end .left .count)) ∙ l in
           let found = end .met k (run (planned plan) (cardIn st)) (end .left) ms fit o in (
-            ap (λ (i : ℕ). keptAt ms (i + 1)) (sym length-G) ∙ found .0,
+            ap (λ (i : ℕ). keptAt ms (i + geo .descriptors)) (sym length-G) ∙ found .0,
             ap₂ (λ (i : Outcome) (j : Ledger). sameLog (foundIn geo (cutSettled ms (i .state))) (cutWritten ms j)) D L
                 ∙ ap (λ (t : Bool). sameLog (foundIn geo (cut ms (run (planned plan) (cardIn st)) .settled)) (cond t (log ++ G) (y .list))) (found .0)
                 ∙ found .1,
@@ -308,9 +316,9 @@ module _ (geo : Geometry) where
     pub logged : syncCall geo (w .store) .answer ≡ 0 → Logged geo (w .store) (syncCall geo (w .store) .state)
     logged = own-logged (w .store) (w .ledger .written) (w .plain .S) (w .excepted) f z meets
 
-    pub short-whole : syncCall geo (w .store) .answer ≡ 4 → syncCall geo (w .store) .orders ≡ inner geo (w .store) + (w .store .rec .grouped + 2)
+    pub short-whole : syncCall geo (w .store) .answer ≡ 4 → syncCall geo (w .store) .orders ≡ inner geo (w .store) + (w .store .rec .grouped + geo .descriptors + 1)
         → (ms : List ℕ) → marksFit ms (syncCall geo (w .store) .state .rec .waiting) ≡ true → allKept ms ≡ true
-        → (keptAt ms (w .store .rec .grouped + 1) ≡ true) × (sameLog (foundIn geo (cutSettled ms (syncCall geo (w .store) .state))) (cutWritten ms (ledgerNext geo sync w)) ≡ true)
+        → (keptAt ms (w .store .rec .grouped + geo .descriptors) ≡ true) × (sameLog (foundIn geo (cutSettled ms (syncCall geo (w .store) .state))) (cutWritten ms (ledgerNext geo sync w)) ≡ true)
     short-whole a q ms l ones =
-        subst (λ (i : World). (keptAt ms (i .store .rec .grouped + 1) ≡ true) × (sameLog (foundIn geo (cutSettled ms (syncCall geo (i .store) .state))) (cutWritten ms (ledgerNext geo sync i)) ≡ true)) (sym (open-world geo w (m .basics) o))
+        subst (λ (i : World). (keptAt ms (i .store .rec .grouped + geo .descriptors) ≡ true) × (sameLog (foundIn geo (cutSettled ms (syncCall geo (i .store) .state))) (cutWritten ms (ledgerNext geo sync i)) ≡ true)) (sym (open-world geo w (m .basics) o))
         (own-whole (w .store) (w .ledger .written) (w .plain .S) (w .excepted) f z meets a q ms l ones)

@@ -19,14 +19,15 @@ use Rattle.journal.specs.Orders.{syncOrders}
 use Rattle.journal.proofs.Logs.{sumOf-nil}
 use Rattle.journal.proofs.OrderLists.{appendWrites, append-writes, append-afresh}
 use Rattle.crash.proofs.Logs.{logD}
-use Rattle.crash.proofs.Cards.{WholeCard}
+use Rattle.crash.proofs.Cards.{Every, WholeCard}
+use Rattle.crash.proofs.Leads.{none-behind}
 use Rattle.store.specs.State.{State, withLog}
 use Rattle.store.specs.Saves.{groupOf, applies, metByAppend}
 use Rattle.history.specs.Plain as Plain
 use Rattle.history.specs.Plain.{Plain, ofSync, syncTakes, syncWaits, applyWaits, applyVerdict, ownVerdict, verdict, headerKept, unchanged}
 use Rattle.history.specs.Ledger.{PlannedHeader, syncHeaders, noted, applyHeader, ownHeader, standing, inner}
 use Rattle.history.specs.History.{World}
-use Rattle.history.proofs.Steps.Plans.{Plan, planned, takes, settles, Fits, Throughout, planned-append, throughout-map}
+use Rattle.crash.proofs.Plans.{Plan, planned, takes, settles, Fits, Throughout, planned-append, throughout-map}
 use Rattle.history.proofs.Steps.AppendEnds.{Appends}
 use Rattle.history.proofs.Relation.CauseLaws.{RecordFacts, record-facts}
 use Rattle.history.proofs.Relation.Sim.{leads-still}
@@ -54,20 +55,20 @@ module _ (geo : Geometry) where
       pub n : ℕ
       pub sum : ℕ
       pub list : List Entry
-      pub meets : Appends geo N (settles front (st .settled)) n sum G list S
+      pub meets : Appends geo N (settles [] front (st .settled)) n sum G list S
       -- the store
-      pub fits : All (Fits geo N) front
-      pub orders : length G ≢ 0 → syncOrders geo N (st .settled) (st .rec .logged) (st .rec .sum) G ≡ planned (front ++ (appendWrites geo N (settles front (st .settled)) n sum G ∷ []))
+      pub fits : All (Fits geo N 0) front
+      pub orders : length G ≢ 0 → syncOrders geo N (st .settled) (st .rec .logged) (st .rec .sum) G ≡ planned (front ++ (appendWrites geo N (settles [] front (st .settled)) n sum G ∷ []))
       pub record-is : metByAppend geo st ≡ withLog n sum (st .rec)
       -- the ledger
       pub inner-is : inner geo st ≡ takes front
-      pub standing-is : standing geo st ≡ logD geo (blockAt (settles front (st .settled))) n
+      pub standing-is : standing geo st ≡ logD geo (blockAt (settles [] front (st .settled))) n
       pub notes : (k : ℕ) → takes front ≤ k → noted (syncHeaders geo st) k (settledLedger v) ≡ noted (ownHeader geo st ∷ []) k (settledLedger list)
       -- the plain disk
       pub inner-plain : innerTakes geo (st .rec .logged) (length G) ≡ takes front
       pub n-is : countMet geo (st .rec .logged) (length G) ≡ n
       -- cut short inside
-      pub cuts : Throughout (CutsAt geo w (syncHeaders geo st) ofSync (syncWaits geo (st .rec .logged) (length G))) front (st .settled) 0
+      pub cuts : Throughout (CutsAt geo w (syncHeaders geo st) ofSync (syncWaits geo (st .rec .logged) (length G))) [] front (st .settled) 0
 
   module _ (st : State) (v : List Entry) (S : Disk) (x : Bool) (f : Opened geo st v S) (z : st .rec .grouped ≢ 0) where
     abbrev d : Plain
@@ -85,17 +86,14 @@ module _ (geo : Geometry) where
     length-G : length (groupOf geo st) ≡ st .rec .grouped
     length-G = Facts.length-group geo st (settledLedger v) d (f .basics) (f .sim)
 
-    pub appends : (s : List ℕ) (k h : ℕ) (l : List Entry) → st .rec .blocks ≡ blocksIn s → k + length (groupOf geo st) ≤ geo .slots → h ≡ sumOf start (logD geo (blockAt s) k) → WholeCard geo (st .rec .blocks) (blockAt s) l S k
+    pub appends : (s : List ℕ) (k h : ℕ) (l : List Entry) → st .rec .blocks ≡ blocksIn s → k + length (groupOf geo st) ≤ geo .slots → h ≡ sumOf start (logD geo (blockAt s) k) → WholeCard geo Every (st .rec .blocks) (blockAt s) l S k
         → Appends geo (st .rec .blocks) s k h (groupOf geo st) l S
     appends s k h l size room sum card = record {
-      big = Facts.big geo st (settledLedger v) d (f .basics) (f .sim);
-      small = Facts.small geo st (settledLedger v) d (f .basics) (f .sim);
-      size = size;
+      behind = none-behind geo (Facts.big geo st (settledLedger v) d (f .basics) (f .sim)) (Facts.small geo st (settledLedger v) d (f .basics) (f .sim)) size card;
       room = room;
       sum = sum;
-      card = card;
-      whole = Facts.group-whole geo st (settledLedger v) d (f .basics) (f .sim);
-      low = Facts.group-short geo st (settledLedger v) d (f .basics) (f .sim);
+      blocks = Facts.group-whole geo st (settledLedger v) d (f .basics) (f .sim);
+      narrow = Facts.group-short geo st (settledLedger v) d (f .basics) (f .sim);
       all-data = Facts.group-data geo st (settledLedger v) d (f .basics) (f .sim);
     }
 
@@ -141,19 +139,19 @@ module _ (geo : Geometry) where
       heads = rw applying
 
       orders : m ≢ 0 → syncOrders geo (st .rec .blocks) (st .settled) n (st .rec .sum) (groupOf geo st)
-          ≡ planned (inside ++ (appendWrites geo (st .rec .blocks) (settles inside (st .settled)) 0 start (groupOf geo st) ∷ []))
+          ≡ planned (inside ++ (appendWrites geo (st .rec .blocks) (settles [] inside (st .settled)) 0 start (groupOf geo st) ∷ []))
       unfolding syncOrders
       orders some =
           rw (ne-eqb m 0 some, lt-leb (n + m) (geo .slots) over)
           (ap₂ (λ (a b : List Order). a ++ b) (checkpoint-orders geo st (settledLedger v) d (f .basics) (f .sim))
-          (append-afresh geo (st .rec .blocks) (st .settled) (settles inside (st .settled)) start (groupOf geo st)
-          ∙ append-writes geo (st .rec .blocks) (settles inside (st .settled)) 0 start (groupOf geo st)
+          (append-afresh geo (st .rec .blocks) (st .settled) (settles [] inside (st .settled)) start (groupOf geo st)
+          ∙ append-writes geo (st .rec .blocks) (settles [] inside (st .settled)) 0 start (groupOf geo st)
           ∙ sym (append-nil _))
-          ∙ sym (planned-append inside (appendWrites geo (st .rec .blocks) (settles inside (st .settled)) 0 start (groupOf geo st) ∷ [])))
+          ∙ sym (planned-append inside (appendWrites geo (st .rec .blocks) (settles [] inside (st .settled)) 0 start (groupOf geo st) ∷ [])))
 
-      cuts : Throughout (CutsAt geo (openWorld geo st v S x) (syncHeaders geo st) ofSync (syncWaits geo n m)) inside (st .settled) 0
+      cuts : Throughout (CutsAt geo (openWorld geo st v S x) (syncHeaders geo st) ofSync (syncWaits geo n m)) [] inside (st .settled) 0
       cuts =
-          throughout-map (CheckpointCuts geo st (settledLedger v) d (f .basics) (f .sim) (ownHeader geo st ∷ [])) (CutsAt geo (openWorld geo st v S x) (syncHeaders geo st) ofSync (syncWaits geo n m)) inside (st .settled) 0
+          throughout-map (CheckpointCuts geo st (settledLedger v) d (f .basics) (f .sim) (ownHeader geo st ∷ [])) (CutsAt geo (openWorld geo st v S x) (syncHeaders geo st) ofSync (syncWaits geo n m)) [] inside (st .settled) 0
           (λ s q k h y.
           let wt : syncWaits geo n m k ≡ applyWaits n k = sync-waits-apply geo n m k over (omega (arith, count)) in
           record {

@@ -15,6 +15,7 @@ use Rattle.card.specs.Disk.{Disk, lay, overlay}
 use Rattle.card.specs.Card.{blockAt, blocksIn}
 use Rattle.card.specs.Marks.{overOne, marksFit, keptAt, allKept}
 use Rattle.journal.specs.Geometry.{trap}
+use Rattle.journal.specs.Geometry.Laws.{trap-descriptors}
 use Rattle.journal.specs.declared.lookup.Found.{Found}
 use Rattle.journal.specs.declared.lookup.Found.the-variants.{At, Absent}
 use Rattle.journal.specs.Layout.{descriptorAt, isData}
@@ -183,7 +184,7 @@ module _ (w : World) (m : Filed w) where
       let k = grouped-is (v₃ w) (t₃ .sim) old nines 1 3 (omega arith) (t₃ .plain) in
       let i = no-inner (v₃ w) (t₃ .sim) old nines 1 3 (omega arith) (t₃ .plain) in
       λ j.
-      cond (eqb (open-then j) openMode && eqb (t₄ .answer j) 4) (undecided (g j) (k j + 1) (eqb (t₄ .orders j) (i j + (k j + 2)))) (known quiet)
+      cond (eqb (open-then j) openMode && eqb (t₄ .answer j) 4) (undecided (g j) (k j + trap-descriptors j) (eqb (t₄ .orders j) (i j + (k j + trap-descriptors j + 1)))) (known quiet)
 
   -- ---- a cut that is accepted
 

@@ -20,18 +20,18 @@ use Rattle.card.specs.Marks.{overOne, marksFit, keptAt}
 use Rattle.journal.specs.Geometry.{trap}
 use Rattle.journal.specs.Layout.{descriptorAt}
 use Rattle.journal.specs.Orders.{addressBytes, describe}
-use Rattle.journal.proofs.Descriptors.{length-addressBytes}
+use Rattle.journal.proofs.Descriptors.{length-addressBytes, describe-room}
 use Rattle.journal.proofs.OrderLists.{slotBlocks, appendWrites}
 use Rattle.crash.proofs.Batches.{Left}
 use Rattle.crash.proofs.CallCuts.{left-leaves}
 use Rattle.crash.proofs.Leads.{foundIn, found-log}
 use Rattle.crash.proofs.Logs.{slotE}
-use Rattle.history.proofs.Steps.AppendEnds.{Appends, writes-whole}
+use Rattle.crash.proofs.Appends.{writes-whole}
+use Rattle.history.proofs.Steps.AppendEnds.{Appends}
 
 -- "a sync writes the slots from its new count on […] as zero"
 describe-beyond : (old : List ℕ) (n : ℕ) (es : List Entry) (i : ℕ) → 4 * n ≤ length old → n + length es ≤ i → 4 * i + 4 ≤ blockBytes
     → cell 4 (describe old n es) i ≡ replicate 4 0
-unfolding describe
 describe-beyond old n es i h l k =
     let front : List ℕ = take (4 * n) old ++ addressBytes es in
     let j : ℕ = i - (n + length es) in
@@ -39,7 +39,8 @@ describe-beyond old n es i h l k =
     let size : length front ≡ 4 * n + 4 * length es =
     length-append (take (4 * n) old) (addressBytes es) ∙ ap₂ (λ (x y : ℕ). x + y) (length-take-le (4 * n) old h) (length-addressBytes es) in
     let past : 4 * i ≡ length front + 4 * j = omega arith in
-    cell-part 4 (take (4 * n) old ++ (addressBytes es ++ zeros)) i
+    ap (λ (b : List ℕ). cell 4 b i) (describe-room old n es h (omega arith))
+    ∙ cell-part 4 (take (4 * n) old ++ (addressBytes es ++ zeros)) i
     ∙ ap (λ (x : List ℕ). take 4 (drop (4 * i) x)) (sym (append-assoc (take (4 * n) old) (addressBytes es) zeros))
     ∙ ap (λ (x : ℕ). take 4 (drop x (front ++ zeros))) past
     ∙ ap (take 4) (drop-append-add front zeros (4 * j))
@@ -64,7 +65,7 @@ pub second-zero : {N : ℕ} {s : List ℕ} {h : ℕ} {e : Entry} {v : List Entry
 unfolding overlay lay slotBlocks trap
 second-zero {N} {s} {h} {e} x =
     let now : blockAt (settle (appendWrites trap N s 0 h (e ∷ [])) s) descriptorAt ≡ describe (blockAt s descriptorAt) 0 (e ∷ []) =
-    settle-overlay (appendWrites trap N s 0 h (e ∷ [])) s descriptorAt (omega (arith, x .big, x .size)) (writes-whole trap x) in
+    settle-overlay (appendWrites trap N s 0 h (e ∷ [])) s descriptorAt (omega (arith, x .behind .big, x .behind .size)) (writes-whole trap N s 0 h (e ∷ []) (x .blocks)) in
     ap (λ (b : List ℕ). num (cell 4 b 1)) now
     ∙ ap num (describe-beyond (blockAt s descriptorAt) 0 (e ∷ []) 1 (omega arith) (omega arith) (omega arith))
     ∙ no-number
@@ -77,10 +78,10 @@ unfolding overlay lay slotBlocks kept slotE marksFit overOne keptAt trap
 torn-found {N} {s} {h} {e} {v} {S} x c r f =
     let ms : List ℕ = 1 ∷ 0 ∷ 1 ∷ [] in
     let laid : (a : ℕ) → a < N → blockAt (cut ms r .settled) a ≡ overlay (kept ms (appendWrites trap N s 1 h (e ∷ []))) (blockAt s) a =
-    λ a l. cut-laid c r s (take 3 (appendWrites trap N s 1 h (e ∷ []))) 0 ms a f (omega (arith, x .size)) (all-take Whole 3 (appendWrites trap N s 1 h (e ∷ [])) (writes-whole trap x)) in
-    found-log trap N s 1 h (e ∷ []) v S (x .big) (x .small) (x .size) (x .room) (x .sum) (x .card) (cut ms r .settled) ms
-    (left-leaves c r s (take 3 (appendWrites trap N s 1 h (e ∷ []))) 0 N ms f (omega (arith, x .big)) (x .size) refl (all-take Whole 3 (appendWrites trap N s 1 h (e ∷ [])) (writes-whole trap x)))
+    λ a l. cut-laid c r s (take 3 (appendWrites trap N s 1 h (e ∷ []))) 0 ms a f (omega (arith, x .behind .size)) (all-take Whole 3 (appendWrites trap N s 1 h (e ∷ [])) (writes-whole trap N s 1 h (e ∷ []) (x .blocks))) in
+    found-log trap x (cut ms r .settled) ms
+    (left-leaves c r s (take 3 (appendWrites trap N s 1 h (e ∷ []))) 0 N ms f (omega (arith, x .behind .big)) (x .behind .size) refl (all-take Whole 3 (appendWrites trap N s 1 h (e ∷ [])) (writes-whole trap N s 1 h (e ∷ []) (x .blocks))))
     refl
     ∙ ap₂ (λ (a b : Entry). a ∷ b ∷ [])
-    (entry-eq (ap (λ (b : List ℕ). num (cell 4 b 0)) (laid 1 (omega (arith, x .big)))) (laid 2 (omega (arith, x .big))))
-    (entry-eq (ap (λ (b : List ℕ). num (cell 4 b 1)) (laid 1 (omega (arith, x .big)))) (laid 3 (omega (arith, x .big))))
+    (entry-eq (ap (λ (b : List ℕ). num (cell 4 b 0)) (laid 1 (omega (arith, x .behind .big)))) (laid 2 (omega (arith, x .behind .big))))
+    (entry-eq (ap (λ (b : List ℕ). num (cell 4 b 1)) (laid 1 (omega (arith, x .behind .big)))) (laid 3 (omega (arith, x .behind .big))))

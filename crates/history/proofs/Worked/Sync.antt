@@ -13,6 +13,7 @@ use Rattle.card.specs.Disk.{Disk}
 use Rattle.card.specs.Card.{Card, run, cut, settle, blockAt}
 use Rattle.card.specs.Marks.{marksFit, keptAt, allKept}
 use Rattle.journal.specs.Geometry.{trap}
+use Rattle.journal.specs.Geometry.Laws.{trap-descriptors}
 use Rattle.journal.specs.Layout.{descriptorAt}
 use Rattle.journal.specs.Log.{entries}
 use Rattle.journal.proofs.OrderLists.{appendWrites}
@@ -28,7 +29,7 @@ use Rattle.history.specs.Dispatch.{dispatch}
 use Rattle.history.specs.Ledger.{waitsBehind, syncHeaders, noted, entered, applyHeader, ownHeader, standing, inner, resolved, sameLog}
 use Rattle.history.specs.History.{World, storeNext, ledgerNext}
 use Rattle.history.specs.Worked.{at40}
-use Rattle.history.proofs.Steps.Plans.{planned, takes}
+use Rattle.crash.proofs.Plans.{planned, takes}
 use Rattle.history.proofs.Steps.AppendEnds.{Appends, done-card}
 use Rattle.history.proofs.Relation.Sim.{OpenSim, cutSettled, cutWritten}
 use Rattle.history.proofs.Steps.Shown.{WorldSim}
@@ -97,7 +98,7 @@ module _ (w : World) (m : WorldSim trap w) (S : Disk) (b : List ℕ) (n p : ℕ)
   W = appendWrites trap N s (w .store .rec .logged) h (groupOf trap (w .store))
 
   length-W : length W ≡ length (groupOf trap (w .store)) + 2
-  length-W = length-append-writes trap N s (w .store .rec .logged) h (groupOf trap (w .store))
+  length-W = length-append-writes trap N s (w .store .rec .logged) h (groupOf trap (w .store)) ∙ (omega (arith, trap-descriptors))
 
   abbrev there : World
   there = openWorld trap (w .store) (w .ledger .written) (w .plain .S) (w .excepted)
@@ -149,15 +150,15 @@ module _ (w : World) (m : WorldSim trap w) (S : Disk) (b : List ℕ) (n p : ℕ)
       ap (λ (x : Outcome). noted (syncHeaders trap (w .store)) (x .orders) (w .ledger)) (halted-call e)
       ∙ ap (λ (t : Bool). noted (cond t (applyHeader (w .store) ∷ ownHeader trap (w .store) ∷ []) (ownHeader trap (w .store) ∷ [])) (w .store .rec .power) (w .ledger))
       alone
-      ∙ note-at (ownHeader trap (w .store)) [] (w .store .rec .power) (w .ledger) (omega (arith, power-is, no-inner, grouped-is))
-      ∙ (λ i. waitsBehind (grouped-is i + 1) (standing-is i ++ group-is i) (w .ledger))
+      ∙ note-at (ownHeader trap (w .store)) [] (w .store .rec .power) (w .ledger) (omega (arith, power-is, no-inner, grouped-is, trap-descriptors))
+      ∙ (λ i. waitsBehind (grouped-is i + trap-descriptors i) (standing-is i ++ group-is i) (w .ledger))
 
   halted-same : p ≡ 3 → (ms : List ℕ) → marksFit ms 3 ≡ true → allKept ms ≡ true → sameLog (foundIn trap (cutSettled ms (storeNext trap sync w))) (cutWritten ms (ledgerNext trap sync w)) ≡ true
   halted-same e ms l a =
       let D = halted-call e in
       let three : storeNext trap sync w .rec .waiting ≡ 3 =
-      ap (λ (x : Outcome). x .state .rec .waiting) D ∙ halted-left e .count ∙ length-take p (appendWrites trap N s n h (at40 b ∷ [])) ∙ (omega (arith, length-append-writes trap N s n h (at40 b ∷ []))) in
-      short-whole trap w m served o some (ap (λ (x : Outcome). x .answer) D) (ap (λ (x : Outcome). x .orders) D ∙ (omega (arith, power-is, no-inner, grouped-is))) ms (ap (marksFit ms) three ∙ l) a .1
+      ap (λ (x : Outcome). x .state .rec .waiting) D ∙ halted-left e .count ∙ length-take p (appendWrites trap N s n h (at40 b ∷ [])) ∙ (omega (arith, trap-descriptors, length-append-writes trap N s n h (at40 b ∷ []))) in
+      short-whole trap w m served o some (ap (λ (x : Outcome). x .answer) D) (ap (λ (x : Outcome). x .orders) D ∙ (omega (arith, power-is, no-inner, grouped-is, trap-descriptors))) ms (ap (marksFit ms) three ∙ l) a .1
 
 -- ---- the first sync
 

@@ -8,7 +8,8 @@ unfolding trap
 trap-slots = refl
 
 pub trap-descriptors : trap .descriptors ≡ 1
-trap-descriptors = trap .single
+unfolding trap
+trap-descriptors = refl
 
 -- where the code has slot 0
 pub trap-first : 2 ≡ 1 + trap .descriptors

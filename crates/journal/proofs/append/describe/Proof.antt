@@ -6,6 +6,7 @@ use borrow.Author.Needs.{needs}
 use lib.ListN.{length, replicate, length-take}
 use Rattle.cells.specs.Entry.{blockBytes, Entry}
 use Rattle.journal.specs.Geometry.{trap}
+use Rattle.journal.specs.Geometry.Laws.{trap-descriptors}
 use Rattle.journal.specs.Log.{entriesFrom}
 use Rattle.journal.proofs.Logs.{length-from}
 use Rattle.journal.proofs.Descriptors.{described}
@@ -19,19 +20,19 @@ mul-at : tie.Need-mul-at
 mul-at c = search needs
 
 slice-relend-prefix-copy : tie.Need-slice-relend-prefix-copy
-slice-relend-prefix-copy c = omega (arith, trap .described, trap .single)
+slice-relend-prefix-copy c = omega (arith, trap .described, trap-descriptors)
 
 slice-aggregate-copy : tie.Need-slice-aggregate-copy
-slice-aggregate-copy c = simp length-take (omega (arith, trap .described, trap .single))
+slice-aggregate-copy c = simp length-take (omega (arith, trap .described, trap-descriptors))
 
 slice-aggregate-copy-2 : tie.Need-slice-aggregate-copy-2
-slice-aggregate-copy-2 c = simp length-take (omega (arith, trap .described, trap .single))
+slice-aggregate-copy-2 c = simp length-take (omega (arith, trap .described, trap-descriptors))
 
 copy-requires : tie.Need-copy-requires
-copy-requires c κs = simp length-take (omega (arith, trap .described, trap .single))
+copy-requires c κs = simp length-take (omega (arith, trap .described, trap-descriptors))
 
 list-addresses-requires : tie.Need-list-addresses-requires
-list-addresses-requires c κs = omega (arith, trap .described, trap .single)
+list-addresses-requires c κs = omega (arith, trap .described, trap-descriptors)
 
 same-length : tie.Need-same-length
 same-length c = search needs
@@ -47,7 +48,7 @@ returns c =
     let es : List Entry = entriesFrom (a .work .now) (a .group .from) (a .group .count) in
     let count : length es ≡ a .group .count = length-from (a .work .now) (a .group .from) (a .group .count) in
     l .list-addresses .ensures
-    ∙ rw (k .copy .ensures) (described (a .old .now) (z .zero .last .0) (a .n) es (omega (arith, trap .described, trap .single)) zeros (omega (arith, trap .described, trap .single)))
+    ∙ rw (k .copy .ensures) (described (a .old .now) (z .zero .last .0) (a .n) es (omega (arith, trap .described, trap-descriptors)) zeros (omega (arith, trap .described, trap-descriptors)))
 
 pub describe-spec : {M : Type 1} → statement M
 describe-spec =

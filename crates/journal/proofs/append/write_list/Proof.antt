@@ -12,7 +12,7 @@ use Rattle.journal.specs.Geometry.{trap}
 use Rattle.journal.specs.Orders.{slotWrites, describe}
 use Rattle.journal.specs.Layout.{descriptorAt}
 use Rattle.journal.specs.Log.{entriesFrom}
-use Rattle.journal.proofs.OrderLists.{length-slotWrites, descriptorEntry}
+use Rattle.journal.proofs.OrderLists.{length-slotWrites, oneDescriptor}
 use Rattle.journal.proofs.Logs.{length-blockAt, block-read, length-from}
 use Rattle.journal.proofs.Phases.{writes-stopped, writes-resumed}
 use Rattle.journal.proofs.append.write_list.Statement.{statement}
@@ -32,7 +32,7 @@ returns c =
     let w = c .before .before .before .before in
     let a = w .before .before .before .before .before .args in
     let es = entriesFrom (a .work .now) (a .group .from) (a .group .count) in
-    let o = writes-stopped _ (slotWrites trap (a .n) es) (write (descriptorEntry (a .settled .now) (a .n) es) ∷ []) refl (a .group .count) 1 _ (orders (a .n) (a .work .now) (a .group .from) (a .group .count)) refl
+    let o = writes-stopped _ (slotWrites trap (a .n) es) (write (oneDescriptor (a .settled .now) (a .n) es) ∷ []) refl (a .group .count) 1 _ (orders (a .n) (a .work .now) (a .group .from) (a .group .count)) refl
     (a .waiting .now) (a .queue) (w .write-slots .last .1 .0) (w .write-slots .result) (w .write-slots .ensures .0) (w .write-slots .ensures .1 .0) (not-true _ (c .if1 .taken)) in
     (o .0, (o .1, omega arith))
 
@@ -65,7 +65,7 @@ returns-2 c =
     let es = entriesFrom (a .work .now) (a .group .from) (a .group .count) in
     let new : d .describe .last .0 ≡ describe (blockAt (a .settled .now) descriptorAt) (a .n) es =
     d .describe .ensures ∙ ap (λ (old : List ℕ). describe old (a .n) es) (block-read (d .before .read .result) (a .settled) descriptorAt (d .before .read .ensures)) in
-    let o = writes-resumed _ (slotWrites trap (a .n) es) (write (descriptorEntry (a .settled .now) (a .n) es) ∷ []) refl (a .group .count) 1 _ (orders (a .n) (a .work .now) (a .group .from) (a .group .count)) refl
+    let o = writes-resumed _ (slotWrites trap (a .n) es) (write (oneDescriptor (a .settled .now) (a .n) es) ∷ []) refl (a .group .count) 1 _ (orders (a .n) (a .work .now) (a .group .from) (a .group .count)) refl
     (a .waiting .now) (a .queue) (w .write-slots .last .1 .0) (w .write-slots .result) (w .write-slots .ensures .0) (w .write-slots .ensures .1 .0) (not-false _ (d .before .before .before .if1 .left))
     (v .write .last .1 .0) (v .write .result) (v .write .ensures .0)
     (λ s. v .write .ensures .1 .0 s ∙ ap (λ (block : List ℕ). run (write (record { address = descriptorAt; block = block }) ∷ []) (cardOf s (w .write-slots .last .1 .0) (w .write-slots .result .queue))) new) in

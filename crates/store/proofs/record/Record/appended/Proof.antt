@@ -2,8 +2,10 @@
 use Prim.Native.Nat.{ℕ, _+_}
 use mathlib.Core.Path.{_≡_, ap, _∙_}
 use native.Mathlib.Omega.{arith}
+use lib.ListN.{length}
 use Rattle.card.specs.declared.queue.Queue.{Queue}
 use Rattle.journal.specs.Geometry.{trap}
+use Rattle.journal.specs.Geometry.Laws.{trap-descriptors}
 use Rattle.journal.specs.Orders.{appendOrders}
 use Rattle.journal.specs.Log.{sumOf}
 use Rattle.journal.proofs.OrderLists.{length-append-orders}
@@ -53,7 +55,8 @@ returns c =
     let k = c .before .before .before .before .before .before .before .before .before in
     let a = k .before .before .before .before .before .before .before .args in
     let st = stateOf (a .self) (a .settled .now) (a .waiting .now) (a .work .now) in
-    let size = length-append-orders trap (a .self .blocks) (a .settled .now) (a .self .logged) (a .self .sum) (groupOf trap st) ∙ ap (λ (n : ℕ). n + 3) (group-size trap st) in
+    let size : length (appendOrders trap (a .self .blocks) (a .settled .now) (a .self .logged) (a .self .sum) (groupOf trap st)) ≡ a .self .grouped + 3 =
+    length-append-orders trap (a .self .blocks) (a .settled .now) (a .self .logged) (a .self .sum) (groupOf trap st) ∙ (omega (arith, trap-descriptors, group-size trap st)) in
     let whole = c .before .with-grouped .ensures ∙ ap (withGrouped 0) (c .before .before .with-log .ensures ∙ ap (λ (h : ℕ). withLog (a .self .logged + a .self .grouped) h (a .self)) (k .append .ensures .1 .1)) in
     given (appendOrders trap (a .self .blocks) (a .settled .now) (a .self .logged) (a .self .sum) (groupOf trap st)) (a .self .grouped + 3)
     (withGrouped 0 (withLog (a .self .logged + a .self .grouped) (sumOf (a .self .sum) (groupOf trap st)) (a .self))) (a .self) st
