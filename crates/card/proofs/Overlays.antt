@@ -22,10 +22,6 @@ pub overlay-nil : (d : Disk) → overlay [] d ≡ d
 unfolding overlay
 overlay-nil d = refl
 
-pub overlay-cons : (e : Entry) (es : List Entry) (d : Disk) → overlay (e ∷ es) d ≡ overlay es (lay e d)
-unfolding overlay
-overlay-cons e es d = refl
-
 pub overlay-append : (a b : List Entry) (d : Disk) → overlay (a ++ b) d ≡ overlay b (overlay a d)
 unfolding overlay
 overlay-append [] b d = refl

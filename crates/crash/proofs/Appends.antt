@@ -6,8 +6,8 @@ use mathlib.Core.Bool.{true, false}
 use mathlib.Core.List.{List, [], _∷_, _++_, append-assoc}
 use native.Mathlib.Omega.{arith}
 use native.Mathlib.Decide.{ℕ-discrete}
-use lib.ListN.{length, getD, take, drop, length-append, length-drop}
-use lib.Seq.{ext-getD, take-append-le, getD-drop}
+use lib.ListN.{length, getD, take, length-append}
+use lib.Seq.{ext-getD, take-append-le}
 use Rattle.cells.specs.Cell.{cell}
 use Rattle.cells.specs.Little.{num, le}
 use Rattle.cells.specs.Little.Laws.{num-le}
@@ -30,7 +30,7 @@ use Rattle.journal.specs.Log.{sumOf}
 use Rattle.journal.specs.Orders.{describe, descriptorEntry, descriptors}
 use Rattle.journal.proofs.OrderLists.{slotBlock, slotBlocks, headerEntry, appendWrites, length-slotBlocks, slots-whole, slots-below, slots-from}
 use Rattle.journal.proofs.Headers.{length-encode}
-use Rattle.journal.proofs.Descriptors.{length-describe, describe-byte, describe-new}
+use Rattle.journal.proofs.Descriptors.{length-describe, listed-old, listed-new}
 use Rattle.crash.proofs.Logs.{slotE, logD, LogStands, same-log, data-above}
 use Rattle.crash.proofs.Frames.{Besides, Sized, Aside, log-left, homes-left, Stands, KeepOff, off-aside, off-low, aside-stands}
 
@@ -68,10 +68,7 @@ module _ (geo : Geometry) (N : ℕ) (s : List ℕ) (n h : ℕ) (G : List Entry) 
     -- a descriptor block has the old addresses as they were
     described-aside : (j : ℕ) → j < geo .descriptors → Aside geo n (blockAt s) (descriptorEntry s n G j)
     described-aside j l = record {
-      names = λ i b h k z.
-          let block : j ≡ i / perDescriptor = omega arith in
-          describe-byte (blockAt s (descriptorAt + j)) (n - perDescriptor * j) (drop (perDescriptor * j - n) G) (4 * describedAt i + b) (size (descriptorAt + j) (omega arith)) (omega arith) (omega arith)
-          ∙ ap (λ (a : ℕ). getD (blockAt s a) (4 * describedAt i + b) 0) z;
+      names = λ i b h k z. listed-old s n G j i b z (size (describedIn i) (omega arith)) h k;
       above = λ i h z. omega arith;
     }
 
@@ -207,17 +204,10 @@ module _ (geo : Geometry) (N : ℕ) (s : List ℕ) (n h : ℕ) (G : List Entry) 
   -- the address of a new slot, in the block and at the place that are its
   named : (x : Entry) (i : ℕ) → i < length G → cell 4 (e (describedIn (n + i))) (describedAt (n + i)) ≡ le 4 (getD G i x .address)
   named x i l =
-      let j : ℕ = (n + i) / perDescriptor in
-      let skip : ℕ = perDescriptor * j - n in
-      let block : j < geo .descriptors = omega (arith, geo .described) in
-      let old : length (blockAt s (descriptorAt + j)) ≡ blockBytes = size (descriptorAt + j) (omega arith) in
-      let rest : length (drop skip G) ≡ length G - skip = length-drop skip G in
-      let place : describedAt (n + i) ≡ n - perDescriptor * j + (i - skip) = omega arith in
-      let at : skip + (i - skip) ≡ i = omega arith in
-      ap (λ (b : List ℕ). cell 4 b (describedAt (n + i))) (described j block)
-      ∙ ap (cell 4 (descriptorEntry s n G j .block)) place
-      ∙ describe-new (blockAt s (descriptorAt + j)) (n - perDescriptor * j) (drop skip G) (i - skip) x (omega arith) (omega arith) (omega arith)
-      ∙ ap (λ (y : Entry). le 4 (y .address)) (getD-drop skip G (i - skip) x ∙ ap (λ (k : ℕ). getD G k x) at)
+      let block : (n + i) / perDescriptor < geo .descriptors = omega (arith, geo .described) in
+      let new = listed-new s n G i x (size (describedIn (n + i)) (omega arith)) l in
+      ap (λ (b : List ℕ). cell 4 b (describedAt (n + i))) (ap e (sym (new .0)) ∙ described ((n + i) / perDescriptor) block)
+      ∙ new .1
 
   slot-found : (x : Entry) (i : ℕ) → i < length G → slotE geo e (n + i) ≡ getD G i x
   unfolding slotE

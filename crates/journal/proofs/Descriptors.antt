@@ -1,11 +1,11 @@
 -- The laws of the descriptor's bytes.
-use Prim.Native.Nat.{ℕ, zero, suc, _+_, _*_, _-_, _≤_, _<_}
+use Prim.Native.Nat.{ℕ, zero, suc, _+_, _*_, _-_, _/_, _≤_, _<_}
 use mathlib.Core.Path.{_≡_, refl, ap, sym, _∙_}
 use mathlib.Core.List.{List, [], _∷_, _++_, append-assoc, append-nil}
 use native.Mathlib.Numerals.{add-one}
 use native.Mathlib.Omega.{arith}
 use lib.ListN.{length, getD, take, drop, replicate, length-append, length-take, length-drop, length-replicate, List·getD-append}
-use lib.Seq.{sets, sets-eq, length-take-le, take-at, take-take, take-append-add, drop-drop, drop-append-add, getD-take}
+use lib.Seq.{sets, sets-eq, length-take-le, take-at, take-take, take-append-add, drop-drop, drop-append-add, getD-take, getD-drop}
 use Rattle.cells.specs.Cell.{cell}
 use Rattle.cells.specs.Cell.Laws.{cell-part, drop-take, sets-append}
 use Rattle.cells.specs.Little.{le}
@@ -13,7 +13,10 @@ use Rattle.cells.specs.Little.Laws.{length-le}
 use Rattle.cells.specs.Upto.{upTo}
 use Rattle.cells.specs.Upto.Laws.{length-upTo}
 use Rattle.cells.specs.Entry.{blockBytes, Entry}
-use Rattle.journal.specs.Orders.{addressBytes, describe}
+use Rattle.card.specs.Card.{blockAt}
+use Rattle.journal.specs.Geometry.{perDescriptor}
+use Rattle.journal.specs.Layout.{descriptorAt, describedIn, describedAt}
+use Rattle.journal.specs.Orders.{addressBytes, describe, descriptorEntry}
 
 -- ---- addresses in a row
 
@@ -101,7 +104,7 @@ described old z n es h zeros k =
 -- ---- read back
 
 -- the bytes of the old list's addresses stand as they did
-pub describe-byte : (old : List ℕ) (n : ℕ) (es : List Entry) (j : ℕ) → length old ≡ blockBytes → j < 4 * n → j < blockBytes → getD (describe old n es) j 0 ≡ getD old j 0
+describe-byte : (old : List ℕ) (n : ℕ) (es : List Entry) (j : ℕ) → length old ≡ blockBytes → j < 4 * n → j < blockBytes → getD (describe old n es) j 0 ≡ getD old j 0
 unfolding describe
 describe-byte old n es j h k l =
     let front : j < length (take (4 * n) old) = rw (length-take) (omega arith) in
@@ -121,7 +124,7 @@ address-at (e ∷ es) (suc i) d rest h =
     ∙ address-at es i d rest (omega arith))
 
 -- and the new ones behind them
-pub describe-new : (old : List ℕ) (n : ℕ) (es : List Entry) (i : ℕ) (d : Entry) → 4 * n ≤ length old → i < length es → 4 * (n + i) + 4 ≤ blockBytes
+describe-new : (old : List ℕ) (n : ℕ) (es : List Entry) (i : ℕ) (d : Entry) → 4 * n ≤ length old → i < length es → 4 * (n + i) + 4 ≤ blockBytes
     → cell 4 (describe old n es) (n + i) ≡ le 4 (getD es i d .address)
 unfolding describe
 describe-new old n es i d h k l =
@@ -136,3 +139,28 @@ describe-new old n es i d h k l =
     ∙ ap (λ (x : ℕ). take 4 (drop x (take (4 * n) old ++ (addressBytes es ++ rest)))) place
     ∙ ap (take 4) (drop-append-add (take (4 * n) old) (addressBytes es ++ rest) (4 * i))
     ∙ address-at es i d rest k
+
+-- ---- by slots: the block that has a slot's address, and the place in it
+
+-- an old slot's bytes, in whichever block of the descriptor they are
+pub listed-old : (s : List ℕ) (n : ℕ) (es : List Entry) (j i b : ℕ) → descriptorEntry s n es j .address ≡ describedIn i → length (blockAt s (describedIn i)) ≡ blockBytes → i < n → b < 4
+    → getD (descriptorEntry s n es j .block) (4 * describedAt i + b) 0 ≡ getD (blockAt s (describedIn i)) (4 * describedAt i + b) 0
+listed-old s n es j i b z h k l =
+    let old : length (blockAt s (descriptorAt + j)) ≡ blockBytes = ap (λ (a : ℕ). length (blockAt s a)) z ∙ h in
+    describe-byte (blockAt s (descriptorAt + j)) (n - perDescriptor * j) (drop (perDescriptor * j - n) es) (4 * describedAt i + b) old (omega arith) (omega arith)
+    ∙ ap (λ (a : ℕ). getD (blockAt s a) (4 * describedAt i + b) 0) z
+
+-- a new slot's address
+pub listed-new : (s : List ℕ) (n : ℕ) (es : List Entry) (i : ℕ) (d : Entry) → length (blockAt s (describedIn (n + i))) ≡ blockBytes → i < length es
+    → (descriptorEntry s n es ((n + i) / perDescriptor) .address ≡ describedIn (n + i)) × (cell 4 (descriptorEntry s n es ((n + i) / perDescriptor) .block) (describedAt (n + i)) ≡ le 4 (getD es i d .address))
+listed-new s n es i d h k =
+    let j : ℕ = (n + i) / perDescriptor in
+    let skip : ℕ = perDescriptor * j - n in
+    let rest : length (drop skip es) ≡ length es - skip = length-drop skip es in
+    let place : describedAt (n + i) ≡ n - perDescriptor * j + (i - skip) = omega arith in
+    let at : skip + (i - skip) ≡ i = omega arith in (
+      refl,
+      ap (cell 4 (descriptorEntry s n es j .block)) place
+          ∙ describe-new (blockAt s (descriptorAt + j)) (n - perDescriptor * j) (drop skip es) (i - skip) d (omega arith) (omega arith) (omega arith)
+          ∙ ap (λ (y : Entry). le 4 (y .address)) (getD-drop skip es (i - skip) d ∙ ap (λ (k : ℕ). getD es k d) at),
+    )
