@@ -21,7 +21,7 @@ use Rattle.card.specs.Marks.{keptAt, allKept}
 use Rattle.card.proofs.All.{All, all-append, all-map, all-take, all-at}
 use Rattle.card.proofs.Overlays.{lay-same, overlay-cons, overlay-append, overlay-agree, overlay-other}
 use Rattle.card.proofs.Runs.{Whole, NarrowAddress}
-use Rattle.card.proofs.Leaves.{Leaves}
+use Rattle.card.proofs.Leaves.{Leaves, only-lost, kept-header, lost-header}
 use Rattle.journal.specs.Geometry.{Geometry}
 use Rattle.journal.specs.Layout.{headerAt, descriptorAt, slotAt, firstData, isData}
 use Rattle.journal.specs.Header.{encode, header}
@@ -109,11 +109,11 @@ module _ (geo : Geometry) (N : ℕ) (s : List ℕ) (n h : ℕ) (G : List Entry) 
         pub header-lost : keptAt ms (length q₀ + (length G + 1)) ≡ false → Stands geo N n q₀ (blockAt s) e
         header-lost z =
             aside-stands geo N ms q₀ (appendWrites geo N s n h G) n (blockAt s) e big (omega arith) off v size all-aside
-            (v .lost-header (q₀ ++ front) [] top last-write (all-append (λ x. headerAt ≢ x .address) q₀ front (off-header geo q₀ off) front-high) tt (ap (keptAt ms) last-place ∙ z)) all-homes
+            (lost-header v (only-lost (keptAt ms) 0 (q₀ ++ front) [] top last-write (all-append (λ x. headerAt ≢ x .address) q₀ front (off-header geo q₀ off) front-high) tt (ap (keptAt ms) last-place ∙ z))) all-homes
 
         -- its header was written, and kept
         pub header-kept : keptAt ms (length q₀ + (length G + 1)) ≡ true → e headerAt ≡ encode (header N n h (n + length G) (sumOf h G))
-        header-kept z = v .kept-header (q₀ ++ front) [] top last-write refl tt (ap (keptAt ms) last-place ∙ z)
+        header-kept z = kept-header v (q₀ ++ front) [] top last-write refl tt (ap (keptAt ms) last-place ∙ z)
 
         -- header or not, the first n entries stand, and the homes that q₀ does not write to
         pub log-stands : LogStands geo n e (blockAt s)

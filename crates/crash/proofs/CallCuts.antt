@@ -13,7 +13,8 @@ use Rattle.card.specs.Card.{Card, queue, cut, settle, blockAt, blocksIn}
 use Rattle.card.specs.Marks.{marksFit, keptAt, allKept}
 use Rattle.card.proofs.All.{All, all-take}
 use Rattle.card.proofs.Runs.{Whole, NarrowAddress}
-use Rattle.card.proofs.Leaves.{Leaves, cut-leaves, settle-leaves, ones, ones-kept, all-kept-at}
+use Rattle.card.proofs.Leaves.{Leaves, cut-leaves, settle-leaves}
+use Rattle.card.proofs.MarkLaws.{all-kept-at, ones, ones-fit, ones-kept}
 use Rattle.journal.specs.Geometry.{Geometry}
 use Rattle.journal.specs.Layout.{firstData, isData}
 use Rattle.journal.specs.Header.{header, emptyHeader}
@@ -38,7 +39,7 @@ left-leaves c r s q p N ms l some size f w =
 
 -- the one write of a cut that keeps all is kept
 one-kept : keptAt (ones 1) 0 ≡ true
-one-kept = all-kept-at (ones 1) 0 (lib.Dec.lit< tt) (ones-kept 1)
+one-kept = all-kept-at (ones 1) 1 0 (ones-fit 1) (lib.Dec.lit< tt) (ones-kept 1)
 
 -- settled bytes are what a cut that keeps all leaves
 pub settled-leaves : (es : List Entry) (s : List ℕ) (N : ℕ) → 0 < N → N ≡ blocksIn s → All Whole es → Leaves N (ones (length es)) es (blockAt s) (blockAt (settle es s))

@@ -21,7 +21,8 @@ use Rattle.card.specs.Card.{blockAt, blocksIn}
 use Rattle.card.specs.Marks.{keptAt, allKept}
 use Rattle.card.proofs.All.{All, all-take}
 use Rattle.card.proofs.Runs.{NarrowAddress}
-use Rattle.card.proofs.Leaves.{Leaves, fits-length, all-kept-at}
+use Rattle.card.proofs.Leaves.{Leaves, kept-header, lost-header}
+use Rattle.card.proofs.MarkLaws.{all-kept-at}
 use Rattle.journal.specs.declared.header.Header.{Header}
 use Rattle.journal.specs.Geometry.{Geometry}
 use Rattle.journal.specs.Layout.{headerAt, descriptorAt, firstData, isData}
@@ -85,7 +86,7 @@ module _ (geo : Geometry) where
   one-lost N ms h d e v k a b = go (ℕ-discrete a headerAt)
     where
       go : Dec (a ≡ headerAt) → e a ≡ d a
-      go (yes z) = rw z (v .lost-header [] [] (headerEntry h) refl tt tt k)
+      go (yes z) = rw z (lost-header v ((λ z. k), tt))
       go (no z) = v .untouched a b (z, tt)
 
   pub still-leads : (N : ℕ) (s t : List ℕ) (w : List Entry) (S : Disk) (n : ℕ) (F : Bool) (ms : List ℕ) → firstData geo < N → Leaves N ms [] (blockAt s) (blockAt t)
@@ -165,8 +166,7 @@ module _ (geo : Geometry) where
           pub kept-top : keptAt ms (length G + 1) ≡ true
           kept-top =
               let e : length (appendWrites geo N s n h G) ≡ length G + 2 = length-append-writes geo N s n h G in
-              let l : length ms ≡ length (appendWrites geo N s n h G) = fits-length ms (length (appendWrites geo N s n h G)) (v .fits) in
-              all-kept-at ms (length G + 1) (omega arith) all
+              all-kept-at ms (length (appendWrites geo N s n h G)) (length G + 1) (v .fits) (omega arith) all
 
           found : logD geo (blockAt t) (n + length G) ≡ logD geo (blockAt s) n ++ G
           found = found-written geo N s n h G room long low big block-long ms [] tt (blockAt t) v all
@@ -197,7 +197,7 @@ module _ (geo : Geometry) where
 
   -- a header that is kept
   kept-one : (N : ℕ) (ms : List ℕ) (h : Header) (d e : Disk) → Leaves N ms (headerEntry h ∷ []) d e → keptAt ms 0 ≡ true → e headerAt ≡ encode h
-  kept-one N ms h d e v k = v .kept-header [] [] (headerEntry h) refl refl tt k
+  kept-one N ms h d e v k = kept-header v [] [] (headerEntry h) refl refl tt k
 
   -- an empty log's
   pub empty-card : (N : ℕ) (s : List ℕ) (S : Disk) (t : List ℕ) (ms : List ℕ) → firstData geo < N → ((a : ℕ) → isData geo N a ≡ true → S a ≡ blockAt s a)

@@ -1,4 +1,4 @@
--- `store::refusals::over_one` meets its contract.
+-- `card::marks::over_one` meets its contract.
 use Prim.Native.Nat.{ℕ, _+_, _-_, _≤_, _<_}
 use mathlib.Core.Path.{_≡_, refl, ap, sym, _∙_}
 use mathlib.Core.Bool.{_||_}
@@ -9,9 +9,9 @@ use borrow.Author.Tests.{lt-ltb, le-ltb}
 use lib.Dec.{ltb}
 use lib.ListN.{length, getD, drop, drop-of-length-le}
 use lib.Seq.{drop-cons}
 use Rattle.card.specs.Marks.{overOne}
-use Rattle.store.proofs.refusals.over_one.Statement.{statement}
-use Rattle.store.proofs.refusals.over_one.Tie as tie
+use Rattle.card.proofs.marks.over_one.Statement.{statement}
+use Rattle.card.proofs.marks.over_one.Tie as tie
 
 abbrev Inv-loop : tie.InvT-loop
 Inv-loop marks i₀ i = (i ≤ length marks) × (overOne (drop i marks) ≡ overOne marks)
