@@ -49,17 +49,18 @@ abbrev pub AllLost : (ℕ → Bool) → ℕ → List Entry → Type 0
 AllLost keeps a [] = Unit {0}
 AllLost keeps a (e ∷ q) = (a ≡ e .address → keeps 0 ≡ false) × AllLost (λ i. keeps (suc i)) a q
 
-none-lost : (keeps : ℕ → Bool) (a : ℕ) (q : List Entry) → All (λ e. a ≢ e .address) q → AllLost keeps a q
-none-lost keeps a [] o = tt
-none-lost keeps a (e ∷ q) o = ((λ z. absurd (o .0 z)), none-lost (λ i. keeps (suc i)) a q (o .1))
+-- there is none
+absent-lost : (keeps : ℕ → Bool) (a : ℕ) (q : List Entry) → All (λ e. a ≢ e .address) q → AllLost keeps a q
+absent-lost keeps a [] o = tt
+absent-lost keeps a (e ∷ q) o = ((λ z. absurd (o .0 z)), absent-lost (λ i. keeps (suc i)) a q (o .1))
 
--- as if the only one is lost
+-- the only one is lost
 pub only-lost : {q : List Entry} (keeps : ℕ → Bool) (a : ℕ) (es fs : List Entry) (e : Entry) → q ≡ es ++ (e ∷ fs)
     → All (λ f. a ≢ f .address) es → All (λ f. a ≢ f .address) fs → keeps (length es) ≡ false → AllLost keeps a q
 only-lost {q} keeps a es fs e p off o k = subst (AllLost keeps a) (sym p) (go keeps es off k)
   where
     go : (keeps : ℕ → Bool) (es : List Entry) → All (λ f. a ≢ f .address) es → keeps (length es) ≡ false → AllLost keeps a (es ++ (e ∷ fs))
-    go keeps [] off k = ((λ z. k), none-lost (λ i. keeps (suc i)) a fs o)
+    go keeps [] off k = ((λ z. k), absent-lost (λ i. keeps (suc i)) a fs o)
     go keeps (x ∷ es) off k = ((λ z. absurd (off .0 z)), go (λ i. keeps (suc i)) es (off .1) k)
 
 newest-lost : (keeps : ℕ → Bool) (a : ℕ) (q : List Entry) (b : List ℕ) → AllLost keeps a q → newestKept keeps a q b ≡ b

@@ -216,23 +216,23 @@ record Cuts (w : World) (ms : List ℕ) (same : Bool) (k : ℕ) : Type 0 where
   recovers : (t : Bool) → plainStep trap recover t (closedAt S n 100 F) ≡ record { answer = 0; orders = k; plain = openAt S [] [] n left }
 
 all-111 : allKept cut111 ≡ true
-all-111 = marksOf-all (true ∷ true ∷ true ∷ [])
+all-111 = marksOf-all _
 
 torn-cuts : (w : World) → Filed w → Cuts w cut101 false 2
 unfolding refusal headerKept
 torn-cuts w m =
     let fit : refusal trap (cut cut101) (downAt old (at40 nines ∷ [])) ≡ 0 = rw fits-101 in
     record {
-  fit = fit;
-  found = found-is w m cut101 fit ∙ ap₂ sameLog (torn-log w m) (own-log w m cut101 header-101) ∙ other-log;
-  usual = exception-is w m cut101 fit ∙ ap₂ collides (torn-log w m) (own-log w m cut101 header-101) ∙ no-collision;
-  S = old;
-  n = 1;
-  F = true;
-  left = 98;
-  cuts = plain-torn old nines;
-  recovers = λ t. plain-fallback t old 1;
-}
+      fit = fit;
+      found = found-is w m cut101 fit ∙ ap₂ sameLog (torn-log w m) (own-log w m cut101 header-101) ∙ other-log;
+      usual = exception-is w m cut101 fit ∙ ap₂ collides (torn-log w m) (own-log w m cut101 header-101) ∙ no-collision;
+      S = old;
+      n = 1;
+      F = true;
+      left = 98;
+      cuts = plain-torn old nines;
+      recovers = λ t. plain-fallback t old 1;
+    }
 
 whole-cuts : (w : World) → Filed w → Cuts w cut111 true 0
 unfolding refusal
@@ -380,7 +380,7 @@ module _ (st : State) (f : formatCall trap st .answer ≡ 0) (size : blocksIn (s
 
   torn : Script st cut101 false false false 2 sevens
   unfolding overlay lay
-  torn = script cut101 false 2 (torn-cuts w₃ all-filed) false false sevens (ap (λ (t : Bool). t && false) header-101) (marksOf-all (true ∷ false ∷ true ∷ [])) refl
+  torn = script cut101 false 2 (torn-cuts w₃ all-filed) false false sevens (ap (λ (t : Bool). t && false) header-101) (marksOf-all _) refl
 
   whole : Script st cut111 true true true 0 nines
   unfolding overlay lay

@@ -52,16 +52,16 @@ plain-halted t S b = refl
 
 -- the cuts 101 and 111 fit three writes and keep the last, a header
 pub fits-101 : marksFit cut101 3 ≡ true
-fits-101 = marksOf-fit (true ∷ false ∷ true ∷ []) 3 refl
+fits-101 = marksOf-fit _ 3 refl
 
 pub header-101 : keptAt cut101 2 ≡ true
-header-101 = marksOf-kept (true ∷ false ∷ true ∷ []) 2
+header-101 = marksOf-kept _ 2
 
 pub fits-111 : marksFit cut111 3 ≡ true
-fits-111 = marksOf-fit (true ∷ true ∷ true ∷ []) 3 refl
+fits-111 = marksOf-fit _ 3 refl
 
 pub header-111 : keptAt cut111 2 ≡ true
-header-111 = marksOf-kept (true ∷ true ∷ true ∷ []) 2
+header-111 = marksOf-kept _ 2
 
 pub plain-torn : (S : Disk) (b : List ℕ) → plainStep trap (cut cut101) false (downAt S (at40 b ∷ [])) ≡ still (closedAt S 1 0 true)
 unfolding plainStep refusal plainCut headerKept verdict ownVerdict trap
