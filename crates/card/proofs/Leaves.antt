@@ -1,23 +1,25 @@
 -- What a cut may leave of a disk: four laws. The crash theory goes by these, and by no more of what a cut does.
-use Prim.Native.Nat.{ℕ, zero, suc, _+_, _<_}
-use mathlib.Core.Path.{_≡_, refl, ap, sym, _∙_}
+use Prim.Native.Nat.{ℕ, suc, _+_, _<_}
+use mathlib.Core.Path.{_≡_, refl, ap, sym, subst, _∙_}
 use mathlib.Core.Bool.{Bool, true, false, cond, _&&_, true≢false}
 use mathlib.Core.Logic.{_≢_, _⊎_}
 use mathlib.Core.List.{List, [], _∷_, _++_}
+use native.Mathlib.Nat.{zero-add, suc-add}
 use native.Mathlib.Omega.{arith}
-use borrow.Author.Tests.{eqb-true, eqb-false, eq-eqb}
+use borrow.Author.Tests.{eqb-true, eq-eqb}
 use lib.Dec.{eqb}
-use lib.ListN.{length, getD, replicate, length-replicate}
+use lib.ListN.{length, getD}
 use Rattle.cells.specs.Cell.Laws.{length-cell}
 use Rattle.cells.specs.Upto.Laws.{length-upTo}
 use Rattle.cells.specs.Entry.{Entry, entryAt, blockBytes}
-use Rattle.card.specs.Disk.{Disk, overlay}
+use Rattle.card.specs.Disk.{Disk, lay, overlay}
 use Rattle.card.specs.Card.{Card, queue, settle, kept, cut, blockAt, blocksIn}
-use Rattle.card.specs.Marks.{overOne, marksFit, keptAt, allKept}
+use Rattle.card.specs.Marks.{marksFit, keptAt, allKept, marksOf}
 use Rattle.card.proofs.All.{All, all-append, all-map}
 use Rattle.card.proofs.Overlays.{overlay-other, overlay-keeps}
 use Rattle.card.proofs.Runs.{Whole, settle-overlay}
-use Rattle.card.proofs.Cuts.{kept-nil, kept-step, kept-all, all-kept, all-marked, cut-block}
+use Rattle.card.proofs.Cuts.{kept-all, all-kept, cut-block}
+use Rattle.card.proofs.MarkLaws.{fits-length, all-ones, chosen, marksOf-chosen, ones, ones-fit, ones-kept}
 
 -- what holds of some element of a list
 abbrev pub Any : {A : Type 0} → (A → Type 0) → List A → Type 0
@@ -35,6 +37,48 @@ each-any : {A : Type 0} (R : A → A → Type 0) → ((x : A) → R x x) → (l 
 each-any R r [] = tt
 each-any {A} R r (x ∷ l) = (_⊎_.inl (r x), all-map (λ (y : A). Any (R y) l) (λ (y : A). Any (R y) (x ∷ l)) (λ y p. _⊎_.inr p) l (each-any R r l))
 
+-- ---- the newest kept write to a block
+
+-- its block, or b if there is none; `keeps` tells which places of the queue are kept
+unfoldable pub newestKept : (ℕ → Bool) → ℕ → List Entry → List ℕ → List ℕ
+newestKept keeps a [] b = b
+newestKept keeps a (e ∷ q) b = newestKept (λ i. keeps (suc i)) a q (cond (keeps 0 && eqb a (e .address)) (e .block) b)
+
+-- every write to the block is lost
+abbrev pub AllLost : (ℕ → Bool) → ℕ → List Entry → Type 0
+AllLost keeps a [] = Unit {0}
+AllLost keeps a (e ∷ q) = (a ≡ e .address → keeps 0 ≡ false) × AllLost (λ i. keeps (suc i)) a q
+
+-- there is none
+absent-lost : (keeps : ℕ → Bool) (a : ℕ) (q : List Entry) → All (λ e. a ≢ e .address) q → AllLost keeps a q
+absent-lost keeps a [] o = tt
+absent-lost keeps a (e ∷ q) o = ((λ z. absurd (o .0 z)), absent-lost (λ i. keeps (suc i)) a q (o .1))
+
+-- the only one is lost
+pub only-lost : {q : List Entry} (keeps : ℕ → Bool) (a : ℕ) (es fs : List Entry) (e : Entry) → q ≡ es ++ (e ∷ fs)
+    → All (λ f. a ≢ f .address) es → All (λ f. a ≢ f .address) fs → keeps (length es) ≡ false → AllLost keeps a q
+only-lost {q} keeps a es fs e p off o k = subst (AllLost keeps a) (sym p) (go keeps es off k)
+  where
+    go : (keeps : ℕ → Bool) (es : List Entry) → All (λ f. a ≢ f .address) es → keeps (length es) ≡ false → AllLost keeps a (es ++ (e ∷ fs))
+    go keeps [] off k = ((λ z. k), absent-lost (λ i. keeps (suc i)) a fs o)
+    go keeps (x ∷ es) off k = ((λ z. absurd (off .0 z)), go (λ i. keeps (suc i)) es (off .1) k)
+
+newest-lost : (keeps : ℕ → Bool) (a : ℕ) (q : List Entry) (b : List ℕ) → AllLost keeps a q → newestKept keeps a q b ≡ b
+unfolding newestKept
+newest-lost keeps a [] b l = refl
+newest-lost keeps a (e ∷ q) b l = newest-lost (λ i. keeps (suc i)) a q _ (l .1) ∙ go (keeps 0) (eqb a (e .address)) refl refl
+  where
+    go : (k z : Bool) → keeps 0 ≡ k → eqb a (e .address) ≡ z → cond (k && z) (e .block) b ≡ b
+    go false z p r = refl
+    go true false p r = refl
+    go true true p r = absurd (true≢false (sym p ∙ l .0 (eqb-true _ _ r)))
+
+newest-here : (keeps : ℕ → Bool) (a : ℕ) (es fs : List Entry) (e : Entry) (b : List ℕ) → a ≡ e .address → AllLost (λ i. keeps (length es + suc i)) a fs → keeps (length es) ≡ true
+    → newestKept keeps a (es ++ (e ∷ fs)) b ≡ e .block
+unfolding newestKept
+newest-here keeps a [] fs e b z l k = newest-lost (λ i. keeps (suc i)) a fs _ (subst (λ f. AllLost f a fs) (λ j i. keeps (zero-add (suc i) j)) l) ∙ rw (k, eq-eqb _ _ z)
+newest-here keeps a (x ∷ es) fs e b z l k = newest-here (λ i. keeps (suc i)) a es fs e _ z (subst (λ f. AllLost f a fs) (λ j i. keeps (suc-add (length es) (suc i) j)) l) k
+
 -- ---- the four laws: t is what a cut with the marks ms may leave of the disk s, of N blocks, on which the writes q wait
 
 pub record Leaves (N : ℕ) (ms : List ℕ) (q : List Entry) (s t : Disk) : Type 0 where
@@ -44,63 +88,37 @@ pub record Leaves (N : ℕ) (ms : List ℕ) (q : List Entry) (s t : Disk) : Type
   -- (ii) each byte of a block is its settled byte or that of a waiting write to the block, and the block is as long
   pub byte : (a j : ℕ) → a < N → (getD (t a) j 0 ≡ getD (s a) j 0) ⊎ Any (λ e. (e .address ≡ a) × (getD (t a) j 0 ≡ getD (e .block) j 0)) q
   pub long : (a : ℕ) → a < N → length (t a) ≡ blockBytes
-  -- (iii) block 0 is whole: the newest write to it if that is kept, old if the only one is lost
-  pub kept-header : (es fs : List Entry) (e : Entry) → q ≡ es ++ (e ∷ fs) → e .address ≡ 0 → All (λ f. 0 ≢ f .address) fs → keptAt ms (length es) ≡ true → t 0 ≡ e .block
-  pub lost-header : (es fs : List Entry) (e : Entry) → q ≡ es ++ (e ∷ fs) → All (λ f. 0 ≢ f .address) es → All (λ f. 0 ≢ f .address) fs → keptAt ms (length es) ≡ false → t 0 ≡ s 0
+  -- (iii) block 0 is whole: the newest kept write to it, old exactly if none is kept
+  pub header : t 0 ≡ newestKept (keptAt ms) 0 q (s 0)
   -- (iv) all kept means all settled
   pub whole : allKept ms ≡ true → (a : ℕ) → a < N → t a ≡ overlay q s a
 
+-- a write to block 0 that is kept, every later one lost, is what stands there
+pub kept-header : {N : ℕ} {ms : List ℕ} {q : List Entry} {s t : Disk} → Leaves N ms q s t → (es fs : List Entry) (e : Entry) → q ≡ es ++ (e ∷ fs)
+    → e .address ≡ 0 → AllLost (λ i. keptAt ms (length es + suc i)) 0 fs → keptAt ms (length es) ≡ true → t 0 ≡ e .block
+kept-header {ms = ms} {s = s} v es fs e p z l k = v .header ∙ ap (λ (x : List Entry). newestKept (keptAt ms) 0 x (s 0)) p ∙ newest-here (keptAt ms) 0 es fs e (s 0) (sym z) l k
+
+-- if every write to it is lost, it is old
+pub lost-header : {N : ℕ} {ms : List ℕ} {q : List Entry} {s t : Disk} → Leaves N ms q s t → AllLost (keptAt ms) 0 q → t 0 ≡ s 0
+lost-header {ms = ms} {q} {s} v l = v .header ∙ newest-lost (keptAt ms) 0 q (s 0) l
+
 -- ---- a cut of this card obeys them
 
--- the marks one by one
-pub fits-length : (ms : List ℕ) (k : ℕ) → marksFit ms k ≡ true → length ms ≡ k
-unfolding marksFit
-fits-length ms k h = go (eqb (length ms) k) refl h
+-- kept writes laid over a disk: at each block the newest of them
+laid-newest : (ms : List ℕ) (q : List Entry) (d : Disk) (a : ℕ) → overlay (kept ms q) d a ≡ newestKept (keptAt ms) a q (d a)
+unfolding keptAt kept overlay lay newestKept
+laid-newest [] q d a = none q
   where
-    go : (t : Bool) → eqb (length ms) k ≡ t → t && mathlib.Core.Bool.not (overOne ms) ≡ true → length ms ≡ k
-    go true e p = eqb-true _ _ e
-    go false e p = absurd (true≢false (sym p))
-
-all-ones : (ms : List ℕ) → allKept ms ≡ true → All (λ m. m ≡ 1) ms
-unfolding allKept
-all-ones [] h = tt
-all-ones (m ∷ ms) h = go (eqb m 1) refl h (λ p. all-ones ms p)
+    none : (q : List Entry) → d a ≡ newestKept (keptAt []) a q (d a)
+    none [] = refl
+    none (e ∷ q) = none q
+laid-newest (m ∷ ms) [] d a = refl
+laid-newest (m ∷ ms) (e ∷ q) d a = go (eqb m 1) (laid-newest ms q (lay e d) a) (laid-newest ms q d a)
   where
-    go : (t : Bool) → eqb m 1 ≡ t → t && allKept ms ≡ true → (allKept ms ≡ true → All (λ m. m ≡ 1) ms) → All (λ m. m ≡ 1) (m ∷ ms)
-    go true e p more = (eqb-true _ _ e, more p)
-    go false e p more = absurd (true≢false (sym p))
-
-pub all-kept-at : (ms : List ℕ) (i : ℕ) → i < length ms → allKept ms ≡ true → keptAt ms i ≡ true
-unfolding keptAt
-all-kept-at ms i l h = eq-eqb _ _ (Rattle.card.proofs.All.all-at (λ m. m ≡ 1) ms i 0 l (all-ones ms h))
-
--- the kept writes end in the newest kept one to a block
-kept-newest : (ms : List ℕ) (es fs : List Entry) (e : Entry) (d : Disk) → keptAt ms (length es) ≡ true → All (λ f. e .address ≢ f .address) fs
-    → overlay (kept ms (es ++ (e ∷ fs))) d (e .address) ≡ e .block
-unfolding keptAt kept overlay
-kept-newest [] es fs e d h o = absurd (mathlib.Core.Bool.false≢true h)
-kept-newest (m ∷ ms) [] fs e d h o =
-    kept-step (λ l. overlay l d (e .address) ≡ e .block) m ms e fs
-    (λ y. overlay-other (kept ms fs) (Rattle.card.specs.Disk.lay e d) (e .address) (all-kept (λ f. e .address ≢ f .address) ms fs o) ∙ Rattle.card.proofs.Overlays.lay-same e d (e .address) refl)
-    (λ n. absurd (n (eqb-true _ _ h)))
-kept-newest (m ∷ ms) (x ∷ es) fs e d h o =
-    kept-step (λ l. overlay l d (e .address) ≡ e .block) m ms x (es ++ (e ∷ fs))
-    (λ y. kept-newest ms es fs e (Rattle.card.specs.Disk.lay x d) h o)
-    (λ n. kept-newest ms es fs e d h o)
-
--- if the only write to a block is lost, no kept write is addressed to it
-kept-without : (a : ℕ) (ms : List ℕ) (es fs : List Entry) (e : Entry) → keptAt ms (length es) ≡ false → All (λ f. a ≢ f .address) es → All (λ f. a ≢ f .address) fs
-    → All (λ f. a ≢ f .address) (kept ms (es ++ (e ∷ fs)))
-unfolding keptAt kept
-kept-without a [] es fs e h p o = tt
-kept-without a (m ∷ ms) [] fs e h p o =
-    kept-step (All (λ f. a ≢ f .address)) m ms e fs
-    (λ y. absurd (eqb-false m 1 h y))
-    (λ n. all-kept (λ f. a ≢ f .address) ms fs o)
-kept-without a (m ∷ ms) (x ∷ es) fs e h p o =
-    kept-step (All (λ f. a ≢ f .address)) m ms x (es ++ (e ∷ fs))
-    (λ y. (p .0, kept-without a ms es fs e h (p .1) o))
-    (λ n. kept-without a ms es fs e h (p .1) o)
+    go : (t : Bool) → overlay (kept ms q) (lay e d) a ≡ newestKept (keptAt ms) a q (lay e d a) → overlay (kept ms q) d a ≡ newestKept (keptAt ms) a q (d a)
+        → overlay (cond t (e ∷ kept ms q) (kept ms q)) d a ≡ newestKept (keptAt ms) a q (cond (t && eqb a (e .address)) (e .block) (d a))
+    go true one other = one
+    go false one other = other
 
 -- kept writes laid over a disk of whole blocks obey the laws
 pub laid-leaves : (N : ℕ) (ms : List ℕ) (q : List Entry) (s t : Disk) → 0 < N → marksFit ms (length q) ≡ true → All Whole q
@@ -119,15 +137,7 @@ laid-leaves N ms q s t some f w size laid = record {
       rw (laid a h)
       (overlay-keeps (λ b. length b ≡ blockBytes) (kept ms q) s a (size a h)
       (all-map Whole (λ e. e .address ≡ a → Whole e) (λ e p z. p) (kept ms q) (all-kept Whole ms q w)));
-  kept-header = λ es fs e p z o k.
-      laid 0 some
-      ∙ ap (λ (l : List Entry). overlay (kept ms l) s 0) p
-      ∙ ap (overlay (kept ms (es ++ (e ∷ fs))) s) (sym z)
-      ∙ kept-newest ms es fs e s k (rw z o);
-  lost-header = λ es fs e z p o k.
-      laid 0 some
-      ∙ ap (λ (l : List Entry). overlay (kept ms l) s 0) z
-      ∙ overlay-other (kept ms (es ++ (e ∷ fs))) s 0 (kept-without 0 ms es fs e k p o);
+  header = laid 0 some ∙ laid-newest ms q s 0;
   whole = λ k a h. laid a h ∙ ap (λ (l : List Entry). overlay l s a) (kept-all ms q (fits-length ms (length q) f) (all-ones ms k));
 }
   where
@@ -147,26 +157,14 @@ cut-leaves ms c some f w =
     laid-leaves (blocksIn (c .settled)) ms (queue c) (blockAt (c .settled)) (blockAt (cut ms c .settled)) some
     (ap (marksFit ms) (length-upTo (entryAt (c .waiting)) (c .count)) ∙ f) w (whole-blocks (c .settled)) (λ a h. cut-block ms c a h w)
 
+-- by marks that keep some writes it leaves just those, laid over
+pub cut-chosen : (ks : List Bool) (c : Card) (a : ℕ) → a < blocksIn (c .settled) → All Whole (queue c)
+    → blockAt (cut (marksOf ks) c .settled) a ≡ overlay (chosen ks (queue c)) (blockAt (c .settled)) a
+cut-chosen ks c a h w = cut-block (marksOf ks) c a h w ∙ ap (λ (l : List Entry). overlay l (blockAt (c .settled)) a) (marksOf-chosen ks (queue c))
+
 -- ---- a flush is a cut that keeps all
-
-abbrev pub ones : ℕ → List ℕ
-ones k = replicate k 1
-
-pub ones-kept : (k : ℕ) → allKept (ones k) ≡ true
-unfolding allKept
-ones-kept zero = refl
-ones-kept (suc k) = ones-kept k
-
-ones-low : (k : ℕ) → overOne (ones k) ≡ false
-unfolding overOne
-ones-low zero = refl
-ones-low (suc k) = ones-low k
-
-ones-fit : (k : ℕ) → marksFit (ones k) k ≡ true
-unfolding marksFit
-ones-fit k = rw (length-replicate, eq-eqb k k refl, ones-low k)
 
 pub settle-leaves : (es : List Entry) (s : List ℕ) → 0 < blocksIn s → All Whole es → Leaves (blocksIn s) (ones (length es)) es (blockAt s) (blockAt (settle es s))
 settle-leaves es s some w =
     laid-leaves (blocksIn s) (ones (length es)) es (blockAt s) (blockAt (settle es s)) some (ones-fit (length es)) w (whole-blocks s)
-    (λ a h. settle-overlay es s a h w ∙ ap (λ (l : List Entry). overlay l (blockAt s) a) (sym (kept-all (ones (length es)) es (length-replicate (length es) 1) (all-ones (ones (length es)) (ones-kept (length es))))))
+    (λ a h. settle-overlay es s a h w ∙ ap (λ (l : List Entry). overlay l (blockAt s) a) (sym (kept-all (ones (length es)) es (fits-length (ones (length es)) (length es) (ones-fit (length es))) (all-ones (ones (length es)) (ones-kept (length es))))))

@@ -3,4 +3,5 @@ pub mod All
 pub mod Overlays
 pub mod Runs
 pub mod Cuts
+pub mod MarkLaws
 pub mod Leaves

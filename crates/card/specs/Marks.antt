@@ -1,6 +1,6 @@
 -- The marks of a cut: "one mark for each waiting write, 1 kept or 0 lost". Outside this crate a mark is spoken of by these names alone.
 use Prim.Native.Nat.{ℕ}
-use mathlib.Core.Bool.{Bool, true, false, not, _&&_, _||_}
+use mathlib.Core.Bool.{Bool, true, false, cond, not, _&&_, _||_}
 use mathlib.Core.List.{List, [], _∷_}
 use lib.Dec.{eqb, ltb}
 use lib.ListN.{length, getD}
@@ -22,3 +22,8 @@ keptAt ms i = eqb (getD ms i 0) 1
 unfoldable pub allKept : List ℕ → Bool
 allKept [] = true
 allKept (m ∷ ms) = eqb m 1 && allKept ms
+
+-- the marks that keep some writes and lose the others: for each waiting write, oldest first, whether it is kept
+unfoldable pub marksOf : List Bool → List ℕ
+marksOf [] = []
+marksOf (k ∷ ks) = cond k 1 0 ∷ marksOf ks

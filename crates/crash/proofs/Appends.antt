@@ -22,7 +22,7 @@ use Rattle.card.specs.Marks.{keptAt, allKept}
 use Rattle.card.proofs.All.{All, all-append, all-map, all-take, all-at, all-upTo}
 use Rattle.card.proofs.Overlays.{lay-same, lay-other, overlay-append, overlay-agree, overlay-other}
 use Rattle.card.proofs.Runs.{Whole, NarrowAddress}
-use Rattle.card.proofs.Leaves.{Leaves}
+use Rattle.card.proofs.Leaves.{Leaves, only-lost, kept-header, lost-header}
 use Rattle.journal.specs.Geometry.{Geometry, perDescriptor}
 use Rattle.journal.specs.Layout.{headerAt, descriptorAt, describedIn, describedAt, slotAt, firstData, isData}
 use Rattle.journal.specs.Header.{encode, header}
@@ -131,11 +131,11 @@ module _ (geo : Geometry) (N : ℕ) (s : List ℕ) (n h : ℕ) (G : List Entry) 
         pub header-lost : keptAt ms (length q₀ + (length G + geo .descriptors)) ≡ false → Stands geo N n q₀ (blockAt s) e
         header-lost z =
             aside-stands geo N ms q₀ (appendWrites geo N s n h G) n (blockAt s) e big (omega arith) off v size all-aside
-            (v .lost-header (q₀ ++ front) [] top last-write (all-append (λ x. headerAt ≢ x .address) q₀ front (off-low geo q₀ off headerAt (omega arith)) front-high) tt (ap (keptAt ms) last-place ∙ z)) all-homes
+            (lost-header v (only-lost (keptAt ms) headerAt (q₀ ++ front) [] top last-write (all-append (λ x. headerAt ≢ x .address) q₀ front (off-low geo q₀ off headerAt (omega arith)) front-high) tt (ap (keptAt ms) last-place ∙ z))) all-homes
 
         -- its header was written, and kept
         pub header-kept : keptAt ms (length q₀ + (length G + geo .descriptors)) ≡ true → e headerAt ≡ encode (header N n h (n + length G) (sumOf h G))
-        header-kept z = v .kept-header (q₀ ++ front) [] top last-write refl tt (ap (keptAt ms) last-place ∙ z)
+        header-kept z = kept-header v (q₀ ++ front) [] top last-write refl tt (ap (keptAt ms) last-place ∙ z)
 
         -- header or not, the first n entries stand, and the homes that q₀ does not write to
         pub log-stands : LogStands geo n e (blockAt s)

@@ -4,7 +4,7 @@ use mathlib.Core.Path.{_≡_, ap, ap₂, sym, _∙_}
 use mathlib.Core.Bool.{Bool, true, false, cond, not}
 use mathlib.Core.List.{List, [], _∷_, _++_}
 use native.Mathlib.Omega.{arith}
-use lib.ListN.{length, take, length-append, length-replicate}
+use lib.ListN.{length, take, length-append}
 use lib.Seq.{take-all}
 use Rattle.cells.specs.Entry.{Entry}
 use Rattle.card.specs.Disk.{Disk, overlay}
@@ -12,7 +12,8 @@ use Rattle.card.specs.Card.{Card, queue, cut, settle, blockAt, blocksIn}
 use Rattle.card.specs.Marks.{marksFit, keptAt, allKept}
 use Rattle.card.proofs.All.{All, all-append, all-take}
 use Rattle.card.proofs.Runs.{Whole}
-use Rattle.card.proofs.Leaves.{Leaves, cut-leaves, settle-leaves, ones, ones-kept, all-kept-at}
+use Rattle.card.proofs.Leaves.{Leaves, cut-leaves, settle-leaves}
+use Rattle.card.proofs.MarkLaws.{all-kept-at, ones, ones-fit, ones-kept}
 use Rattle.journal.specs.Geometry.{Geometry}
 use Rattle.journal.specs.Layout.{firstData, isData}
 use Rattle.journal.specs.Header.{header, emptyHeader}
@@ -45,8 +46,7 @@ settled-leaves es s N some size w = rw size (settle-leaves es s (omega arith) w)
 last-kept : (q₀ : List Entry) (e : Entry) → keptAt (ones (length (q₀ ++ (e ∷ [])))) (length q₀) ≡ true
 last-kept q₀ e =
     let k : length (q₀ ++ (e ∷ [])) ≡ length q₀ + 1 = length-append q₀ (e ∷ []) in
-    let l : length (ones (length (q₀ ++ (e ∷ [])))) ≡ length (q₀ ++ (e ∷ [])) = length-replicate (length (q₀ ++ (e ∷ []))) 1 in
-    all-kept-at (ones (length (q₀ ++ (e ∷ [])))) (length q₀) (omega arith) (ones-kept (length (q₀ ++ (e ∷ []))))
+    all-kept-at (ones (length (q₀ ++ (e ∷ [])))) (length (q₀ ++ (e ∷ []))) (length q₀) (ones-fit (length (q₀ ++ (e ∷ [])))) (omega arith) (ones-kept (length (q₀ ++ (e ∷ []))))
 
 module _ (geo : Geometry) where
   -- ---- a header behind the queue, cut and settled

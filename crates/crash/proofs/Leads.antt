@@ -22,7 +22,8 @@ use Rattle.card.specs.Marks.{keptAt, allKept}
 use Rattle.card.proofs.All.{All, all-append, all-take}
 use Rattle.card.proofs.Overlays.{overlay-append, overlay-agree, overlay-other}
 use Rattle.card.proofs.Runs.{Whole, NarrowAddress}
-use Rattle.card.proofs.Leaves.{Leaves, fits-length, all-kept-at}
+use Rattle.card.proofs.Leaves.{Leaves, only-lost, kept-header, lost-header}
+use Rattle.card.proofs.MarkLaws.{all-kept-at}
 use Rattle.journal.specs.declared.header.Header.{Header}
 use Rattle.journal.specs.Geometry.{Geometry}
 use Rattle.journal.specs.Layout.{headerAt, firstData, isData}
@@ -122,11 +123,11 @@ module _ (geo : Geometry) where
           (closed-agree geo X Y N (blockAt s) (blockAt t) w S n (λ a l. low a l (ℕ-discrete a headerAt)) (λ a l y. home-left (headerEntry h ∷ []) v a l y (not-header h a l)) F (b .card))
         where
           low : (a : ℕ) → a < firstData geo → Dec (a ≡ headerAt) → blockAt t a ≡ blockAt s a
-          low a l (yes z) = rw z (v .lost-header q₀ [] (headerEntry h) refl (off-low geo q₀ (b .off) headerAt (omega arith)) tt k)
+          low a l (yes z) = rw z (lost-header v (only-lost (keptAt ms) headerAt q₀ [] (headerEntry h) refl (off-low geo q₀ (b .off) headerAt (omega arith)) tt k))
           low a l (no z) = low-left (headerEntry h ∷ []) v a l (z, tt)
 
       kept-one : keptAt ms (length q₀) ≡ true → blockAt t headerAt ≡ encode h
-      kept-one k = v .kept-header q₀ [] (headerEntry h) refl refl tt k
+      kept-one k = kept-header v q₀ [] (headerEntry h) refl refl tt k
 
   -- an empty log's, over home blocks that are S
   pub empty-card : {X Y : ℕ → Type 0} {N : ℕ} {s : List ℕ} {q₀ w : List Entry} {S : Disk} {n : ℕ} (b : Behind X Y N s q₀ w S n false) (t ms : List ℕ)
@@ -259,8 +260,7 @@ module _ (geo : Geometry) where
           kept-top =
               let e : length W ≡ length G + geo .descriptors + 1 = length-append-writes geo N s n h G in
               let m : length (q₀ ++ W) ≡ length q₀ + length W = length-append q₀ W in
-              let l : length ms ≡ length (q₀ ++ W) = fits-length ms (length (q₀ ++ W)) (v .fits) in
-              all-kept-at ms ownPlace (omega arith) all
+              all-kept-at ms (length (q₀ ++ W)) ownPlace (v .fits) (omega arith) all
 
           found : logD geo (blockAt t) (n + length G) ≡ logD geo (blockAt s) n ++ G
           found = found-written geo N s n h G (x .room) big sized (x .narrow) ms q₀ (x .behind .off) (blockAt t) v all

@@ -7,6 +7,7 @@ use mathlib.Core.List.{List, [], _∷_, _++_}
 use lib.ListN.{replicate}
 use Rattle.cells.specs.Entry.{blockBytes, Entry}
 use Rattle.card.specs.Card.{blocksIn}
+use Rattle.card.specs.Marks.{marksOf}
 use Rattle.store.specs.State.{State}
 use Rattle.store.specs.Format.{formatCall}
 use Rattle.journal.specs.Geometry.{trap}
@@ -33,6 +34,13 @@ filed = put 40 sevens ∷ commit ∷ sync ∷ []
 -- "put 40 9 / commit / power 3 / sync"
 abbrev pub halted : List Call
 halted = put 40 nines ∷ commit ∷ power 3 ∷ sync ∷ []
+
+-- the marks of "cut 101" and of "cut 111": "1 kept or 0 lost"
+abbrev pub cut101 : List ℕ
+cut101 = marksOf (true ∷ false ∷ true ∷ [])
+
+abbrev pub cut111 : List ℕ
+cut111 = marksOf (true ∷ true ∷ true ∷ [])
 
 -- then "cut […] / power 100"
 abbrev pub crashed : List ℕ → List Call
@@ -71,6 +79,6 @@ pub record Script (st : State) (ms : List ℕ) (same new all : Bool) (k : ℕ) (
 -- cut 101 loses the new descriptor: another log than the one written, no collision, old; cut 111 keeps every write: new. There is
 -- such a card
 pub record Worked : Type 0 where
-  pub torn : (st : State) → formatCall trap st .answer ≡ 0 → blocksIn (st .settled) ≡ 64 → Script st (1 ∷ 0 ∷ 1 ∷ []) false false false 2 sevens
-  pub whole : (st : State) → formatCall trap st .answer ≡ 0 → blocksIn (st .settled) ≡ 64 → Script st (1 ∷ 1 ∷ 1 ∷ []) true true true 0 nines
+  pub torn : (st : State) → formatCall trap st .answer ≡ 0 → blocksIn (st .settled) ≡ 64 → Script st cut101 false false false 2 sevens
+  pub whole : (st : State) → formatCall trap st .answer ≡ 0 → blocksIn (st .settled) ≡ 64 → Script st cut111 true true true 0 nines
   pub card : (st : State) × (formatCall trap st .answer ≡ 0) × (blocksIn (st .settled) ≡ 64)

@@ -4,13 +4,13 @@ use crate::lists::OPEN;
 use crate::lists::address;
 use crate::lists::holds;
 use crate::record::Record;
+use card::marks::fit;
 use cells::BLOCK;
 use journal::SLOTS;
 use journal::log::is_data;
 ghost use mathlib.Core.Path.{_≡_};
 ghost use Prim.Native.Nat.{_≤_};
 ghost use lib.ListN.{length};
-ghost use Rattle.card.specs.Marks.{overOne};
 ghost use Rattle.journal.specs.Geometry.{trap};
 ghost use Rattle.store.specs.CodeState.{stateOf};
 ghost use Rattle.store.specs.Request as Request;
@@ -71,10 +71,7 @@ impl Record {
         if number != 0 {
             return number;
         }
-        if marks.len() != self.waiting as usize {
-            return 10;
-        }
-        if over_one(marks) {
+        if !fit(marks, self.waiting) {
             return 10;
         }
         0
@@ -96,18 +93,4 @@ fn newcomers(work: &[u8], g: u32, n: u32) -> u32
         i += 1;
     }
     count
-}
-
-// Whether a mark is over 1.
-fn over_one(marks: &[u8]) -> bool
-    ensures { λ r. ⌜ r ≡ overOne (now (marks .entry)) ⌝ }
-{
-    let mut i = 0;
-    while i < marks.len() {
-        if 1 < marks[i] {
-            return true;
-        }
-        i += 1;
-    }
-    false
 }

@@ -13,7 +13,8 @@ use Rattle.cells.specs.Entry.{blockBytes, Entry}
 use Rattle.cells.specs.Same.Laws.{same-self}
 use Rattle.card.specs.Disk.{Disk, lay, overlay}
 use Rattle.card.specs.Card.{blockAt, blocksIn}
-use Rattle.card.specs.Marks.{overOne, marksFit, keptAt, allKept}
+use Rattle.card.specs.Marks.{keptAt, allKept}
+use Rattle.card.proofs.MarkLaws.{marksOf-all}
 use Rattle.journal.specs.Geometry.{trap}
 use Rattle.journal.specs.Geometry.Laws.{trap-descriptors}
 use Rattle.journal.specs.declared.lookup.Found.{Found}
@@ -37,7 +38,7 @@ use Rattle.history.specs.History.{World, begun, next, after, storeNext, 
 use Rattle.history.specs.Statements as S
 use Rattle.history.specs.Statements.{noCut, EndsFinished, noneFinished, shortSync, Fate, quiet, decided, Progress, known, undecided, observe, fate, outcome}
 use Rattle.history.specs.Linked.{AllPassable}
-use Rattle.history.specs.Worked.{halted, sevens, nines, at40, filed, crashed, answers, Script, Worked}
+use Rattle.history.specs.Worked.{halted, cut101, cut111, sevens, nines, at40, filed, crashed, answers, Script, Worked}
 use Rattle.history.proofs.Relation.Sim.{cutSettled, cutWritten}
 use Rattle.history.proofs.Steps.Shown.{WorldSim}
 use Rattle.history.proofs.Steps.Cut.{found-cut, exception-cut}
@@ -45,7 +46,7 @@ use Rattle.history.proofs.Steps.ListInduction.{begun-sim}
 use Rattle.history.proofs.Atomicity.ReadsBack.{power-served, cut-accepted}
 use Rattle.history.proofs.Atomicity.Splits.{SplitReading, split-reading}
 use Rattle.history.proofs.Worked.Sums.{other-sum}
-use Rattle.history.proofs.Worked.Plain.{openAt, downAt, closedAt, plain-put, plain-commit, plain-filed, plain-power, plain-halted, plain-torn, plain-whole, plain-again, plain-fallback, plain-found, Went, went}
+use Rattle.history.proofs.Worked.Plain.{openAt, downAt, closedAt, plain-put, plain-commit, plain-filed, plain-power, plain-halted, fits-101, header-101, fits-111, header-111, plain-torn, plain-whole, plain-again, plain-fallback, plain-found, Went, went}
 use Rattle.history.proofs.Worked.Sync.{group-is, grouped-is, no-inner, filed-log, filed-next, halted-written, halted-torn, halted-whole}
 use Rattle.history.proofs.Worked.Blank.{blank}
 
@@ -163,7 +164,7 @@ module _ (w : World) (m : Filed w) where
   first-slot : slotE trap (blockAt (v₃ w .store .settled)) 0 ≡ at40 sevens
   first-slot = ap (λ (l : List Entry). getD l 0 (at40 sevens)) (ap (λ (s : List ℕ). logD trap (blockAt s) 1) same-settled ∙ m .log)
 
-  torn-log : foundIn trap (cutSettled (1 ∷ 0 ∷ 1 ∷ []) (storeNext trap sync (v₃ w))) ≡ log-found
+  torn-log : foundIn trap (cutSettled cut101 (storeNext trap sync (v₃ w))) ≡ log-found
   torn-log =
       halted-torn (v₃ w) (t₃ .sim) old nines (t₃ .plain)
       ∙ ap₂ (λ (e : Entry) (a : ℕ). e ∷ record { address = a; block = nines } ∷ []) first-slot
@@ -215,28 +216,34 @@ record Cuts (w : World) (ms : List ℕ) (same : Bool) (k : ℕ) : Type 0 where
   cuts : plainStep trap (cut ms) same (downAt old (at40 nines ∷ [])) ≡ still (closedAt S n 0 F)
   recovers : (t : Bool) → plainStep trap recover t (closedAt S n 100 F) ≡ record { answer = 0; orders = k; plain = openAt S [] [] n left }
 
-torn-cuts : (w : World) → Filed w → Cuts w (1 ∷ 0 ∷ 1 ∷ []) false 2
-unfolding refusal marksFit overOne headerKept keptAt
-torn-cuts w m = record {
-  fit = refl;
-  found = found-is w m (1 ∷ 0 ∷ 1 ∷ []) refl ∙ ap₂ sameLog (torn-log w m) (own-log w m (1 ∷ 0 ∷ 1 ∷ []) refl) ∙ other-log;
-  usual = exception-is w m (1 ∷ 0 ∷ 1 ∷ []) refl ∙ ap₂ collides (torn-log w m) (own-log w m (1 ∷ 0 ∷ 1 ∷ []) refl) ∙ no-collision;
-  S = old;
-  n = 1;
-  F = true;
-  left = 98;
-  cuts = plain-torn old nines;
-  recovers = λ t. plain-fallback t old 1;
-}
+all-111 : allKept cut111 ≡ true
+all-111 = marksOf-all _
 
-whole-cuts : (w : World) → Filed w → Cuts w (1 ∷ 1 ∷ 1 ∷ []) true 0
-unfolding refusal marksFit overOne allKept
-whole-cuts w m =
-    let same = halted-whole (v₃ w) (t₃ w m .sim) old nines (t₃ w m .plain) (1 ∷ 1 ∷ 1 ∷ []) refl refl in
+torn-cuts : (w : World) → Filed w → Cuts w cut101 false 2
+unfolding refusal headerKept
+torn-cuts w m =
+    let fit : refusal trap (cut cut101) (downAt old (at40 nines ∷ [])) ≡ 0 = rw fits-101 in
     record {
-      fit = refl;
-      found = found-is w m (1 ∷ 1 ∷ 1 ∷ []) refl ∙ same;
-      usual = exception-is w m (1 ∷ 1 ∷ 1 ∷ []) refl ∙ same-fits _ _ same;
+      fit = fit;
+      found = found-is w m cut101 fit ∙ ap₂ sameLog (torn-log w m) (own-log w m cut101 header-101) ∙ other-log;
+      usual = exception-is w m cut101 fit ∙ ap₂ collides (torn-log w m) (own-log w m cut101 header-101) ∙ no-collision;
+      S = old;
+      n = 1;
+      F = true;
+      left = 98;
+      cuts = plain-torn old nines;
+      recovers = λ t. plain-fallback t old 1;
+    }
+
+whole-cuts : (w : World) → Filed w → Cuts w cut111 true 0
+unfolding refusal
+whole-cuts w m =
+    let fit : refusal trap (cut cut111) (downAt old (at40 nines ∷ [])) ≡ 0 = rw fits-111 in
+    let same = halted-whole (v₃ w) (t₃ w m .sim) old nines (t₃ w m .plain) cut111 fits-111 all-111 in
+    record {
+      fit = fit;
+      found = found-is w m cut111 fit ∙ same;
+      usual = exception-is w m cut111 fit ∙ same-fits _ _ same;
       S = overlay (at40 nines ∷ []) old;
       n = 2;
       F = false;
@@ -372,13 +379,13 @@ module _ (st : State) (f : formatCall trap st .answer ≡ 0) (size : blocksIn (s
           block = x .1 ∙ ap₂ (λ (u : Fate) (d : Plain). outcome u (d .S) 40) z (s₃ .plain) ∙ e;
         }
 
-  torn : Script st (1 ∷ 0 ∷ 1 ∷ []) false false false 2 sevens
-  unfolding allKept keptAt overlay lay
-  torn = script (1 ∷ 0 ∷ 1 ∷ []) false 2 (torn-cuts w₃ all-filed) false false sevens refl refl refl
+  torn : Script st cut101 false false false 2 sevens
+  unfolding overlay lay
+  torn = script cut101 false 2 (torn-cuts w₃ all-filed) false false sevens (ap (λ (t : Bool). t && false) header-101) (marksOf-all _) refl
 
-  whole : Script st (1 ∷ 1 ∷ 1 ∷ []) true true true 0 nines
-  unfolding allKept keptAt overlay lay
-  whole = script (1 ∷ 1 ∷ 1 ∷ []) true 0 (whole-cuts w₃ all-filed) true true nines refl refl refl
+  whole : Script st cut111 true true true 0 nines
+  unfolding overlay lay
+  whole = script cut111 true 0 (whole-cuts w₃ all-filed) true true nines (ap (λ (t : Bool). t && true) header-111) all-111 refl
 
 pub worked : Worked
 worked = record { torn = torn; whole = whole; card = blank }

@@ -1,6 +1,7 @@
 -- The card of the worked scripts: a first append of one entry, and a second one that is cut short behind its header.
 use Prim.Native.Nat.{ℕ, _+_, _*_, _-_, _≤_, _<_}
 use mathlib.Core.Path.{_≡_, refl, ap, ap₂, sym, _∙_}
+use mathlib.Core.Bool.{Bool, true, false}
 use mathlib.Core.List.{List, [], _∷_, _++_, append-assoc}
 use native.Mathlib.Omega.{arith}
 use lib.ListN.{length, take, drop, replicate, length-append}
@@ -12,11 +13,12 @@ use Rattle.cells.specs.Little.Laws.{num-nil, num-cons}
 use Rattle.cells.specs.Entry.{blockBytes, Entry}
 use Rattle.cells.specs.Entry.Laws.{entry-eq}
 use Rattle.card.specs.Disk.{Disk, lay, overlay}
-use Rattle.card.specs.Card.{Card, kept, cut, settle, blockAt, blocksIn}
+use Rattle.card.specs.Card.{Card, cut, settle, blockAt, blocksIn}
+use Rattle.card.specs.Marks.{marksOf}
 use Rattle.card.proofs.All.{All, all-take}
 use Rattle.card.proofs.Runs.{Whole, settle-overlay}
-use Rattle.card.proofs.Cuts.{cut-block}
-use Rattle.card.specs.Marks.{overOne, marksFit, keptAt}
+use Rattle.card.proofs.MarkLaws.{chosen, marksOf-fit, marksOf-kept}
+use Rattle.card.proofs.Leaves.{cut-chosen}
 use Rattle.journal.specs.Geometry.{trap}
 use Rattle.journal.specs.Layout.{descriptorAt}
 use Rattle.journal.specs.Orders.{addressBytes, describe}
@@ -26,6 +28,7 @@ use Rattle.crash.proofs.Batches.{Left}
 use Rattle.crash.proofs.CallCuts.{left-leaves}
 use Rattle.crash.proofs.Leads.{foundIn, found-log}
 use Rattle.crash.proofs.Logs.{slotE}
+use Rattle.history.specs.Worked.{cut101}
 use Rattle.crash.proofs.Appends.{writes-whole}
 use Rattle.history.proofs.Steps.AppendEnds.{Appends}
 
@@ -50,14 +53,13 @@ describe-beyond old n es i h l k =
 no-number : num (replicate 4 0) ≡ 0
 no-number = rw (num-cons, num-cons, num-cons, num-cons, num-nil)
 
--- kept writes, and settled ones, laid over the blocks
-pub cut-laid : (c r : Card) (s : List ℕ) (q : List Entry) (p : ℕ) (ms : List ℕ) (a : ℕ) → Left c r s q p → a < blocksIn s → All Whole q
-    → blockAt (cut ms r .settled) a ≡ overlay (kept ms q) (blockAt s) a
-unfolding trap
-cut-laid c r s q p ms a l h w =
-    cut-block ms r a (rw (l .settled) h) (rw (l .waits) w)
-    ∙ ap (λ (x : List Entry). overlay (kept ms x) (blockAt (r .settled)) a) (l .waits)
-    ∙ ap (λ (x : List ℕ). overlay (kept ms q) (blockAt x) a) (l .settled)
+-- the chosen writes laid over the blocks
+cut-laid : (c r : Card) (s : List ℕ) (q : List Entry) (p : ℕ) (ks : List Bool) (a : ℕ) → Left c r s q p → a < blocksIn s → All Whole q
+    → blockAt (cut (marksOf ks) r .settled) a ≡ overlay (chosen ks q) (blockAt s) a
+cut-laid c r s q p ks a l h w =
+    cut-chosen ks r a (rw (l .settled) h) (rw (l .waits) w)
+    ∙ ap (λ (x : List Entry). overlay (chosen ks x) (blockAt (r .settled)) a) (l .waits)
+    ∙ ap (λ (x : List ℕ). overlay (chosen ks q) (blockAt x) a) (l .settled)
 
 -- after a first append of one entry the descriptor has 0 in its second place
 pub second-zero : {N : ℕ} {s : List ℕ} {h : ℕ} {e : Entry} {v : List Entry} {S : Disk} → Appends trap N s 0 h (e ∷ []) v S
@@ -73,15 +75,15 @@ second-zero {N} {s} {h} {e} x =
 -- a second one, whose descriptor alone is lost: the new block is found under the address that stood there
 pub torn-found : {N : ℕ} {s : List ℕ} {h : ℕ} {e : Entry} {v : List Entry} {S : Disk} → Appends trap N s 1 h (e ∷ []) v S
     → (c r : Card) → Left c r s (take 3 (appendWrites trap N s 1 h (e ∷ []))) 0
-    → foundIn trap (cut (1 ∷ 0 ∷ 1 ∷ []) r .settled) ≡ slotE trap (blockAt s) 0 ∷ record { address = num (cell 4 (blockAt s descriptorAt) 1); block = e .block } ∷ []
-unfolding overlay lay slotBlocks kept slotE marksFit overOne keptAt trap
+    → foundIn trap (cut cut101 r .settled) ≡ slotE trap (blockAt s) 0 ∷ record { address = num (cell 4 (blockAt s descriptorAt) 1); block = e .block } ∷ []
+unfolding overlay lay slotBlocks slotE trap
 torn-found {N} {s} {h} {e} {v} {S} x c r f =
-    let ms : List ℕ = 1 ∷ 0 ∷ 1 ∷ [] in
-    let laid : (a : ℕ) → a < N → blockAt (cut ms r .settled) a ≡ overlay (kept ms (appendWrites trap N s 1 h (e ∷ []))) (blockAt s) a =
-    λ a l. cut-laid c r s (take 3 (appendWrites trap N s 1 h (e ∷ []))) 0 ms a f (omega (arith, x .behind .size)) (all-take Whole 3 (appendWrites trap N s 1 h (e ∷ [])) (writes-whole trap N s 1 h (e ∷ []) (x .blocks))) in
-    found-log trap x (cut ms r .settled) ms
-    (left-leaves c r s (take 3 (appendWrites trap N s 1 h (e ∷ []))) 0 N ms f (omega (arith, x .behind .big)) (x .behind .size) refl (all-take Whole 3 (appendWrites trap N s 1 h (e ∷ [])) (writes-whole trap N s 1 h (e ∷ []) (x .blocks))))
-    refl
+    let ks : List Bool = true ∷ false ∷ true ∷ [] in
+    let laid : (a : ℕ) → a < N → blockAt (cut cut101 r .settled) a ≡ overlay (chosen ks (appendWrites trap N s 1 h (e ∷ []))) (blockAt s) a =
+    λ a l. cut-laid c r s (take 3 (appendWrites trap N s 1 h (e ∷ []))) 0 ks a f (omega (arith, x .behind .size)) (all-take Whole 3 (appendWrites trap N s 1 h (e ∷ [])) (writes-whole trap N s 1 h (e ∷ []) (x .blocks))) in
+    found-log trap x (cut cut101 r .settled) cut101
+    (left-leaves c r s (take 3 (appendWrites trap N s 1 h (e ∷ []))) 0 N cut101 f (omega (arith, x .behind .big)) (x .behind .size) (marksOf-fit ks 3 refl) (all-take Whole 3 (appendWrites trap N s 1 h (e ∷ [])) (writes-whole trap N s 1 h (e ∷ []) (x .blocks))))
+    (marksOf-kept ks 2)
     ∙ ap₂ (λ (a b : Entry). a ∷ b ∷ [])
     (entry-eq (ap (λ (b : List ℕ). num (cell 4 b 0)) (laid 1 (omega (arith, x .behind .big)))) (laid 2 (omega (arith, x .behind .big))))
     (entry-eq (ap (λ (b : List ℕ). num (cell 4 b 1)) (laid 1 (omega (arith, x .behind .big)))) (laid 3 (omega (arith, x .behind .big))))

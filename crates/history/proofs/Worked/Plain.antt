@@ -6,13 +6,14 @@ use mathlib.Core.List.{List, [], _∷_}
 use lib.ListN.{length}
 use Rattle.cells.specs.Entry.{blockBytes, Entry}
 use Rattle.card.specs.Disk.{Disk, overlay}
-use Rattle.card.specs.Marks.{overOne, marksFit, keptAt}
+use Rattle.card.specs.Marks.{marksFit, keptAt}
+use Rattle.card.proofs.MarkLaws.{marksOf-fit, marksOf-kept}
 use Rattle.journal.specs.Geometry.{trap}
 use Rattle.history.specs.Call.{Call, power, put, commit, sync, recover, cut}
 use Rattle.history.specs.Plain.{Plain, Done, ofSync, blankPlain, withS, withLists, withCount, withPower, done, cutShort, closedWith, has, insert, merge, refusal, headerKept, verdict, ownVerdict, plainSync, plainRecover, plainCut, plainStep, still}
 use Rattle.history.specs.Dispatch.{dispatch}
 use Rattle.history.specs.History.{World, next, foundWritten, exception}
-use Rattle.history.specs.Worked.{at40}
+use Rattle.history.specs.Worked.{at40, cut101, cut111}
 use Rattle.history.proofs.Steps.Shown.{WorldSim}
 use Rattle.history.proofs.Steps.ListInduction.{step, next-sim}
 
@@ -49,13 +50,26 @@ pub plain-halted : (t : Bool) (S : Disk) (b : List ℕ) → plainStep trap sync 
 unfolding plainStep refusal plainSync trap
 plain-halted t S b = refl
 
-pub plain-torn : (S : Disk) (b : List ℕ) → plainStep trap (cut (1 ∷ 0 ∷ 1 ∷ [])) false (downAt S (at40 b ∷ [])) ≡ still (closedAt S 1 0 true)
-unfolding plainStep refusal marksFit overOne plainCut headerKept keptAt verdict ownVerdict trap
-plain-torn S b = refl
+-- the cuts 101 and 111 fit three writes and keep the last, a header
+pub fits-101 : marksFit cut101 3 ≡ true
+fits-101 = marksOf-fit _ 3 refl
 
-pub plain-whole : (S : Disk) (b : List ℕ) → plainStep trap (cut (1 ∷ 1 ∷ 1 ∷ [])) true (downAt S (at40 b ∷ [])) ≡ still (closedAt (overlay (at40 b ∷ []) S) 2 0 false)
-unfolding plainStep refusal marksFit overOne plainCut headerKept keptAt verdict ownVerdict trap
-plain-whole S b = refl
+pub header-101 : keptAt cut101 2 ≡ true
+header-101 = marksOf-kept _ 2
+
+pub fits-111 : marksFit cut111 3 ≡ true
+fits-111 = marksOf-fit _ 3 refl
+
+pub header-111 : keptAt cut111 2 ≡ true
+header-111 = marksOf-kept _ 2
+
+pub plain-torn : (S : Disk) (b : List ℕ) → plainStep trap (cut cut101) false (downAt S (at40 b ∷ [])) ≡ still (closedAt S 1 0 true)
+unfolding plainStep refusal plainCut headerKept verdict ownVerdict trap
+plain-torn S b = rw (fits-101, header-101)
+
+pub plain-whole : (S : Disk) (b : List ℕ) → plainStep trap (cut cut111) true (downAt S (at40 b ∷ [])) ≡ still (closedAt (overlay (at40 b ∷ []) S) 2 0 false)
+unfolding plainStep refusal plainCut headerKept verdict ownVerdict trap
+plain-whole S b = rw (fits-111, header-111)
 
 pub plain-again : (t : Bool) (S : Disk) (n p k : ℕ) (F : Bool) → plainStep trap (power k) t (closedAt S n p F) ≡ still (closedAt S n k F)
 unfolding plainStep refusal

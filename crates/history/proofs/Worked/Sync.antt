@@ -11,7 +11,7 @@ use Rattle.cells.specs.Little.{num}
 use Rattle.cells.specs.Entry.{Entry}
 use Rattle.card.specs.Disk.{Disk}
 use Rattle.card.specs.Card.{Card, run, cut, settle, blockAt}
-use Rattle.card.specs.Marks.{marksFit, keptAt, allKept}
+use Rattle.card.specs.Marks.{marksFit, allKept}
 use Rattle.journal.specs.Geometry.{trap}
 use Rattle.journal.specs.Geometry.Laws.{trap-descriptors}
 use Rattle.journal.specs.Layout.{descriptorAt}
@@ -28,7 +28,7 @@ use Rattle.history.specs.Plain.{Plain, refusal, headerKept}
 use Rattle.history.specs.Dispatch.{dispatch}
 use Rattle.history.specs.Ledger.{waitsBehind, syncHeaders, noted, entered, applyHeader, ownHeader, standing, inner, resolved, sameLog}
 use Rattle.history.specs.History.{World, storeNext, ledgerNext}
-use Rattle.history.specs.Worked.{at40}
+use Rattle.history.specs.Worked.{at40, cut101}
 use Rattle.crash.proofs.Plans.{planned, takes}
 use Rattle.history.proofs.Steps.AppendEnds.{Appends, done-card}
 use Rattle.history.proofs.Relation.Sim.{OpenSim, cutSettled, cutWritten}
@@ -181,15 +181,15 @@ module _ (w : World) (m : WorldSim trap w) (S : Disk) (b : List ℕ) (d : w .pla
 module _ (w : World) (m : WorldSim trap w) (S : Disk) (b : List ℕ) (d : w .plain ≡ openAt S (at40 b ∷ []) [] 1 3) where
   -- the log written, by a header that is kept
   pub halted-written : (ms : List ℕ) → headerKept ms 3 ≡ true → cutWritten ms (ledgerNext trap sync w) ≡ logD trap (blockAt (w .store .settled)) 1 ++ (at40 b ∷ [])
-  unfolding resolved headerKept keptAt
+  unfolding resolved headerKept
   halted-written ms k =
       ap (cutWritten ms) (halted-ledger w m S b 1 3 (omega arith) d refl)
       ∙ ap (λ (t : Bool). cond t (logD trap (blockAt (w .store .settled)) 1 ++ (at40 b ∷ [])) (w .ledger .written)) k
 
-  pub halted-torn : foundIn trap (cutSettled (1 ∷ 0 ∷ 1 ∷ []) (storeNext trap sync w))
+  pub halted-torn : foundIn trap (cutSettled cut101 (storeNext trap sync w))
       ≡ slotE trap (blockAt (w .store .settled)) 0 ∷ record { address = num (cell 4 (blockAt (w .store .settled) descriptorAt) 1); block = b } ∷ []
   halted-torn =
-      ap (foundIn trap) (halted-settled w m S b 1 3 (omega arith) d refl (1 ∷ 0 ∷ 1 ∷ []))
+      ap (foundIn trap) (halted-settled w m S b 1 3 (omega arith) d refl cut101)
       ∙ torn-found (base-now w m S b 1 3 (omega arith) d) (cardIn (w .store)) (r w m S b 1 3 (omega arith) d) (halted-left w m S b 1 3 (omega arith) d refl)
 
   pub halted-whole : (ms : List ℕ) → marksFit ms 3 ≡ true → allKept ms ≡ true → sameLog (foundIn trap (cutSettled ms (storeNext trap sync w))) (cutWritten ms (ledgerNext trap sync w)) ≡ true

@@ -1,11 +1,8 @@
 -- `store::record::Record::cut_number` meets its contract.
-use mathlib.Core.Path.{_≡_}
-use mathlib.Core.Bool.{cond}
-use mathlib.Core.Logic.{_≢_}
-use native.Mathlib.Omega.{arith}
+use mathlib.Core.Path.{_≡_, ap, sym, _∙_}
+use mathlib.Core.Bool.{true, false, cond, not}
 use borrow.Author.Tests.{eq-eqb, ne-eqb}
 use lib.Dec.{eqb}
-use lib.ListN.{length}
 use Rattle.card.specs.Marks.{marksFit}
 use Rattle.journal.specs.Geometry.{trap}
 use Rattle.store.specs.State.{State}
@@ -27,41 +24,26 @@ table-of c =
     let start = c .before .before .before .before .before in
     cause-2 trap (given start) (c .bad-record .result) (ownRows trap (cut (start .args .marks .now))) (c .bad-record .ensures)
 
-as-many : (c : tie.Else2) → length (c .before .before .before .before .before .before .before .before .args .marks .now) ≡ c .before .before .before .before .before .before .before .before .args .self .waiting
-as-many c = omega arith
-
 bad-record-requires : tie.Need-bad-record-requires
 bad-record-requires c κs = search needs
 
 returns : tie.Need-returns
 returns c = rw (table-of (c .before), ne-eqb _ _ (c .if1 .taken))
 
-cast-if2 : tie.Need-cast-if2
-cast-if2 c = search needs
+fit-requires : tie.Need-fit-requires
+fit-requires c κs = search needs
 
 returns-2 : tie.Need-returns-2
-unfolding marksFit
 returns-2 c =
     let a = c .before .before .before .before .before .before .before .before .args in
-    let unlike : length (a .marks .now) ≢ a .self .waiting = λ e. omega arith in
-    rw (table-of (c .before .before .before), eq-eqb _ _ (c .before .before .if1 .left), ne-eqb _ _ unlike)
-
-over-one-requires : tie.Need-over-one-requires
-over-one-requires c κs = search needs
+    let unfit : not (marksFit (a .marks .now) (a .self .waiting)) ≡ true = ap not (sym (c .before .fit .ensures)) ∙ c .if2 .taken in
+    rw (table-of (c .before .before .before), eq-eqb _ _ (c .before .before .if1 .left), unfit)
 
 returns-3 : tie.Need-returns-3
-unfolding marksFit
 returns-3 c =
-    let many = as-many (c .before .before) in
-    rw (table-of (c .before .before .before .before .before), eq-eqb _ _ (c .before .before .before .before .if1 .left), eq-eqb _ _ many, ← c .before .over-one .ensures, c .if3 .taken)
-
-returns-4 : tie.Need-returns-4
-unfolding marksFit
-returns-4 c =
-    let many = as-many (c .before .before) in
-    rw (table-of (c .before .before .before .before .before), eq-eqb _ _ (c .before .before .before .before .if1 .left), eq-eqb _ _ many, ← c .before .over-one .ensures, c .if3 .left)
+    let a = c .before .before .before .before .before .before .before .before .args in
+    let fits : not (marksFit (a .marks .now) (a .self .waiting)) ≡ false = ap not (sym (c .before .fit .ensures)) ∙ c .if2 .left in
+    rw (table-of (c .before .before .before), eq-eqb _ _ (c .before .before .if1 .left), fits)
 
 pub cut-number-spec : {M : Type 1} → statement M
-cut-number-spec =
-    tie.close
-    (tie.spec bad-record-requires returns cast-if2 returns-2 over-one-requires returns-3 returns-4)
+cut-number-spec = tie.close (tie.spec bad-record-requires returns fit-requires returns-2 returns-3)

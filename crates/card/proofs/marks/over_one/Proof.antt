@@ -1,7 +1,7 @@
--- `store::refusals::over_one` meets its contract.
+-- `card::marks::over_one` meets its contract.
 use Prim.Native.Nat.{ℕ, _+_, _-_, _≤_, _<_}
 use mathlib.Core.Path.{_≡_, refl, ap, sym, _∙_}
-use mathlib.Core.Bool.{_||_}
+use mathlib.Core.Bool.{true, false, _||_}
 use mathlib.Core.List.{List}
 use native.Mathlib.Numerals.{add-one}
 use native.Mathlib.Omega.{arith}
@@ -9,9 +9,9 @@ use borrow.Author.Tests.{lt-ltb, le-ltb}
 use lib.Dec.{ltb}
 use lib.ListN.{length, getD, drop, drop-of-length-le}
 use lib.Seq.{drop-cons}
 use Rattle.card.specs.Marks.{overOne}
-use Rattle.store.proofs.refusals.over_one.Statement.{statement}
-use Rattle.store.proofs.refusals.over_one.Tie as tie
+use Rattle.card.proofs.marks.over_one.Statement.{statement}
+use Rattle.card.proofs.marks.over_one.Tie as tie
 
 abbrev Inv-loop : tie.InvT-loop
 Inv-loop marks i₀ i = (i ≤ length marks) × (overOne (drop i marks) ≡ overOne marks)
@@ -33,7 +33,8 @@ shared-slice-read-if1 c = omega arith
 returns : tie.Need-returns Inv-loop μ-loop
 returns c =
     let a = c .before .before .before in
-    sym (sym (a .loop .inv .1) ∙ more (a .before .args .marks .now) (a .loop .i) (omega arith) ∙ rw (lt-ltb _ _ (c .if1 .taken)))
+    let high : ltb 1 (getD (a .before .args .marks .now) (a .loop .i) 0) ≡ true = lt-ltb _ _ (c .if1 .taken) in
+    sym (sym (a .loop .inv .1) ∙ more (a .before .args .marks .now) (a .loop .i) (omega arith) ∙ rw high)
 
 add-i : tie.Need-add-i Inv-loop μ-loop
 add-i c = omega arith
@@ -44,7 +45,8 @@ loop-less c = omega arith
 loop-again : tie.Need-loop-again Inv-loop μ-loop
 loop-again c =
     let a = c .before .before .before in
-    (omega arith, sym (more (a .before .args .marks .now) (a .loop .i) (omega arith) ∙ rw (le-ltb _ _ (c .if1 .left))) ∙ a .loop .inv .1)
+    let low : ltb 1 (getD (a .before .args .marks .now) (a .loop .i) 0) ≡ false = le-ltb _ _ (c .if1 .left) in
+    (omega arith, sym (more (a .before .args .marks .now) (a .loop .i) (omega arith) ∙ rw low) ∙ a .loop .inv .1)
 
 returns-2 : tie.Need-returns-2 Inv-loop μ-loop
 unfolding overOne
