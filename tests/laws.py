@@ -5,9 +5,6 @@ import re
 import sys
 from pathlib import Path
 
-# the interface of the next issue, which nothing uses yet
-EXEMPT = ["crates/card/proofs/Cuts.antt"]
-
 ROOT = Path(__file__).resolve().parent.parent
 WORD = re.compile(r"[^\s(){}\[\],;:\"⌜⌝]+")
 USE = re.compile(r"^(?:ghost |unfoldable )?(pub )?use (\S+?)(?:\.\{(.*?)\}| as (\S+?))?;?$", re.M | re.S)
@@ -99,7 +96,7 @@ def main():
             if pub:
                 public[here, name] = file
             told = pub and name in reading and (file in reading or path.name in reading)
-            if told or file in EXEMPT or path.name == "Proof.antt" and name.endswith("-spec"):
+            if told or path.name == "Proof.antt" and name.endswith("-spec"):
                 roots.append((here, name))
     seen = set()
     while roots:
