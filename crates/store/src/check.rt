@@ -75,10 +75,14 @@ fn met(seen: u8, work: &[u8], from: usize, i: u32, a: u32) -> bool
 }
 
 // Row 2, a list in work memory: an address twice. Each address marks its bucket; only where that is marked is the list searched.
+// A list of one or none needs no buckets.
 fn twice(work: &[u8], from: usize, n: u32) -> bool
     requires { ⌜ entryBytes * (from + n) ≤ length (now work) ⌝ }
     ensures { λ r. ⌜ r ≡ Causes.twice (now (work .entry)) from n ⌝ }
 {
+    if n < 2 {
+        return false;
+    }
     let mut seen = [0u8; BUCKETS];
     let mut i = 0;
     while i < n {
