@@ -53,12 +53,12 @@ fn strays(work: &[u8], blocks: u32, from: usize, n: u32) -> bool
     requires { ⌜ entryBytes * (from + n) ≤ length (now work) ⌝ }
     ensures { λ r. ⌜ r ≡ Causes.strays trap (now (work .entry)) blocks from n ⌝ }
 {
-    let mut i = n;
-    while 0 < i {
-        i -= 1;
+    let mut i = 0;
+    while i < n {
         if !is_data(blocks, address(work, from, i)) {
             return true;
         }
+        i += 1;
     }
     false
 }
@@ -128,12 +128,13 @@ impl Record {
         requires { ⌜ entryBytes * self .waiting ≤ length (now waiting) ⌝ }
         ensures { λ r. ⌜ ((s k : List ℕ) → r ≡ Causes.wrongWaiting (stateOf self s (now (waiting .entry)) k)) ⌝ }
     {
-        let mut i = self.waiting as usize;
-        while 0 < i {
-            i -= 1;
+        let n = self.waiting as usize;
+        let mut i = 0;
+        while i < n {
             if self.blocks <= card::queue::address(waiting, i) {
                 return true;
             }
+            i += 1;
         }
         false
     }
