@@ -1,7 +1,7 @@
 -- The laws of the log's entries, their sum and the tests on them.
-use Prim.Native.Nat.{ℕ, zero, suc, _+_, _*_, _-_, _^_, _≤_, _<_}
+use Prim.Native.Nat.{ℕ, _+_, _*_, _^_, _≤_, _<_}
 use mathlib.Core.Path.{_≡_, refl, ap, sym, _∙_}
-use mathlib.Core.Bool.{Bool, true, false, _&&_, _||_, and-true, and-false, true≢false, false≢true}
+use mathlib.Core.Bool.{Bool, true, false, _&&_, _||_, and-true, true≢false, false≢true}
 use mathlib.Core.List.{List, [], _∷_, _++_, append-nil}
 use native.Mathlib.Numerals.{add-one}
 use native.Mathlib.Omega.{arith}
@@ -124,21 +124,13 @@ pub sum-more : (f : ℕ → Entry) (h i g : ℕ) (e : Entry) → g ≡ sumOf h (
 sum-more f h i g e p q = rw (add-one, p, q) (sym (sumOf-append h (upTo f i) (f i ∷ [])))
 
 module _ (geo : Geometry) where
-  -- the last of n addresses, then those before it
-  data-down : (N : ℕ) (s : List ℕ) (n : ℕ) → 0 < n → allData geo N (entries geo s n) ≡ allData geo N (entries geo s (n - 1)) && isData geo N (slotAddress s (n - 1))
+  -- one more address
+  pub data-more : (N : ℕ) (s : List ℕ) (i : ℕ) → allData geo N (entries geo s (i + 1)) ≡ allData geo N (entries geo s i) && isData geo N (slotAddress s i)
   unfolding allData slotEntry
-  data-down N s zero h = absurd (omega arith)
-  data-down N s (suc n) h =
-      let e : suc n - 1 ≡ n = omega arith in
-      rw e
-      (allData-append geo N (entries geo s n) (slotEntry geo s n ∷ [])
-      ∙ ap (λ (t : Bool). allData geo N (entries geo s n) && t) (and-true (isData geo N (slotAddress s n))))
-
-  pub data-stop : (N : ℕ) (s : List ℕ) (n : ℕ) → 0 < n → isData geo N (slotAddress s (n - 1)) ≡ false → allData geo N (entries geo s n) ≡ false
-  data-stop N s n h e = data-down N s n h ∙ rw (e, and-false)
-
-  pub data-on : (N : ℕ) (s : List ℕ) (n : ℕ) → 0 < n → isData geo N (slotAddress s (n - 1)) ≡ true → allData geo N (entries geo s n) ≡ allData geo N (entries geo s (n - 1))
-  data-on N s n h e = data-down N s n h ∙ rw (e, and-true)
+  data-more N s i =
+      rw (add-one)
+      (allData-append geo N (entries geo s i) (slotEntry geo s i ∷ [])
+      ∙ ap (λ (t : Bool). allData geo N (entries geo s i) && t) (and-true (isData geo N (slotAddress s i))))
 
   -- ---- what the log holds is whole, and its addresses fit four bytes
 

@@ -67,20 +67,20 @@ pub fn sum_entries(settled: &[u8], n: u32) -> u64
     sum
 }
 
-// Whether each of the first n addresses is that of a data block.
+// Whether each of the first n addresses is that of a data block. They are looked at to the last, so that their loop compiles to
+// vectors.
 pub fn all_data(settled: &[u8], blocks: u32, n: u32) -> bool
     requires { ⌜ firstData trap < blocksIn (now settled) ⌝ }
     requires { ⌜ n ≤ trap .slots ⌝ }
     ensures { λ r. ⌜ r ≡ allData trap blocks (entries trap (now (settled .entry)) n) ⌝ }
 {
-    let mut i = n;
-    while 0 < i {
-        i -= 1;
-        if !is_data(blocks, slot_address(settled, i)) {
-            return false;
-        }
+    let mut all = true;
+    let mut i = 0;
+    while i < n {
+        all = all & is_data(blocks, slot_address(settled, i));
+        i += 1;
     }
-    true
+    all
 }
 
 // Whether the first n entries are good: they have this sum, and each address is that of a data block.

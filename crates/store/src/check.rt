@@ -53,12 +53,12 @@ fn strays(work: &[u8], blocks: u32, from: usize, n: u32) -> bool
     requires { ⌜ entryBytes * (from + n) ≤ length (now work) ⌝ }
     ensures { λ r. ⌜ r ≡ Causes.strays trap (now (work .entry)) blocks from n ⌝ }
 {
-    let mut i = n;
-    while 0 < i {
-        i -= 1;
+    let mut i = 0;
+    while i < n {
         if !is_data(blocks, address(work, from, i)) {
             return true;
         }
+        i += 1;
     }
     false
 }
@@ -75,10 +75,14 @@ fn met(seen: u8, work: &[u8], from: usize, i: u32, a: u32) -> bool
 }
 
 // Row 2, a list in work memory: an address twice. Each address marks its bucket; only where that is marked is the list searched.
+// A list of one or none needs no buckets.
 fn twice(work: &[u8], from: usize, n: u32) -> bool
     requires { ⌜ entryBytes * (from + n) ≤ length (now work) ⌝ }
     ensures { λ r. ⌜ r ≡ Causes.twice (now (work .entry)) from n ⌝ }
 {
+    if n < 2 {
+        return false;
+    }
     let mut seen = [0u8; BUCKETS];
     let mut i = 0;
     while i < n {
@@ -124,12 +128,13 @@ impl Record {
         requires { ⌜ entryBytes * self .waiting ≤ length (now waiting) ⌝ }
         ensures { λ r. ⌜ ((s k : List ℕ) → r ≡ Causes.wrongWaiting (stateOf self s (now (waiting .entry)) k)) ⌝ }
     {
-        let mut i = self.waiting as usize;
-        while 0 < i {
-            i -= 1;
+        let n = self.waiting as usize;
+        let mut i = 0;
+        while i < n {
             if self.blocks <= card::queue::address(waiting, i) {
                 return true;
             }
+            i += 1;
         }
         false
     }

@@ -1,5 +1,5 @@
 -- `store::check::twice` meets its contract. The invariant: none of the first i is there twice, and each has marked its bucket.
-use Prim.Native.Nat.{ℕ, _-_, _%_, _≤_}
+use Prim.Native.Nat.{ℕ, zero, suc, _-_, _%_, _≤_, _<_}
 use mathlib.Core.Path.{_≡_, refl, ap, sym, _∙_}
 use mathlib.Core.Bool.{Bool, false, cond}
 use mathlib.Core.List.{List}
@@ -7,10 +7,11 @@ use native.Mathlib.Omega.{arith}
 use borrow.Author.Needs.{needs}
 use lib.Dec.{eqb}
 use lib.ListN.{length, getD, length-set}
+use Rattle.journal.specs.Lookup.{lastOf}
 use Rattle.journal.proofs.Lookups.{Marked, mark-more}
 use Rattle.store.proofs.Causes.{climb-none, climb-hit, climb-on, met-found}
 use Rattle.store.specs.Lists.{listed, find}
-use Rattle.store.specs.Causes.{isFound, twice}
+use Rattle.store.specs.Causes.{isFound, some, twice}
 use Rattle.store.proofs.check.twice.Statement.{statement}
 use Rattle.store.proofs.check.twice.Tie as tie
 
@@ -35,8 +36,18 @@ asked : (work : List ℕ) (from i : ℕ) (seen : List ℕ) (a : ℕ) (r : Bool)
 asked work from i seen a r e f marked =
     ap (λ (x : ℕ). isFound (find work from i x)) (sym e) ∙ sym (met-found (addresses work from) seen i a marked) ∙ sym f
 
+-- a list of one or none
+single : (work : List ℕ) (from n : ℕ) → n < 2 → false ≡ twice work from n
+unfolding lastOf some
+single work from zero h = refl
+single work from (suc zero) h = refl
+single work from (suc (suc n)) h = absurd (omega arith)
+
+returns : tie.Need-returns Inv-loop μ-loop
+returns c = single (c .before .before .args .work .now) (c .before .before .args .from) (c .before .before .args .n) (c .if1 .taken)
+
 loop-holds : tie.Need-loop-holds Inv-loop μ-loop
-loop-holds c = (omega arith, refl, climb-none (again (c .before .args .work .now) (c .before .args .from)), λ j h. absurd (omega arith))
+loop-holds c = (omega arith, refl, climb-none (again (c .before .before .args .work .now) (c .before .before .args .from)), λ j h. absurd (omega arith))
 
 address-requires : tie.Need-address-requires Inv-loop μ-loop
 address-requires c κs = search needs
@@ -50,12 +61,12 @@ array-read-met c = omega arith
 met-requires : tie.Need-met-requires Inv-loop μ-loop
 met-requires c κs = search needs
 
-returns : tie.Need-returns Inv-loop μ-loop
-returns c =
+returns-2 : tie.Need-returns-2 Inv-loop μ-loop
+returns-2 c =
     let l = c .before .before .before .before .loop in
-    let a = c .before .before .before .before .before .before .args in
+    let a = c .before .before .before .before .before .before .before .args in
     let hit = asked (a .work .now) (a .from) (l .i) (l .seen) _ _ (c .before .before .address .ensures) (c .before .met .ensures) (l .inv .3) in
-    climb-hit (again (a .work .now) (a .from)) (l .i) (a .n) (omega arith) (hit ∙ c .if1 .taken)
+    climb-hit (again (a .work .now) (a .from)) (l .i) (a .n) (omega arith) (hit ∙ c .if2 .taken)
 
 array-write-seen : tie.Need-array-write-seen Inv-loop μ-loop
 array-write-seen c = omega arith
@@ -69,15 +80,15 @@ loop-less c = omega arith
 loop-again : tie.Need-loop-again Inv-loop μ-loop
 loop-again c =
     let l = c .before .before .before .before .loop in
-    let a = c .before .before .before .before .before .before .args in
+    let a = c .before .before .before .before .before .before .before .args in
     let e = c .before .before .address .ensures in
     let missed = asked (a .work .now) (a .from) (l .i) (l .seen) _ _ e (c .before .met .ensures) (l .inv .3) in
-    (omega arith, simp length-set (l .inv .1), climb-on (again (a .work .now) (a .from)) (l .i) (l .inv .2) (missed ∙ c .if1 .left), mark-more (addresses (a .work .now) (a .from)) (l .seen) (l .i) _ (l .inv .1) e (l .inv .3))
+    (omega arith, simp length-set (l .inv .1), climb-on (again (a .work .now) (a .from)) (l .i) (l .inv .2) (missed ∙ c .if2 .left), mark-more (addresses (a .work .now) (a .from)) (l .seen) (l .i) _ (l .inv .1) e (l .inv .3))
 
-returns-2 : tie.Need-returns-2 Inv-loop μ-loop
-returns-2 c =
+returns-3 : tie.Need-returns-3 Inv-loop μ-loop
+returns-3 c =
     let l = c .before .loop in
-    let a = c .before .before .before .args in
+    let a = c .before .before .before .before .args in
     let over : l .i ≡ a .n = omega arith in
     sym (rw over at (l .inv .2))
 
@@ -87,14 +98,15 @@ twice-spec =
     (tie.spec
     Inv-loop
     μ-loop
+    returns
     loop-holds
     address-requires
     cast-bucket
     array-read-met
     met-requires
-    returns
+    returns-2
     array-write-seen
     add-i
     loop-less
     loop-again
-    returns-2)
+    returns-3)
