@@ -1,5 +1,5 @@
 -- What the data blocks hold, and the character for what is found.
-use Prim.Native.Nat.{ℕ, _+_, _*_}
+use Prim.Native.Nat.{ℕ, _+_, _*_, _-_}
 use mathlib.Core.Bool.{Bool, true, false, cond, not, _&&_, _||_}
 use mathlib.Core.List.{List}
 use lib.Dec.{eqb, ltb}
@@ -36,9 +36,13 @@ holds address age st = same (bytesAt (getPlace trap address st) st) (filled addr
 abbrev pub isOther : ℕ → Bool → State → ℕ → Bool
 isOther saves after st i = not (holds (firstData trap + i) (ageOf (firstData trap + i) saves after) st)
 
--- one of the 30 data blocks is
+-- the data blocks of a card of 64 blocks: 30
+abbrev pub dataBlocks : ℕ
+dataBlocks = 64 - firstData trap
+
+-- one of them is
 abbrev pub hasOther : ℕ → Bool → State → Bool
-hasOther saves after st = some (isOther saves after st) 30
+hasOther saves after st = some (isOther saves after st) dataBlocks
 
 -- `o`: all are old; `n`: all are new; `?`: anything else
 unfoldable pub letterOf : ℕ → State → ℕ

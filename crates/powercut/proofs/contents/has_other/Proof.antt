@@ -9,12 +9,12 @@ use Rattle.store.specs.State.{State}
 use Rattle.store.specs.CodeState.{stateOf}
 use Rattle.store.specs.Causes.{some}
 use Rattle.store.proofs.Causes.{search-hit, search-on, search-over}
-use Rattle.powercut.specs.Contents.{ageOf, holds, isOther}
+use Rattle.powercut.specs.Contents.{ageOf, holds, isOther, dataBlocks}
 use Rattle.powercut.proofs.contents.has_other.Statement.{statement}
 use Rattle.powercut.proofs.contents.has_other.Tie as tie
 
 abbrev Inv-loop : tie.InvT-loop
-Inv-loop r s w k saves after i₀ i = (i ≤ 30) × (some (isOther saves after (stateOf r s w k)) i ≡ some (isOther saves after (stateOf r s w k)) 30)
+Inv-loop r s w k saves after i₀ i = (i ≤ dataBlocks) × (some (isOther saves after (stateOf r s w k)) i ≡ some (isOther saves after (stateOf r s w k)) dataBlocks)
 
 abbrev μ-loop : tie.MeasureT-loop
 μ-loop r s w k saves after i₀ i = i
@@ -25,18 +25,21 @@ tested : (a age saves : ℕ) (after b t : Bool) (st : State) → age ≡ ageOf a
 tested a age saves after b t st e h n = ap (λ (x : ℕ). not (holds a x st)) (sym e) ∙ ap not (sym h) ∙ n
 
 loop-holds : tie.Need-loop-holds Inv-loop μ-loop
+unfolding trap
 loop-holds c = (omega arith, refl)
 
 sub-i : tie.Need-sub-i Inv-loop μ-loop
 sub-i c = omega arith
 
 add-address : tie.Need-add-address Inv-loop μ-loop
+unfolding trap
 add-address c = omega arith
 
 age-requires : tie.Need-age-requires Inv-loop μ-loop
 age-requires c κs = search needs
 
 has-requires : tie.Need-has-requires Inv-loop μ-loop
+unfolding trap
 has-requires c κs = (omega arith, c .age .ensures .1)
 
 returns : tie.Need-returns Inv-loop μ-loop
@@ -44,7 +47,7 @@ unfolding trap
 returns c =
     let l = c .before .before .before .before .before .before .before .loop in
     let a = c .before .before .before .before .before .before .before .before .args in
-    search-hit (isOther (a .saves) (a .after) (stateOf (a .r) (a .s .now) (a .w .now) (a .k .now))) (l .i) 30 (l .inv .1) (omega arith)
+    search-hit (isOther (a .saves) (a .after) (stateOf (a .r) (a .s .now) (a .w .now) (a .k .now))) (l .i) dataBlocks (l .inv .1) (omega arith)
     (tested _ _ _ _ _ _ _ (c .before .before .age .ensures .0) (c .before .has .ensures) (c .if1 .taken))
 
 loop-less : tie.Need-loop-less Inv-loop μ-loop
@@ -56,7 +59,7 @@ loop-again c =
     let l = c .before .before .before .before .before .before .before .loop in
     let a = c .before .before .before .before .before .before .before .before .args in (
       omega arith,
-      search-on (isOther (a .saves) (a .after) (stateOf (a .r) (a .s .now) (a .w .now) (a .k .now))) (l .i) 30 (l .inv .1) (omega arith)
+      search-on (isOther (a .saves) (a .after) (stateOf (a .r) (a .s .now) (a .w .now) (a .k .now))) (l .i) dataBlocks (l .inv .1) (omega arith)
           (tested _ _ _ _ _ _ _ (c .before .before .age .ensures .0) (c .before .has .ensures) (c .if1 .left)),
     )
 
@@ -64,7 +67,7 @@ returns-2 : tie.Need-returns-2 Inv-loop μ-loop
 returns-2 c =
     let l = c .before .loop in
     let a = c .before .before .args in
-    search-over (isOther (a .saves) (a .after) (stateOf (a .r) (a .s .now) (a .w .now) (a .k .now))) (l .i) 30 (l .inv .1) (omega arith)
+    search-over (isOther (a .saves) (a .after) (stateOf (a .r) (a .s .now) (a .w .now) (a .k .now))) (l .i) dataBlocks (l .inv .1) (omega arith)
 
 pub has-other-spec : {M : Type 1} → statement M
 has-other-spec =
