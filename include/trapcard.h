@@ -85,7 +85,9 @@ extern "C" {
 uint32_t trapcard_format(uint8_t *record, size_t record_len, uint8_t *settled, size_t settled_len, uint8_t *waiting,
                          size_t waiting_len, uint8_t *work, size_t work_len);
 
-/* Sets the power count: how many orders to the card still happen. Returns 0, 1 or 2. Changes the record alone. */
+/* Sets the power count: how many orders to the card still happen. Returns 0, 1 or 2. Changes the record alone. Every order takes
+ * 1 from it, also where no power is ever lost, and at 0 the next call with orders returns TRAPCARD_ERR_POWER: set it again before
+ * it runs down. No sync, apply or recovery takes more than 70. */
 uint32_t trapcard_power(uint8_t *record, size_t record_len, const uint8_t *settled, size_t settled_len, const uint8_t *waiting,
                         size_t waiting_len, const uint8_t *work, size_t work_len, uint32_t count);
 
