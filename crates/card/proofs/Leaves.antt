@@ -15,7 +15,7 @@ use Rattle.cells.specs.Entry.{Entry, entryAt, blockBytes}
 use Rattle.card.specs.Disk.{Disk, lay, overlay}
 use Rattle.card.specs.Card.{Card, queue, settle, kept, cut, blockAt, blocksIn}
 use Rattle.card.specs.Marks.{marksFit, keptAt, allKept, marksOf}
-use Rattle.card.proofs.All.{All, all-append, all-map}
+use Rattle.card.proofs.All.{All, all-map}
 use Rattle.card.proofs.Overlays.{overlay-other, overlay-keeps}
 use Rattle.card.proofs.Runs.{Whole, settle-overlay}
 use Rattle.card.proofs.Cuts.{kept-all, all-kept, cut-block}

@@ -1,5 +1,5 @@
 -- What an append leaves when a cut keeps some of its writes.
-use Prim.Native.Nat.{ℕ, zero, suc, _+_, _*_, _-_, _/_, _^_, _≤_, _<_}
+use Prim.Native.Nat.{ℕ, zero, suc, _+_, _-_, _/_, _≤_, _<_}
 use mathlib.Core.Path.{_≡_, refl, ap, ap₂, sym, _∙_}
 use mathlib.Core.Logic.{_≢_}
 use mathlib.Core.Bool.{true, false}
@@ -13,11 +13,10 @@ use Rattle.cells.specs.Little.{num, le}
 use Rattle.cells.specs.Little.Laws.{num-le}
 use Rattle.cells.specs.Upto.{upTo}
 use Rattle.cells.specs.Upto.Laws.{length-upTo, getD-upTo, upTo-add}
-use Rattle.cells.specs.Entry.{blockBytes, entryBytes, Entry}
+use Rattle.cells.specs.Entry.{Entry}
 use Rattle.cells.specs.Entry.Laws.{entry-eq}
-use Rattle.fnv.specs.Fnv.{start}
 use Rattle.card.specs.Disk.{Disk, lay, overlay}
-use Rattle.card.specs.Card.{Card, blockAt}
+use Rattle.card.specs.Card.{blockAt}
 use Rattle.card.specs.Marks.{keptAt, allKept}
 use Rattle.card.proofs.All.{All, all-append, all-map, all-take, all-at, all-upTo}
 use Rattle.card.proofs.Overlays.{lay-same, lay-other, overlay-append, overlay-agree, overlay-other}
@@ -27,7 +26,7 @@ use Rattle.journal.specs.Geometry.{Geometry, perDescriptor}
 use Rattle.journal.specs.Layout.{headerAt, descriptorAt, describedIn, describedAt, slotAt, firstData, isData}
 use Rattle.journal.specs.Header.{encode, header}
 use Rattle.journal.specs.Log.{sumOf}
-use Rattle.journal.specs.Orders.{describe, descriptorEntry, descriptors}
+use Rattle.journal.specs.Orders.{descriptorEntry, descriptors}
 use Rattle.journal.proofs.OrderLists.{slotBlock, slotBlocks, headerEntry, appendWrites, length-slotBlocks, slots-whole, slots-below, slots-from}
 use Rattle.journal.proofs.Headers.{length-encode}
 use Rattle.journal.proofs.Descriptors.{length-describe, listed-old, listed-new}

@@ -1,6 +1,6 @@
 -- A call cut short, and then the cut: what it leads to, by the orders carried out and the mark of the header.
 use Prim.Native.Nat.{ℕ, _+_, _≤_, _<_}
-use mathlib.Core.Path.{_≡_, ap, ap₂, sym, _∙_}
+use mathlib.Core.Path.{_≡_, ap, sym, _∙_}
 use mathlib.Core.Bool.{Bool, true, false, cond, not}
 use mathlib.Core.List.{List, [], _∷_, _++_}
 use native.Mathlib.Omega.{arith}
@@ -8,18 +8,17 @@ use lib.ListN.{length, take, length-append}
 use lib.Seq.{take-all}
 use Rattle.cells.specs.Entry.{Entry}
 use Rattle.card.specs.Disk.{Disk, overlay}
-use Rattle.card.specs.Card.{Card, queue, cut, settle, blockAt, blocksIn}
+use Rattle.card.specs.Card.{Card, cut, settle, blockAt, blocksIn}
 use Rattle.card.specs.Marks.{marksFit, keptAt, allKept}
 use Rattle.card.proofs.All.{All, all-append, all-take}
 use Rattle.card.proofs.Runs.{Whole}
 use Rattle.card.proofs.Leaves.{Leaves, cut-leaves, settle-leaves}
 use Rattle.card.proofs.MarkLaws.{all-kept-at, ones, ones-fit, ones-kept}
 use Rattle.journal.specs.Geometry.{Geometry}
-use Rattle.journal.specs.Layout.{firstData, isData}
-use Rattle.journal.specs.Header.{header, emptyHeader}
+use Rattle.journal.specs.Layout.{isData}
+use Rattle.journal.specs.Header.{emptyHeader}
 use Rattle.journal.specs.declared.header.Header.{Header}
 use Rattle.journal.proofs.Headers.{length-encode}
-use Rattle.journal.specs.Log.{sumOf}
 use Rattle.journal.proofs.OrderLists.{headerEntry, appendWrites}
 use Rattle.crash.specs.Found.{sameLog}
 use Rattle.crash.proofs.Logs.{logD}

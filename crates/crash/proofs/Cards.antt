@@ -4,28 +4,23 @@ use Prim.Native.Nat.{ℕ, _+_, _^_, _≤_, _<_}
 use mathlib.Core.Path.{_≡_, refl, ap, sym, _∙_}
 use mathlib.Core.Logic.{_≢_}
 use mathlib.Core.Bool.{Bool, true, false}
-use mathlib.Core.List.{List, [], _∷_, _++_}
+use mathlib.Core.List.{List, [], _++_}
 use native.Mathlib.Omega.{arith}
 use lib.Dec.{eqb}
 use lib.ListN.{length, take}
 use Rattle.cells.specs.Cell.{cell}
-use Rattle.cells.specs.Little.{num}
-use Rattle.cells.specs.Upto.{upTo}
-use Rattle.cells.specs.Upto.Laws.{ext-upTo, length-upTo}
+use Rattle.cells.specs.Upto.Laws.{length-upTo}
 use Rattle.cells.specs.Entry.{Entry}
-use Rattle.cells.specs.Entry.Laws.{entry-eq}
 use Rattle.fnv.specs.Fnv.{start}
-use Rattle.card.specs.Disk.{Disk, lay, overlay}
-use Rattle.card.specs.Card.{blockAt}
-use Rattle.card.proofs.All.{All, all-map}
-use Rattle.card.proofs.Overlays.{lay-same, lay-other, overlay-append, overlay-other, overlay-agree, overlay-cover}
+use Rattle.card.specs.Disk.{Disk, overlay}
+use Rattle.card.proofs.Overlays.{overlay-append, overlay-agree}
 use Rattle.journal.specs.Geometry.{Geometry}
 use Rattle.journal.specs.Layout.{headerAt, describedIn, describedAt, slotAt, firstData, isData}
 use Rattle.journal.specs.Header.{encode, header, emptyHeader}
-use Rattle.journal.specs.Log.{slotAddress, slotEntry, entries, sumOf, allData, good}
-use Rattle.journal.proofs.Logs.{sumOf-nil, sumOf-append, sumOf-lt, allData-append, allData-all, data-bounds}
+use Rattle.journal.specs.Log.{sumOf, allData, good}
+use Rattle.journal.proofs.Logs.{sumOf-nil, sumOf-append, allData-append}
 use Rattle.journal.proofs.Choices.{both}
-use Rattle.crash.proofs.Logs.{sum-lt, slotE, logD, entries-disk, LogStands, same-log, same-agree, data-above, data-below}
+use Rattle.crash.proofs.Logs.{sum-lt, slotE, logD, LogStands, same-log, same-agree}
 
 -- all data blocks are in question
 abbrev pub Every : ℕ → Type 0

@@ -1,6 +1,6 @@
 -- What every cut leads to, behind any queue that keeps off header and log: settled bytes s on which the header's list is w, and S, n and F
 -- that belong to it; collisions apart.
-use Prim.Native.Nat.{ℕ, _+_, _*_, _^_, _≤_, _<_}
+use Prim.Native.Nat.{ℕ, _+_, _^_, _≤_, _<_}
 use mathlib.Core.Path.{_≡_, refl, ap, ap₂, sym, _∙_}
 use mathlib.Core.Logic.{_≢_}
 use mathlib.Core.Bool.{Bool, true, false, true≢false, _&&_}
@@ -34,7 +34,7 @@ use Rattle.journal.proofs.Logs.{both, length-blockAt}
 use Rattle.journal.proofs.OrderLists.{headerEntry, appendWrites}
 use Rattle.crash.specs.Found.{sameLog, collides}
 use Rattle.crash.proofs.Logs.{slotE, logD, entries-disk, data-above, data-below}
-use Rattle.crash.proofs.Cards.{Every, HasHeader, WholeCard, FallCard, ClosedCard, SafeCard, closed-agree, append-head, append-found, append-bad, append-safe, append-sum, Appended, emptied, fallen}
+use Rattle.crash.proofs.Cards.{Every, HasHeader, WholeCard, ClosedCard, SafeCard, closed-agree, append-head, append-found, append-bad, append-safe, append-sum, Appended, emptied, fallen}
 use Rattle.crash.proofs.Frames.{Besides, Spared, Sized, KeepOff, off-low, Stands, covered-stands, whole-stands}
 use Rattle.crash.proofs.Appends.{lost-stands, header-lost, header-kept, log-stands, homes-stand, found-written, length-front, length-append-writes}
 

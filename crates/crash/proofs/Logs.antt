@@ -1,29 +1,22 @@
 -- The log on a disk. A disk stands for the card's blocks.
-use Prim.Native.Nat.{ℕ, _+_, _^_, _≤_, _<_}
-use mathlib.Core.Path.{_≡_, refl, ap, sym, _∙_}
-use mathlib.Core.Logic.{_≢_}
-use mathlib.Core.Bool.{Bool, true, false}
-use mathlib.Core.List.{List, [], _∷_, _++_}
+use Prim.Native.Nat.{ℕ, _^_, _≤_, _<_}
+use mathlib.Core.Path.{_≡_, refl, ap}
+use mathlib.Core.Bool.{true}
+use mathlib.Core.List.{List}
 use native.Mathlib.Omega.{arith}
-use lib.Dec.{eqb}
-use lib.ListN.{length, take}
 use Rattle.cells.specs.Cell.{cell}
 use Rattle.cells.specs.Little.{num}
 use Rattle.cells.specs.Upto.{upTo}
-use Rattle.cells.specs.Upto.Laws.{ext-upTo, length-upTo}
+use Rattle.cells.specs.Upto.Laws.{ext-upTo}
 use Rattle.cells.specs.Entry.{Entry}
 use Rattle.cells.specs.Entry.Laws.{entry-eq}
 use Rattle.fnv.specs.Fnv.{start}
-use Rattle.card.specs.Disk.{Disk, lay, overlay}
+use Rattle.card.specs.Disk.{Disk}
 use Rattle.card.specs.Card.{blockAt}
-use Rattle.card.proofs.All.{All, all-map}
-use Rattle.card.proofs.Overlays.{lay-same, lay-other, overlay-append, overlay-other, overlay-agree, overlay-cover}
 use Rattle.journal.specs.Geometry.{Geometry}
 use Rattle.journal.specs.Layout.{describedIn, describedAt, slotAt, firstData, isData}
-use Rattle.journal.specs.Header.{encode, header, emptyHeader}
-use Rattle.journal.specs.Log.{slotAddress, slotEntry, entries, sumOf, allData, good}
-use Rattle.journal.proofs.Logs.{sumOf-nil, sumOf-append, sumOf-lt, allData-append, allData-all, data-bounds}
-use Rattle.journal.proofs.Choices.{both}
+use Rattle.journal.specs.Log.{slotAddress, slotEntry, entries, sumOf}
+use Rattle.journal.proofs.Logs.{sumOf-lt, data-bounds}
 
 pub sum-lt : (es : List Entry) → sumOf start es < 2 ^ 64
 sum-lt es = sumOf-lt start es (lib.Dec.lit< tt)

@@ -2,7 +2,7 @@
 -- sync's own the log as it then stood and its group, for a recover's the list it took. The log found is the first n entries after
 -- the cut, by that header." The lists are computed from the calls, the states that they met and the orders they carried out.
 use Prim.Native.Nat.{ℕ, _+_, suc}
-use mathlib.Core.Bool.{Bool, true, false, cond, not, _&&_}
+use mathlib.Core.Bool.{cond}
 use mathlib.Core.List.{List, [], _∷_, _++_}
 use lib.Dec.{eqb, leb}
 use Rattle.cells.specs.Entry.{Entry}

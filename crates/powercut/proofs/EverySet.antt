@@ -1,6 +1,6 @@
 -- Up to 5 waiting writes the map tries every set of kept writes.
-use Prim.Native.Nat.{ℕ, zero, suc, _≤_}
-use mathlib.Core.Path.{_≡_, refl}
+use Prim.Native.Nat.{zero, suc}
+use mathlib.Core.Path.{refl}
 use native.Mathlib.Omega.{arith}
 use Rattle.powercut.specs.Sets.{EverySet, setCount, keeps, mark, marks, allMarks}
 

@@ -1,13 +1,12 @@
 -- The step of an apply.
 use Prim.Native.Nat.{ℕ, _+_, _-_}
-use mathlib.Core.Path.{_≡_, refl, ap, sym, subst, _∙_}
+use mathlib.Core.Path.{_≡_, refl, ap, sym, _∙_}
 use mathlib.Core.Logic.{_≢_}
-use mathlib.Core.Bool.{Bool, true, false, cond}
+use mathlib.Core.Bool.{Bool, false}
 use mathlib.Core.List.{List, [], _∷_}
 use native.Mathlib.Omega.{arith}
 use native.Mathlib.Decide.{ℕ-discrete}
 use borrow.Author.Tests.{eq-eqb, ne-eqb}
-use lib.Dec.{eqb}
 use lib.ListN.{length}
 use Rattle.cells.specs.Entry.{Entry}
 use Rattle.fnv.specs.Fnv.{start}
@@ -20,16 +19,15 @@ use Rattle.store.specs.State.{State, Outcome, withLog}
 use Rattle.store.specs.Causes.{cause}
 use Rattle.store.specs.Saves.{carried, applyCall, groupOf}
 use Rattle.history.specs.Call.{Call, get, apply}
-use Rattle.history.specs.Plain.{ofApply, Done, refusal, plainStep, plainApply, applyVerdict, applyWaits, headerKept, unchanged}
+use Rattle.history.specs.Plain.{ofApply, Done, refusal, plainStep, plainApply, applyWaits, headerKept}
 use Rattle.history.specs.Dispatch.{dispatch}
 use Rattle.history.specs.Ledger.{applyHeaders, noted, entered, applyHeader}
 use Rattle.history.specs.History.{World, ledgerNext, foundWritten}
 use Rattle.crash.proofs.Plans.{Plan, planned, takes, Throughout, throughout-map}
-use Rattle.history.proofs.Relation.CauseLaws.{RecordFacts, record-facts, cause-passes}
+use Rattle.history.proofs.Relation.CauseLaws.{RecordFacts, record-facts}
 use Rattle.history.proofs.Relation.Sim.{Basics, OpenSim, leads-still}
 use Rattle.history.proofs.Relation.PlainLaws.{apply-laid, apply-nothing, apply-finished, apply-short, choose-apply}
-use Rattle.history.proofs.Steps.Shown.{WorldSim, StepOK, sim-step, sim-at, same-cause, refused-step, plain-served, noted-none}
-use Rattle.history.proofs.Steps.Local.{is-open}
+use Rattle.history.proofs.Steps.Shown.{WorldSim, StepOK, sim-step, sim-at, same-cause, plain-served, noted-none}
 use Rattle.history.proofs.Steps.Notes.{note-past, noted-end}
 use Rattle.history.proofs.Steps.Gives.{openPlain, countable, open-listed, group-listed, CutsAt, Gives, gives-step}
 use Rattle.history.proofs.Relation.OpenFacts.{none-waits}

@@ -2,7 +2,7 @@
 use Prim.Native.Nat.{ℕ, _-_, _/_, _≤_, _<_}
 use mathlib.Core.Path.{_≡_, refl, ap, sym, subst, _∙_}
 use mathlib.Core.Logic.{_⊎_}
-use mathlib.Core.Bool.{true, false}
+use mathlib.Core.Bool.{true}
 use mathlib.Core.List.{List, []}
 use native.Mathlib.Omega.{arith}
 use native.Mathlib.Decide.{decLe}
@@ -26,7 +26,7 @@ use Rattle.store.specs.Lists.{openFrom, groupFrom, listOf}
 use Rattle.store.specs.Saves.{carried}
 use Rattle.store.proofs.Causes.{SizeFacts, sizes-facts}
 use Rattle.history.specs.Call.{Call, get}
-use Rattle.history.specs.Plain.{Plain, Short, none, Done, plainStep, cutShort, withS, withLists, withCount, withPower, blankPlain}
+use Rattle.history.specs.Plain.{Plain, Short, Done, plainStep, cutShort, withS, withLists, withCount, withPower, blankPlain}
 use Rattle.history.specs.Dispatch.{dispatch}
 use Rattle.history.specs.Ledger.{PlannedHeader, noted, settledBy}
 use Rattle.history.specs.History.{World, ledgerNext, foundWritten}

@@ -1,5 +1,5 @@
 -- The step of a recover.
-use Prim.Native.Nat.{ℕ, zero, suc, _+_, _^_, _≤_, _<_}
+use Prim.Native.Nat.{ℕ, _^_, _<_}
 use mathlib.Core.Path.{_≡_, refl, ap, sym, subst, _∙_}
 use mathlib.Core.Logic.{_⊎_}
 use mathlib.Core.Bool.{Bool, true, false, not, true≢false}
@@ -7,8 +7,6 @@ use mathlib.Core.List.{List, [], _∷_}
 use native.Mathlib.Omega.{arith}
 use native.Mathlib.Decide.{ℕ-discrete}
 use borrow.Author.Tests.{eq-eqb}
-use lib.Dec.{eqb}
-use lib.ListN.{getD, take}
 use Rattle.cells.specs.Entry.{Entry}
 use Rattle.fnv.specs.Fnv.{start}
 use Rattle.card.specs.Disk.{Disk}
@@ -19,7 +17,6 @@ use Rattle.journal.specs.Geometry.{Geometry}
 use Rattle.journal.specs.declared.choice.Choice.{Choice}
 use Rattle.journal.specs.declared.choice.Choice.the-variants.{Fallback}
 use Rattle.journal.specs.Layout.{firstData}
-use Rattle.journal.specs.Header.{header}
 use Rattle.journal.specs.Log.{entries, sumOf}
 use Rattle.journal.specs.Choice.{choose, takenCount}
 use Rattle.journal.proofs.Headers.{length-encode}

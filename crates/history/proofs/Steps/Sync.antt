@@ -7,14 +7,14 @@ use mathlib.Core.List.{List, [], _∷_, _++_}
 use native.Mathlib.Omega.{arith}
 use native.Mathlib.Decide.{ℕ-discrete, decLe}
 use native.Mathlib.Nat.{add-zero}
-use borrow.Author.Tests.{eq-eqb, eqb-true}
-use lib.Dec.{eqb, leb}
-use lib.ListN.{length, getD, take, length-take}
+use borrow.Author.Tests.{eq-eqb}
+use lib.Dec.{leb}
+use lib.ListN.{length, take, length-take}
 use Rattle.cells.specs.Entry.{Entry}
 use Rattle.fnv.specs.Fnv.{start}
 use Rattle.card.specs.Disk.{Disk, overlay}
 use Rattle.card.specs.Card.{Card, Order, run, cut, settle, blockAt}
-use Rattle.card.proofs.All.{All, all-append, all-at}
+use Rattle.card.proofs.All.{all-append}
 use Rattle.card.proofs.Runs.{run-nil}
 use Rattle.card.specs.Marks.{marksFit, keptAt, allKept}
 use Rattle.journal.specs.Geometry.{Geometry}
@@ -22,7 +22,6 @@ use Rattle.journal.specs.Layout.{headerAt}
 use Rattle.journal.specs.Log.{entries, sumOf}
 use Rattle.journal.specs.Orders.{syncOrders}
 use Rattle.journal.proofs.Logs.{sumOf-nil}
-use Rattle.journal.proofs.Choices.{both}
 use Rattle.journal.proofs.OrderLists.{appendWrites}
 use Rattle.crash.proofs.Batches.{Left}
 use Rattle.crash.proofs.Cards.{Every, WholeCard}
@@ -42,11 +41,10 @@ use Rattle.history.specs.History.{World, ledgerNext, foundWritten}
 use Rattle.history.specs.Statements.{Logged}
 use Rattle.crash.proofs.Plans.{Plan, planned, takes, settles, Fits, Asked, Throughout, rest-none, takes-append, settles-append, throughout-append, throughout-all}
 use Rattle.history.proofs.Steps.AppendEnds.{writes-fit, short-before, short-top, whole-found, done-card, done-sum, done-logged}
-use Rattle.history.proofs.Relation.CauseLaws.{RecordFacts, record-facts, cause-passes}
+use Rattle.history.proofs.Relation.CauseLaws.{RecordFacts, record-facts}
 use Rattle.history.proofs.Relation.Sim.{OpenSim, cutWritten, cutSettled, leads-still, leads-laid}
 use Rattle.history.proofs.Relation.PlainLaws.{sync-takes, sync-waits-own, choose-sync-own, choose-sync-before, sync-nothing, sync-finished, sync-short, kept-mark}
-use Rattle.history.proofs.Steps.Shown.{WorldSim, StepOK, same-cause, refused-step, plain-served, noted-none}
-use Rattle.history.proofs.Steps.Local.{is-open}
+use Rattle.history.proofs.Steps.Shown.{WorldSim, StepOK, same-cause, plain-served, noted-none}
 use Rattle.history.proofs.Steps.Notes.{note-before, note-at, note-past, noted-end}
 use Rattle.history.proofs.Steps.CallEnds.{carried-done}
 use Rattle.history.proofs.Steps.Gives.{openPlain, Countable, none-listed, countable, open-listed, CutsAt, Gives, gives-step, gives-enough, gives-less, gives-settled, short-call, stopped}

@@ -2,7 +2,7 @@
 use Prim.Native.Nat.{ℕ, _+_, _-_, _≤_, _<_}
 use mathlib.Core.Path.{_≡_, ap, ap₂, sym, _∙_}
 use mathlib.Core.Logic.{_≢_}
-use mathlib.Core.Bool.{Bool, true, false, cond}
+use mathlib.Core.Bool.{Bool, true, false}
 use mathlib.Core.List.{List, [], _∷_, _++_, append-nil}
 use native.Mathlib.Omega.{arith}
 use native.Mathlib.Decide.{decLe}
@@ -24,7 +24,7 @@ use Rattle.crash.proofs.Leads.{none-behind}
 use Rattle.store.specs.State.{State, withLog}
 use Rattle.store.specs.Saves.{groupOf, applies, metByAppend}
 use Rattle.history.specs.Plain as Plain
-use Rattle.history.specs.Plain.{Plain, ofSync, syncTakes, syncWaits, applyWaits, applyVerdict, ownVerdict, verdict, headerKept, unchanged}
+use Rattle.history.specs.Plain.{Plain, ofSync, syncWaits, applyWaits, applyVerdict, headerKept}
 use Rattle.history.specs.Ledger.{PlannedHeader, syncHeaders, noted, applyHeader, ownHeader, standing, inner}
 use Rattle.history.specs.History.{World}
 use Rattle.crash.proofs.Plans.{Plan, planned, takes, settles, Fits, Throughout, planned-append, throughout-map}

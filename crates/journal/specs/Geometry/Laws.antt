@@ -1,7 +1,7 @@
 -- The trap's numbers. Causes 1 and 2, the code, document 01's cases and its worked scripts go by them; no theorem about histories does.
 use Prim.Native.Nat.{ℕ, _+_}
 use mathlib.Core.Path.{_≡_, refl, ap, ap₂, sym}
-use Rattle.journal.specs.Geometry.{Geometry, trapSlots, trap}
+use Rattle.journal.specs.Geometry.{trapSlots, trap}
 
 pub trap-slots : trap .slots ≡ trapSlots
 unfolding trap

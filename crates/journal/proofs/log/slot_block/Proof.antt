@@ -1,6 +1,6 @@
 -- `journal::log::slot_block` meets its contract.
 use Prim.Native.Nat.{ℕ, _+_, _*_}
-use mathlib.Core.Path.{_≡_, ap, _∙_}
+use mathlib.Core.Path.{ap, _∙_}
 use native.Mathlib.Omega.{arith}
 use Rattle.cells.specs.Entry.{blockBytes}
 use Rattle.cells.specs.Part.{partOf}

@@ -1,5 +1,5 @@
 -- `powercut::contents::has_other` meets its contract.
-use Prim.Native.Nat.{ℕ, _-_, _≤_, _+_}
+use Prim.Native.Nat.{ℕ, _-_, _≤_}
 use mathlib.Core.Path.{_≡_, refl, sym, ap, _∙_}
 use mathlib.Core.Bool.{Bool, not}
 use native.Mathlib.Omega.{arith}

@@ -1,5 +1,4 @@
 -- `store::check::met` meets its contract.
-use mathlib.Core.Path.{_≡_, sym, _∙_}
 use borrow.Author.Needs.{needs}
 use borrow.Author.Tests.{eq-eqb, ne-eqb}
 use Rattle.store.proofs.check.met.Statement.{statement}

@@ -6,7 +6,7 @@ use lib.ListN.{length, take}
 use lib.Seq.{length-take-le}
 use Rattle.script.specs.Commands.{keptBytes}
 use Rattle.script.specs.Answers.{answerBytes}
-use Rattle.script.specs.Steps.{Step, fed}
+use Rattle.script.specs.Steps.{fed}
 use Rattle.script.specs.CodeSession.{sessionOf, stepOf}
 use Rattle.script.proofs.Sessions.{fed-none, fed-turn}
 use Rattle.script.proofs.session.Session.run.Statement.{statement}

@@ -2,7 +2,7 @@
 use Prim.Native.Nat.{_<_}
 use mathlib.Core.Path.{_≡_, refl, ap, _∙_}
 use native.Mathlib.Omega.{arith}
-use borrow.Author.Tests.{eqb-true, not-false}
+use borrow.Author.Tests.{not-false}
 use Rattle.card.specs.declared.queue.Queue.{Queue}
 use Rattle.store.specs.State.{State}
 use Rattle.store.specs.CodeState.{stateOf}
@@ -12,7 +12,6 @@ use Rattle.store.specs.Cut.{cutCall}
 use Rattle.store.proofs.Calls.{call-refused, call-done}
 use Rattle.card.specs.Marks.{marksFit}
 use Rattle.journal.specs.Geometry.{trap}
-use Rattle.journal.proofs.Logs.{neither}
 use Rattle.store.proofs.Causes.{cause-passes, passes-sound}
 use Rattle.store.proofs.Saves.{cut-state}
 use borrow.Author.Needs.{needs}
