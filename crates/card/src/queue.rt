@@ -11,7 +11,6 @@ ghost use Rattle.cells.specs.Upto.{upTo};
 ghost use Rattle.cells.specs.Entry.{blockBytes, entryBytes, entryAt};
 ghost use Rattle.card.specs.Card as Card;
 ghost use Rattle.card.specs.Card.{mostPlaces, blocksIn, run};
-ghost use Rattle.card.specs.Marks.{marksFit};
 ghost use Rattle.card.specs.CodeQueue.{cardOf, Below};
 
 // How many writes wait, and how many orders still happen.
@@ -95,7 +94,7 @@ impl Queue {
     pub fn cut(self, settled: &mut [u8], waiting: &[u8], marks: &[u8]) -> Queue
         requires { ⌜ entryBytes * self .waiting ≤ length (now waiting) ⌝ }
         requires { ⌜ Below (blocksIn (now settled)) (now waiting) (self .waiting) ⌝ }
-        requires { ⌜ marksFit (now marks) (self .waiting) ≡ true ⌝ }
+        requires { ⌜ length (now marks) ≡ self .waiting ⌝ }
         ensures { λ r. ⌜ cardOf (now (settled .exit)) (now (waiting .entry)) r ≡ Card.cut (now (marks .entry)) (cardOf (now (settled .entry)) (now (waiting .entry)) self) ⌝ }
     {
         settle_kept(settled, waiting, marks);

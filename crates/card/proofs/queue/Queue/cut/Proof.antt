@@ -6,7 +6,6 @@ use native.Mathlib.Omega.{arith}
 use lib.ListN.{length}
 use Rattle.card.specs.Card.{queue, cut}
 use Rattle.card.specs.CodeQueue.{cardOf}
-use Rattle.card.proofs.MarkLaws.{fits-length}
 use borrow.Author.Needs.{needs}
 use Rattle.card.proofs.queue.Queue.cut.Statement.{statement}
 use Rattle.card.proofs.queue.Queue.cut.Tie as tie
@@ -14,7 +13,6 @@ use Rattle.card.proofs.queue.Queue.cut.Tie as tie
 settle-kept-requires : tie.Need-settle-kept-requires
 settle-kept-requires c κs =
     let start = c .before .before .before .before in
-    let size = fits-length (start .args .marks .now) (start .args .self .waiting) (start .pre .1 .1) in
     (omega arith, λ i h. start .pre .1 .0 i (omega arith))
 
 same-length : tie.Need-same-length
@@ -25,7 +23,7 @@ unfolding queue cut
 returns c =
     let start = c .before .before .before .before .before .before .before in
     let a = start .args in
-    let size : length (a .marks .now) ≡ a .self .waiting = fits-length (a .marks .now) (a .self .waiting) (start .pre .1 .1) in
+    let size : length (a .marks .now) ≡ a .self .waiting = start .pre .1 .1 in
     ap (λ (s : List ℕ). cardOf s (a .waiting .now) (record { waiting = 0; power = a .self .power }))
     (c .before .before .settle-kept .ensures ∙ rw size)
 

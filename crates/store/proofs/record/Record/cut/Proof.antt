@@ -3,6 +3,7 @@ use Prim.Native.Nat.{_<_}
 use mathlib.Core.Path.{_≡_, refl, ap, _∙_}
 use native.Mathlib.Omega.{arith}
 use borrow.Author.Tests.{not-false}
+use lib.ListN.{length}
 use Rattle.card.specs.declared.queue.Queue.{Queue}
 use Rattle.store.specs.State.{State}
 use Rattle.store.specs.CodeState.{stateOf}
@@ -10,7 +11,7 @@ use Rattle.store.specs.Request.{cut}
 use Rattle.store.specs.Outcomes.{completed}
 use Rattle.store.specs.Cut.{cutCall}
 use Rattle.store.proofs.Calls.{call-refused, call-done}
-use Rattle.card.specs.Marks.{marksFit}
+use Rattle.card.proofs.MarkLaws.{fits-length}
 use Rattle.journal.specs.Geometry.{trap}
 use Rattle.store.proofs.Causes.{cause-passes, passes-sound}
 use Rattle.store.proofs.Saves.{cut-state}
@@ -45,8 +46,9 @@ cut-requires c κs =
     let n = e .before .cut-number in
     let p = cause-passes trap (cut (start .args .marks .now)) st (n .result) (n .ensures) (e .if1 .left) in
     let s = passes-sound trap (cut (start .args .marks .now)) st (n .result) refl (n .ensures) (e .if1 .left) in
+    let many : length (start .args .marks .now) ≡ start .args .self .waiting = fits-length (start .args .marks .now) (start .args .self .waiting) (not-false _ (p .own .0)) in
     let held : c .before .queue .result .waiting ≡ start .args .self .waiting = ap (λ (q : Queue). q .waiting) (c .before .queue .ensures) in
-    (omega arith, (λ i h. let inside : i < start .args .self .waiting = omega arith in omega (arith, s .waiting-below i inside), ap (marksFit (start .args .marks .now)) held ∙ not-false _ (p .own .0)))
+    (omega arith, (λ i h. let inside : i < start .args .self .waiting = omega arith in omega (arith, s .waiting-below i inside), omega arith))
 
 shut-requires : tie.Need-shut-requires
 shut-requires c κs = search needs
