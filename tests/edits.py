@@ -9,7 +9,8 @@ An .edit file holds one or more wrong changes, each of these lines:
 
     # LABEL: what is wrong, in words
     expect: FILE                     the file of the crate in which the error has to show; more than one if need be
-    file: FILE                       of src/ or specs/, and not the one expected; then pairs, as rt reads them
+    file: FILE                       of src/ or specs/, in a crate without code of proofs/ too, and not the one expected; then
+                                     pairs, as rt reads them
     old: TEXT
     new: TEXT
 
@@ -48,6 +49,13 @@ class Wrong(Exception):
     pass
 
 
+def parts(crate):
+    """The folders in which a change of a crate is a wrong program or definition: without code, proofs/ has definitions that laws
+    speak of."""
+    code = any(re.search(r"^ *(pub )?fn ", file.read_text(), re.M) for file in (crate / "src").glob("*.rt"))
+    return ("src/", "specs/") if code else ("src/", "specs/", "proofs/")
+
+
 def changes(edit):
     """The wrong changes of an edit file: label, expected files, and triples of file, old and new text."""
     found, file, old = [], None, None
@@ -70,8 +78,9 @@ def changes(edit):
             found[-1][2].append((file, old, rest))
     for label, expected, pairs in found:
         edited = {file for file, _, _ in pairs}
-        if not expected or not all(file and file.startswith(("src/", "specs/")) for file in edited):
-            raise Wrong(f"{edit}: {label}: no `expect:` line, or a pair without a `file:` line that names src/ or specs/")
+        allowed = parts(edit.parent.parent)
+        if not expected or not all(file and file.startswith(allowed) for file in edited):
+            raise Wrong(f"{edit}: {label}: no `expect:` line, or a pair without a `file:` line that names {', '.join(allowed)}")
         if edited & set(expected):
             raise Wrong(f"{edit}: {label}: expected in the file that it edits, where any nonsense is an error")
     if not found or not all(pairs for _, _, pairs in found):

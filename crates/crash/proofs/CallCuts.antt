@@ -1,5 +1,5 @@
 -- A call cut short, and then the cut: what it leads to, by the orders carried out and the mark of the header.
-use Prim.Native.Nat.{ℕ, _+_, _≤_, _<_}
+use Prim.Native.Nat.{ℕ, _+_, _^_, _≤_, _<_}
 use mathlib.Core.Path.{_≡_, ap, sym, _∙_}
 use mathlib.Core.Bool.{Bool, true, false, cond, not}
 use mathlib.Core.List.{List, [], _∷_, _++_}
@@ -15,14 +15,15 @@ use Rattle.card.proofs.Runs.{Whole}
 use Rattle.card.proofs.Leaves.{Leaves, cut-leaves, settle-leaves}
 use Rattle.card.proofs.MarkLaws.{all-kept-at, ones, ones-fit, ones-kept}
 use Rattle.journal.specs.Geometry.{Geometry}
-use Rattle.journal.specs.Layout.{isData}
+use Rattle.journal.specs.Layout.{firstData, isData}
 use Rattle.journal.specs.Header.{emptyHeader}
 use Rattle.journal.specs.declared.header.Header.{Header}
 use Rattle.journal.proofs.Headers.{length-encode}
 use Rattle.journal.proofs.OrderLists.{headerEntry, appendWrites}
 use Rattle.crash.specs.Found.{sameLog}
 use Rattle.crash.proofs.Logs.{logD}
-use Rattle.crash.proofs.Cards.{WholeCard, Appended}
+use Rattle.crash.proofs.Cards.{WholeCard, ClosedCard, Appended}
+use Rattle.crash.proofs.Frames.{Besides, KeepOff}
 use Rattle.crash.proofs.Batches.{Left}
 use Rattle.crash.proofs.Appends.{length-append-writes, writes-whole}
 use Rattle.crash.proofs.Leads.{foundIn, Leads, closed-leads, Behind, Appending, ownPlace, fallHeader, still-leads, lost-leads, append-front, append-header-lost, append-new, append-old, append-all, append-whole, on-card, kept-top, homes-leads, homes-done, empty-card, fallen-card}
@@ -172,3 +173,9 @@ module _ (geo : Geometry) where
     fall-settled =
         fallen-card geo b (settle (q₀ ++ (headerEntry (fallHeader geo N s n) ∷ [])) s) (ones (length (q₀ ++ (headerEntry (fallHeader geo N s n) ∷ [])))) (header-settled b (fallHeader geo N s n))
         (last-kept q₀ (headerEntry (fallHeader geo N s n)))
+
+  -- ---- any queue of whole writes to data blocks will do, and what it does not write to is spared
+
+  pub any-behind : {X : ℕ → Type 0} {N : ℕ} {s : List ℕ} {w : List Entry} {S : Disk} {n : ℕ} {F : Bool} (q₀ : List Entry) → firstData geo < N → N < 2 ^ 32 → N ≡ blocksIn s → KeepOff geo q₀ → All Whole q₀
+      → ClosedCard geo X N (blockAt s) w S n F → Behind geo X (λ a. X a × Besides q₀ a) N s q₀ w S n F
+  any-behind q₀ big small size off whole card = record { big = big; small = small; size = size; off = off; whole = whole; spared = λ a y. y; card = card }

@@ -140,7 +140,7 @@ module _ (geo : Geometry) where
     pub sum : h ≡ sumOf start (logD geo d n)
     pub room : n + length G ≤ geo .slots
 
-  module _ (X Y : ℕ → Type 0) (N : ℕ) (d e : Disk) (w : List Entry) (S : Disk) (n h : ℕ) (G : List Entry) (sub : (a : ℕ) → Y a → X a) (r : WholeCard X N d w S n) (t : Appended Y N d e n h G) where
+  module _ (Y : ℕ → Type 0) (N : ℕ) (d e : Disk) (n h : ℕ) (G : List Entry) (t : Appended Y N d e n h G) where
     -- the list from which that header took its sum
     pub append-sum : sumOf start (logD geo d n ++ G) ≡ sumOf h G
     append-sum = sumOf-append start (logD geo d n) G ∙ ap (λ (k : ℕ). sumOf k G) (sym (t .sum))
@@ -154,18 +154,29 @@ module _ (geo : Geometry) where
       sum = rw (← append-sum) (sum-lt (logD geo d n ++ G));
     }
 
-    append-size : length (logD geo d n ++ G) ≡ n + length G
-    append-size = lib.ListN.length-append (logD geo d n) G ∙ ap (λ (k : ℕ). k + length G) (length-upTo (slotE geo d) n)
-
     append-log : logD geo e n ≡ logD geo d n
     append-log = same-log geo n e d (t .log)
+
+  append-size : (d : Disk) (n : ℕ) (G : List Entry) → length (logD geo d n ++ G) ≡ n + length G
+  append-size d n G = lib.ListN.length-append (logD geo d n) G ∙ ap (λ (k : ℕ). k + length G) (length-upTo (slotE geo d) n)
+
+  -- from a card whose log is the first n entries
+  module _ (X Y : ℕ → Type 0) (N : ℕ) (d e : Disk) (w : List Entry) (S : Disk) (n h : ℕ) (G : List Entry) (sub : (a : ℕ) → Y a → X a) (r : WholeCard X N d w S n) (t : Appended Y N d e n h G) where
+    abbrev sums : sumOf start (logD geo d n ++ G) ≡ sumOf h G
+    sums = append-sum Y N d e n h G t
+
+    abbrev head : HasHeader e N n h (n + length G) (sumOf h G)
+    head = append-head Y N d e n h G t
+
+    abbrev stands : logD geo e n ≡ logD geo d n
+    stands = append-log Y N d e n h G t
 
     -- the log found is the log written: G is laid over S
     pub append-found : allData geo N G ≡ true → logD geo e (n + length G) ≡ logD geo d n ++ G → WholeCard Y N e (logD geo d n ++ G) (overlay G S) (n + length G)
     append-found m q = record {
       p = n;
       ps = h;
-      head = rw (q, append-sum) append-head;
+      head = rw (q, sums) head;
       all = rw (q, allData-append geo N (logD geo d n) G, r .all) m;
       same = sym q;
       disk = λ a x y.
@@ -180,14 +191,14 @@ module _ (geo : Geometry) where
     append-bad z b = record {
       c = n + length G;
       ns = sumOf h G;
-      head = rw (append-log, ← t .sum) append-head;
-      all = rw append-log (r .all);
+      head = rw (stands, ← t .sum) head;
+      all = rw stands (r .all);
       bad = b;
       other = z;
-      size = append-size;
-      total = append-sum;
-      front = lib.Seq.take-at (logD geo d n) G n (length-upTo (slotE geo d) n) ∙ sym append-log;
-      disk = λ a x y. rw append-log (r .disk a x (sub a y) ∙ sym (overlay-agree (logD geo d n) e d a (t .homes a x y)));
+      size = append-size d n G;
+      total = sums;
+      front = lib.Seq.take-at (logD geo d n) G n (length-upTo (slotE geo d) n) ∙ sym stands;
+      disk = λ a x y. rw stands (r .disk a x (sub a y) ∙ sym (overlay-agree (logD geo d n) e d a (t .homes a x y)));
     }
 
     -- it has the sum by a collision: whatever is found then is a log all the same
@@ -203,9 +214,9 @@ module _ (geo : Geometry) where
               S = overlay (logD geo e (n + length G)) e;
               n = n + length G;
               F = false;
-              size = length-upTo (slotE geo e) (n + length G) ∙ sym append-size;
-              total = q ∙ sym append-sum;
-              card = record { p = n; ps = h; head = rw q append-head; all = parts .1; same = refl; disk = λ a x y. refl };
+              size = length-upTo (slotE geo e) (n + length G) ∙ sym (append-size d n G);
+              total = q ∙ sym sums;
+              card = record { p = n; ps = h; head = rw q head; all = parts .1; same = refl; disk = λ a x y. refl };
             }
         go false b = record { w = logD geo d n ++ G; S = S; n = n; F = true; size = refl; total = refl; card = append-bad z b }
 

@@ -225,7 +225,7 @@ module _ (geo : Geometry) where
           -- the count that the header gives
           pub found-log : foundIn t ≡ logD geo (blockAt t) (n + length G)
           found-log =
-              ap (entries geo t) (ap (λ (i : Header). i .count) (read-head t N n h (n + length G) (sumOf h G) (x .behind .small) (append-head geo X Y N (blockAt s) (blockAt t) w S n h G spares (x .behind .card) on-card)))
+              ap (entries geo t) (ap (λ (i : Header). i .count) (read-head t N n h (n + length G) (sumOf h G) (x .behind .small) (append-head geo Y N (blockAt s) (blockAt t) n h G on-card)))
               ∙ entries-disk geo t (n + length G)
 
           -- the log found is the log written
@@ -252,7 +252,7 @@ module _ (geo : Geometry) where
               bad : collides (foundIn t) (logD geo (blockAt s) n ++ G) ≡ false → good geo N (logD geo (blockAt t) (n + length G)) (sumOf h G) ≡ false
               bad c =
                   let e : eqb (sumOf start (foundIn t)) (sumOf start (logD geo (blockAt s) n ++ G)) ≡ false = other-sums (foundIn t) (logD geo (blockAt s) n ++ G) q long-as c in
-                  rw (← found-log, ← append-sum geo X Y N (blockAt s) (blockAt t) w S n h G spares (x .behind .card) on-card, e)
+                  rw (← found-log, ← append-sum geo Y N (blockAt s) (blockAt t) n h G on-card, e)
 
         -- every write is kept
         module _ (all : allKept ms ≡ true) where

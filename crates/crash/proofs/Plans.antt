@@ -69,8 +69,14 @@ module _ (geo : Geometry) where
     pub whole : All Whole W
     pub low : All (λ e. e .address < N) W
 
-  fits-less : (N k : ℕ) (Ws : Plan) → All (Fits N k) Ws → All (Fits N 0) Ws
-  fits-less N k Ws f = all-map (Fits N k) (Fits N 0) (λ W x. record { few = omega (arith, x .few); whole = x .whole; low = x .low }) Ws f
+  -- and so does each batch of a plan, the first behind k writes and the others behind none
+  abbrev pub FitsBehind : ℕ → ℕ → Plan → Type 0
+  FitsBehind N k [] = Unit {0}
+  FitsBehind N k (W ∷ Ws) = Fits N k W × All (Fits N 0) Ws
+
+  pub fits-none : (N : ℕ) (Ws : Plan) → All (Fits N 0) Ws → FitsBehind N 0 Ws
+  fits-none N [] f = tt
+  fits-none N (W ∷ Ws) f = f
 
 -- ---- what is asked wherever power can end: of the settled bytes, the waiting writes and the orders carried out, k of them before
 
@@ -151,23 +157,23 @@ module _ (geo : Geometry) where
           }
 
     -- with enough: every batch is settled
-    pub plan-done : (Ws : Plan) (c : Card) (s : List ℕ) (q : List Entry) (p : ℕ) → Left c₀ c s q p → All (Fits geo N (length q)) Ws → takes Ws ≤ p
+    pub plan-done : (Ws : Plan) (c : Card) (s : List ℕ) (q : List Entry) (p : ℕ) → Left c₀ c s q p → FitsBehind geo N (length q) Ws → takes Ws ≤ p
         → Left c₀ (run (planned Ws) c) (settles q Ws s) (rest q Ws) (p - takes Ws)
     plan-done [] c s q p l f h = let e : p ≡ p - 0 = omega arith in rw (run-nil c) (left-power e l)
     plan-done (W ∷ Ws) c s q p l f h =
         let e : p - (length W + 1) - takes Ws ≡ p - (length W + 1 + takes Ws) = omega arith in
         let more : Left c₀ (run (planned Ws) (run (batch W) c)) (settles [] Ws (settle (q ++ W) s)) (rest [] Ws) (p - (length W + 1) - takes Ws) =
-        plan-done Ws (run (batch W) c) (settle (q ++ W) s) [] (p - (length W + 1)) (batch-done c s q p W l (f .0) (omega arith)) (fits-less geo N (length q) Ws (f .1)) (omega arith) in
+        plan-done Ws (run (batch W) c) (settle (q ++ W) s) [] (p - (length W + 1)) (batch-done c s q p W l (f .0) (omega arith)) (fits-none geo N Ws (f .1)) (omega arith) in
         rw (run-append (batch W) (planned Ws) c)
         (left-power e (subst (λ (r : List Entry). Left c₀ (run (planned Ws) (run (batch W) c)) (settles [] Ws (settle (q ++ W) s)) r (p - (length W + 1) - takes Ws)) (rest-none Ws) more))
 
-    pub plan-short : (X : Asked) (Ws : Plan) (c : Card) (s : List ℕ) (q : List Entry) (p k i : ℕ) → i ≡ k + p → Left c₀ c s q p → All (λ e. e .address < N) q → All (Fits geo N (length q)) Ws → p < takes Ws
+    pub plan-short : (X : Asked) (Ws : Plan) (c : Card) (s : List ℕ) (q : List Entry) (p k i : ℕ) → i ≡ k + p → Left c₀ c s q p → All (λ e. e .address < N) q → FitsBehind geo N (length q) Ws → p < takes Ws
         → Throughout X q Ws s k → Stopped N c₀ (run (planned Ws) c) X s i
     plan-short X [] c s q p k i z l low f h x = absurd (omega arith)
     plan-short X (W ∷ Ws) c s q p k i z l low f h x =
         go (decLe p (length W))
         (λ m.
-        plan-short X Ws (run (batch W) c) (settle (q ++ W) s) [] (p - (length W + 1)) (k + (length W + 1)) i (omega arith) (batch-done c s q p W l (f .0) m) tt (fits-less geo N (length q) Ws (f .1)) (omega arith) (x .1))
+        plan-short X Ws (run (batch W) c) (settle (q ++ W) s) [] (p - (length W + 1)) (k + (length W + 1)) i (omega arith) (batch-done c s q p W l (f .0) m) tt (fits-none geo N Ws (f .1)) (omega arith) (x .1))
       where
         go : Dec (p ≤ length W) → (length W < p → Stopped N c₀ (run (planned Ws) (run (batch W) c)) X (settle (q ++ W) s) i) → Stopped N c₀ (run (batch W ++ planned Ws) c) X s i
         go (yes m) more = record {

@@ -39,13 +39,20 @@ addresses-more s at f i a e =
     let size : length (addressBytes (upTo f i)) ≡ 4 * i = length-addressBytes (upTo f i) ∙ ap (λ (k : ℕ). 4 * k) (length-upTo f i) in
     rw (add-one, addressBytes-append, append-nil, sets-append, size, e)
 
--- ---- a descriptor block
+-- ---- a descriptor block; what stands behind the list plays no part
+
+-- the old addresses, the new ones, and a tail
+abbrev tailed : List ℕ → ℕ → List Entry → List ℕ → List ℕ
+tailed old n es z = take blockBytes (take (4 * n) old ++ (addressBytes es ++ z))
+
+length-tailed : (old : List ℕ) (n : ℕ) (es : List Entry) (z : List ℕ) → blockBytes ≤ length z → length (tailed old n es z) ≡ blockBytes
+length-tailed old n es z h = length-take-le blockBytes (take (4 * n) old ++ (addressBytes es ++ z)) (rw (length-append, length-append) (omega arith))
 
 pub length-describe : (old : List ℕ) (n : ℕ) (es : List Entry) → length (describe old n es) ≡ blockBytes
 unfolding describe
 length-describe old n es =
     let tail : length (replicate {A = ℕ} blockBytes 0) ≡ blockBytes = length-replicate {A = ℕ} blockBytes 0 in
-    length-take-le blockBytes (take (4 * n) old ++ (addressBytes es ++ replicate blockBytes 0)) (rw (length-append, length-append, tail) (omega arith))
+    length-tailed old n es (replicate blockBytes 0) (omega arith)
 
 take-zeros : (k n : ℕ) → k ≤ n → take k (replicate {A = ℕ} n 0) ≡ replicate k 0
 take-zeros zero n h = refl
@@ -104,13 +111,16 @@ described old z n es h zeros k =
 -- ---- read back
 
 -- the bytes of the old list's addresses stand as they did
+tailed-byte : (old : List ℕ) (n : ℕ) (es : List Entry) (z : List ℕ) (j : ℕ) → length old ≡ blockBytes → j < 4 * n → j < blockBytes → getD (tailed old n es z) j 0 ≡ getD old j 0
+tailed-byte old n es z j h k l =
+    let front : j < length (take (4 * n) old) = rw (length-take) (omega arith) in
+    getD-take blockBytes (take (4 * n) old ++ (addressBytes es ++ z)) j 0 l
+    ∙ List·getD-append (take (4 * n) old) (addressBytes es ++ z) 0 j front
+    ∙ getD-take (4 * n) old j 0 k
+
 describe-byte : (old : List ℕ) (n : ℕ) (es : List Entry) (j : ℕ) → length old ≡ blockBytes → j < 4 * n → j < blockBytes → getD (describe old n es) j 0 ≡ getD old j 0
 unfolding describe
-describe-byte old n es j h k l =
-    let front : j < length (take (4 * n) old) = rw (length-take) (omega arith) in
-    getD-take blockBytes (take (4 * n) old ++ (addressBytes es ++ replicate blockBytes 0)) j 0 l
-    ∙ List·getD-append (take (4 * n) old) (addressBytes es ++ replicate blockBytes 0) 0 j front
-    ∙ getD-take (4 * n) old j 0 k
+describe-byte old n es j = tailed-byte old n es (replicate blockBytes 0) j
 
 address-at : (es : List Entry) (i : ℕ) (d : Entry) (rest : List ℕ) → i < length es
     → take 4 (drop (4 * i) (addressBytes es ++ rest)) ≡ le 4 (getD es i d .address)
@@ -124,21 +134,24 @@ address-at (e ∷ es) (suc i) d rest h =
     ∙ address-at es i d rest (omega arith))
 
 -- and the new ones behind them
-describe-new : (old : List ℕ) (n : ℕ) (es : List Entry) (i : ℕ) (d : Entry) → 4 * n ≤ length old → i < length es → 4 * (n + i) + 4 ≤ blockBytes
-    → cell 4 (describe old n es) (n + i) ≡ le 4 (getD es i d .address)
-unfolding describe
-describe-new old n es i d h k l =
-    let rest : List ℕ = replicate blockBytes 0 in
+tailed-new : (old : List ℕ) (n : ℕ) (es : List Entry) (z : List ℕ) (i : ℕ) (d : Entry) → 4 * n ≤ length old → i < length es → 4 * (n + i) + 4 ≤ blockBytes
+    → cell 4 (tailed old n es z) (n + i) ≡ le 4 (getD es i d .address)
+tailed-new old n es z i d h k l =
     let front : length (take (4 * n) old) ≡ 4 * n = length-take-le (4 * n) old h in
     let place : 4 * (n + i) ≡ length (take (4 * n) old) + 4 * i = omega arith in
     let whole : blockBytes ≡ 4 * (n + i) + (blockBytes - 4 * (n + i)) = omega arith in
-    cell-part 4 (describe old n es) (n + i)
-    ∙ ap (λ (x : ℕ). take 4 (drop (4 * (n + i)) (take x (take (4 * n) old ++ (addressBytes es ++ rest))))) whole
-    ∙ ap (take 4) (drop-take (4 * (n + i)) (blockBytes - 4 * (n + i)) (take (4 * n) old ++ (addressBytes es ++ rest)))
-    ∙ take-take 4 (blockBytes - 4 * (n + i)) (drop (4 * (n + i)) (take (4 * n) old ++ (addressBytes es ++ rest))) (omega arith)
-    ∙ ap (λ (x : ℕ). take 4 (drop x (take (4 * n) old ++ (addressBytes es ++ rest)))) place
-    ∙ ap (take 4) (drop-append-add (take (4 * n) old) (addressBytes es ++ rest) (4 * i))
-    ∙ address-at es i d rest k
+    cell-part 4 (tailed old n es z) (n + i)
+    ∙ ap (λ (x : ℕ). take 4 (drop (4 * (n + i)) (take x (take (4 * n) old ++ (addressBytes es ++ z))))) whole
+    ∙ ap (take 4) (drop-take (4 * (n + i)) (blockBytes - 4 * (n + i)) (take (4 * n) old ++ (addressBytes es ++ z)))
+    ∙ take-take 4 (blockBytes - 4 * (n + i)) (drop (4 * (n + i)) (take (4 * n) old ++ (addressBytes es ++ z))) (omega arith)
+    ∙ ap (λ (x : ℕ). take 4 (drop x (take (4 * n) old ++ (addressBytes es ++ z)))) place
+    ∙ ap (take 4) (drop-append-add (take (4 * n) old) (addressBytes es ++ z) (4 * i))
+    ∙ address-at es i d z k
+
+describe-new : (old : List ℕ) (n : ℕ) (es : List Entry) (i : ℕ) (d : Entry) → 4 * n ≤ length old → i < length es → 4 * (n + i) + 4 ≤ blockBytes
+    → cell 4 (describe old n es) (n + i) ≡ le 4 (getD es i d .address)
+unfolding describe
+describe-new old n es i d = tailed-new old n es (replicate blockBytes 0) i d
 
 -- ---- by slots: the block that has a slot's address, and the place in it
 

@@ -15,7 +15,7 @@ use Rattle.fnv.specs.Fnv.{start}
 use Rattle.card.specs.Card.{Order, write, flush, run, blockAt}
 use Rattle.card.specs.declared.queue.Queue.{Queue}
 use Rattle.card.specs.CodeQueue.{cardOf, Below}
-use Rattle.card.proofs.All.{All, all-append}
+use Rattle.card.proofs.All.{All, all-append, all-map}
 use Rattle.card.proofs.Runs.{Whole, NarrowAddress, writes-below}
 use Rattle.journal.specs.Geometry.{Geometry, perDescriptor, trap}
 use Rattle.journal.specs.Geometry.Laws.{trap-descriptors}
@@ -116,18 +116,18 @@ module _ (geo : Geometry) where
   append-split N s n h es =
       sym (append-assoc (slotWrites geo n es) (map write (descriptors geo s n es)) (headerWrite (header N n h (n + length es) (sumOf h es)) ∷ flush ∷ []))
 
-  -- what waits after the first, with one descriptor block
-  pub list-below : (X : ℕ) (s w : List ℕ) (q : Queue) (w′ : List ℕ) (q′ : Queue) (n : ℕ) (es : List Entry) (d : Entry)
-      → cardOf s w′ q′ ≡ run (slotWrites geo n es ++ map write (d ∷ [])) (cardOf s w q)
-      → entryBytes * (q .waiting + length es + 1) ≤ length w → All Whole es → Whole d → d .address < slotAt geo 0 → n + length es ≤ geo .slots → firstData geo ≤ X
+  -- what waits after log blocks and further writes below the slots
+  pub list-below : (X : ℕ) (s w : List ℕ) (q : Queue) (w′ : List ℕ) (q′ : Queue) (n : ℕ) (es ds : List Entry)
+      → cardOf s w′ q′ ≡ run (slotWrites geo n es ++ map write ds) (cardOf s w q)
+      → entryBytes * (q .waiting + length es + length ds) ≤ length w → All Whole es → All Whole ds → All (λ d. d .address < slotAt geo 0) ds → n + length es ≤ geo .slots → firstData geo ≤ X
       → Below X w (q .waiting) → Below X w′ (q′ .waiting)
-  list-below X s w q w′ q′ n es d told room whole d-whole d-low fits large old =
+  list-below X s w q w′ q′ n es ds told room whole d-whole d-low fits large old =
       below-card X s w′ q′ _
-      (told ∙ ap (λ (os : List Order). run (os ++ (write d ∷ [])) (cardOf s w q)) (slotWrites-blocks geo n es) ∙ ap (λ (os : List Order). run os (cardOf s w q)) (sym (map-append write (slotBlocks geo n es) (d ∷ []))))
-      (writes-below X (slotBlocks geo n es ++ (d ∷ [])) (cardOf s w q) (rw (length-append, length-slotBlocks geo) (omega arith))
-      (all-append Whole (slotBlocks geo n es) (d ∷ []) (slots-whole geo n es whole) (d-whole, tt))
-      (all-append NarrowAddress (slotBlocks geo n es) (d ∷ []) (slots-below geo (2 ^ 32) n es (omega arith)) (omega arith, tt))
-      (all-append (λ e. e .address < X) (slotBlocks geo n es) (d ∷ []) (slots-below geo X n es (omega arith)) (omega arith, tt))
+      (told ∙ ap (λ (os : List Order). run (os ++ map write ds) (cardOf s w q)) (slotWrites-blocks geo n es) ∙ ap (λ (os : List Order). run os (cardOf s w q)) (sym (map-append write (slotBlocks geo n es) ds)))
+      (writes-below X (slotBlocks geo n es ++ ds) (cardOf s w q) (rw (length-append, length-slotBlocks geo) (omega arith))
+      (all-append Whole (slotBlocks geo n es) ds (slots-whole geo n es whole) d-whole)
+      (all-append NarrowAddress (slotBlocks geo n es) ds (slots-below geo (2 ^ 32) n es (omega (arith, geo .addressed))) (all-map (λ d. d .address < slotAt geo 0) NarrowAddress (λ d l. omega (arith, geo .addressed)) ds d-low))
+      (all-append (λ e. e .address < X) (slotBlocks geo n es) ds (slots-below geo X n es (omega arith)) (all-map (λ d. d .address < slotAt geo 0) (λ d. d .address < X) (λ d l. omega arith) ds d-low))
       old)
 
 pub checkpoint-writes : (N : ℕ) (es : List Entry)

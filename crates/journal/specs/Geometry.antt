@@ -1,12 +1,12 @@
 -- The geometry of a card: how many slots and descriptor blocks its log has, how many places the queue, and what the laws know of
 -- these numbers. Definitions and laws take a geometry as their parameter; only `trap` has numbers in it.
 pub mod Laws
-use Prim.Native.Nat.{ℕ, _+_, _*_, _≤_, _<_}
-use Rattle.card.specs.Card.{mostPlaces}
+use Prim.Native.Nat.{ℕ, _+_, _*_, _/_, _≤_, _<_}
+use Rattle.cells.specs.Entry.{blockBytes}
 
--- the addresses that a descriptor block holds
+-- the addresses that a descriptor block holds: 128
 abbrev pub perDescriptor : ℕ
-perDescriptor = 128
+perDescriptor = blockBytes / 4
 
 -- "at most 65,536" blocks
 abbrev pub mostBlocks : ℕ
@@ -20,7 +20,6 @@ pub record Geometry : Type 0 where
   pub described : slots ≤ perDescriptor * descriptors
   -- the longest list of orders: all slots, the descriptor blocks and the header wait
   pub queued : slots + descriptors + 1 ≤ places
-  pub counted : places ≤ mostPlaces
   -- header, descriptor blocks, slots and a data block lie below the largest N
   pub addressed : 1 + descriptors + slots < mostBlocks
 
@@ -39,6 +38,5 @@ trap = record {
   places = trapPlaces;
   described = lib.Dec.lit≤ tt;
   queued = lib.Dec.lit≤ tt;
-  counted = lib.Dec.lit≤ tt;
   addressed = lib.Dec.lit< tt;
 }

@@ -16,7 +16,8 @@ use Rattle.cells.specs.Entry.Laws.{length-setEntry}
 use Rattle.fnv.specs.Fnv.{start}
 use Rattle.card.specs.Card as Card
 use Rattle.card.specs.Card.{Order}
-use Rattle.card.proofs.Runs.{run-lengths, length-settle}
+use Rattle.card.proofs.Runs.{run-lengths}
+use Rattle.card.proofs.Cuts.{cut-length}
 use Rattle.journal.specs.Geometry.{Geometry}
 use Rattle.journal.specs.declared.lookup.Found.{Found}
 use Rattle.journal.specs.declared.lookup.Found.the-variants.{At, Absent}
@@ -107,8 +108,7 @@ format-sized st = record {
 }
 
 cut-sized : (ms : List ℕ) (st : State) → length (Card.cut ms (cardIn st) .settled) ≡ length (st .settled)
-unfolding Card.cut
-cut-sized ms st = length-settle (Card.kept ms (Card.queue (cardIn st))) (st .settled)
+cut-sized ms st = cut-length ms (cardIn st)
 
 cut-queue : (ms : List ℕ) (st : State) → Card.cut ms (cardIn st) .waiting ≡ st .waiting
 unfolding Card.cut

@@ -87,7 +87,7 @@ module _ (geo : Geometry) where
     -- block 0 then
     done-head : blockAt (settle W s) headerAt ≡ encode (header N n h (n + length G) (sumOf h G))
     done-head =
-        append-head geo Every Every N (blockAt s) (blockAt (settle W s)) v S n h G (λ a y. y) (x .behind .card) (CallCuts.done-append geo x) .block
+        append-head geo Every N (blockAt s) (blockAt (settle W s)) n h G (CallCuts.done-append geo x) .block
 
     size-log : length (logD geo (blockAt s) n) ≡ n
     size-log = length-upTo (slotE geo (blockAt s)) n

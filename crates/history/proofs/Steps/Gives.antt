@@ -31,7 +31,7 @@ use Rattle.history.specs.Dispatch.{dispatch}
 use Rattle.history.specs.Ledger.{PlannedHeader, noted, settledBy}
 use Rattle.history.specs.History.{World, ledgerNext, foundWritten}
 use Rattle.journal.proofs.Logs.{allData-all}
-use Rattle.crash.proofs.Plans.{Plan, planned, takes, settles, Fits, Asked, Throughout, rest-none, length-planned, length-settles, plan-done, Stopped, plan-short}
+use Rattle.crash.proofs.Plans.{Plan, planned, takes, settles, Fits, fits-none, Asked, Throughout, rest-none, length-planned, length-settles, plan-done, Stopped, plan-short}
 use Rattle.history.proofs.Relation.Lists.{Data, Distinct}
 use Rattle.history.proofs.Relation.CauseLaws.{RecordFacts, facts-sizes, record-facts, facts-record}
 use Rattle.history.proofs.Relation.Sim.{Basics, Sim, CutLeads}
@@ -158,7 +158,7 @@ module _ (geo : Geometry) where
     done-left : takes plan ≤ P → Left (cardIn st) r (settles [] plan (st .settled)) [] (P - takes plan)
     done-left p =
         subst (λ (q : List Entry). Left (cardIn st) r (settles [] plan (st .settled)) q (P - takes plan)) (rest-none plan)
-        (plan-done geo N (cardIn st) (small-N geo st (w .plain) b) (sz .waiting) plan (cardIn st) (st .settled) [] P begins (f .fits) p)
+        (plan-done geo N (cardIn st) (small-N geo st (w .plain) b) (sz .waiting) plan (cardIn st) (st .settled) [] P begins (fits-none geo N plan (f .fits)) p)
 
     pub short-call : P < takes plan → dispatch geo c st ≡ record { answer = 4; orders = P; state = withCard r (withRecord (withMode down (f .gone)) st) }
     short-call p =
@@ -166,7 +166,7 @@ module _ (geo : Geometry) where
         f .call ∙ carried-short (planned plan) (f .done) (f .gone) st (omega arith)
 
     pub stopped : (X : Asked) (k : ℕ) → k ≡ P → P < takes plan → Throughout X [] plan (st .settled) 0 → Stopped geo N (cardIn st) r X (st .settled) k
-    stopped X k e p x = plan-short geo N (cardIn st) (small-N geo st (w .plain) b) (sz .waiting) X plan (cardIn st) (st .settled) [] P 0 k (omega arith) begins tt (f .fits) p x
+    stopped X k e p x = plan-short geo N (cardIn st) (small-N geo st (w .plain) b) (sz .waiting) X plan (cardIn st) (st .settled) [] P 0 k (omega arith) begins tt (fits-none geo N plan (f .fits)) p x
 
     shows : (k : ℕ) (o : Outcome) (d : Done) → dispatch geo c st ≡ o → plainStep geo c (foundWritten geo c w) (w .plain) ≡ d → o .answer ≡ d .answer → o .orders ≡ k → d .orders ≡ k
         → Sim geo (o .state) (noted (f .headers) k (w .ledger)) (d .plain) → StepOK geo c w

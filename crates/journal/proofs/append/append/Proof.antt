@@ -80,10 +80,10 @@ order-requires c κs =
         omega arith,
         (
           omega arith,
-          list-below trap (blocksIn (a .settled .now)) (a .settled .now) (a .waiting .now) (a .queue) (w .write-list .last .1 .1 .0) (w .write-list .result .queue) (a .log .count) es (oneDescriptor (a .settled .now) (a .log .count) es)
+          list-below trap (blocksIn (a .settled .now)) (a .settled .now) (a .waiting .now) (a .queue) (w .write-list .last .1 .1 .0) (w .write-list .result .queue) (a .log .count) es (oneDescriptor (a .settled .now) (a .log .count) es ∷ [])
               (w .write-list .ensures .1 .0 (a .settled .now)) (omega arith)
               (from-whole (a .work .now) (a .group .from) (a .group .count) (omega arith))
-              (length-describe (blockAt (a .settled .now) descriptorAt) (a .log .count) es) (omega (arith, trap-descriptors)) (omega arith) (omega arith) (pre .1 .1 .1 .1 .0),
+              (length-describe (blockAt (a .settled .now) descriptorAt) (a .log .count) es, tt) (omega (arith, trap-descriptors), tt) (omega arith) (omega arith) (pre .1 .1 .1 .1 .0),
         ),
       ),
     )
