@@ -3,6 +3,7 @@
 pub mod Laws
 use Prim.Native.Nat.{ℕ, _+_, _*_, _/_, _≤_, _<_}
 use Rattle.cells.specs.Entry.{blockBytes}
+use Rattle.card.specs.Card.{mostPlaces}
 
 -- the addresses that a descriptor block holds: 128
 abbrev pub perDescriptor : ℕ
@@ -20,6 +21,8 @@ pub record Geometry : Type 0 where
   pub described : slots ≤ perDescriptor * descriptors
   -- the longest list of orders: all slots, the descriptor blocks and the header wait
   pub queued : slots + descriptors + 1 ≤ places
+  -- the count of waiting writes fits the record's 4 bytes
+  pub counted : places ≤ mostPlaces
   -- header, descriptor blocks, slots and a data block lie below the largest N
   pub addressed : 1 + descriptors + slots < mostBlocks
 
@@ -38,5 +41,6 @@ trap = record {
   places = trapPlaces;
   described = lib.Dec.lit≤ tt;
   queued = lib.Dec.lit≤ tt;
+  counted = lib.Dec.lit≤ tt;
   addressed = lib.Dec.lit< tt;
 }
