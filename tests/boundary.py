@@ -251,17 +251,22 @@ def offsets():
     return found
 
 
+# The forms of a row: one that calls share, in front of the rest, and one that calls have of their own behind those.
+SHARED = r"cond \((?P<test>[^{};]*)\) (?P<number>\d+) rest"
+OWN = r"record \{ number = (?P<number>\d+); behind = [^{};]*; test = (?P<test>[^{};]*);? \}"
+
+
 def rows():
     """The rows of the table of causes: the name of each with its number and its test."""
     text = spec(*TABLE)
     found = {}
-    for name in re.findall(r"^abbrev pub (\w+) : (?:[^\n]* → )?Row$", text, re.M):
+    for name in re.findall(r"^abbrev pub (\w+Row) :", text, re.M):
         right = [right for _, _, _, right in equations(*TABLE, name)]
-        row = len(right) == 1 and re.fullmatch(r"record \{ number = (\d+); test = ([^{};]*);? \}", right[0])
+        row = len(right) == 1 and (re.fullmatch(SHARED, right[0]) or re.fullmatch(OWN, right[0]))
         if not row:
             unread("`%s`, a row of the table of causes" % name)
-        found[name] = (int(row[1]), row[2])
-    if len(found) != text.count("record {"):
+        found[name] = (int(row["number"]), row["test"])
+    if len(found) != text.count("record {") + len(re.findall(r"\brest = cond ", text)):
         unread("the table of causes: a row has no definition of its own")
     return found
 

@@ -1,5 +1,5 @@
--- The theorems about histories. Their types stand in specs/Statements.antt, specs/Refusals.antt, specs/Linked.antt and
--- specs/Scripts.antt.
+-- The theorems about histories. Their types stand in specs/Statements.antt, specs/Refusals.antt, specs/Dispatch.antt, specs/Linked.antt
+-- and specs/Scripts.antt.
 use Prim.Native.Nat.{ℕ}
 use mathlib.Core.Path.{_≡_, refl, ap, sym, _∙_}
 use mathlib.Core.Logic.{_≢_, _⊎_}
@@ -10,10 +10,17 @@ use lib.Dec.{eqb}
 use Rattle.store.specs.Request as Request
 use Rattle.store.specs.State.{State, Outcome}
 use Rattle.store.specs.Causes.{cause}
+use Rattle.store.specs.Format.{formatCall}
+use Rattle.store.specs.Power.{powerCall}
+use Rattle.store.specs.Put.{putCall}
+use Rattle.store.specs.Commit.{commitCall}
+use Rattle.store.specs.Abandon.{abandonCall}
+use Rattle.store.specs.Saves.{syncCall, applyCall, recoverCall}
+use Rattle.store.specs.Cut.{cutCall}
 use Rattle.journal.specs.Geometry.{Geometry}
 use Rattle.history.specs.Call.{Call, requestOf, recover, sync}
 use Rattle.history.specs.Plain.{Done, refusal, served}
-use Rattle.history.specs.Dispatch.{dispatch}
+use Rattle.history.specs.Dispatch.{called, dispatch, Cited}
 use Rattle.history.specs.Ledger.{Ledger}
 use Rattle.history.specs.History.{World, begun, after, foundWritten}
 use Rattle.history.specs.Statements.{Sound, Safety, Refinement, ReadBack, WrittenSummed, Logged, Written, CrashAtomicity}
@@ -139,6 +146,20 @@ module _ (geo : Geometry) where
   }
 
   -- ---- Through C
+
+  pub cited : Cited geo
+  unfolding called formatCall powerCall putCall commitCall abandonCall syncCall applyCall recoverCall cutCall
+  cited = record {
+    formats = refl;
+    powers = λ k. refl;
+    puts = λ a b. refl;
+    commits = refl;
+    abandons = refl;
+    syncs = refl;
+    applies = refl;
+    recovers = refl;
+    cuts = λ ms. refl;
+  }
 
   pub linked : Linked geo
   linked = Links.linked geo

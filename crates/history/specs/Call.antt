@@ -37,6 +37,16 @@ apply = save Save.apply
 abbrev pub recover : Call
 recover = save Save.recover
 
+-- what a get has, of its address, and what every other call has
+abbrev pub ofGet : {A : Type 0} → Call → (ℕ → A) → A → A
+ofGet (local (Local.power k)) f x = x
+ofGet (local (Local.put a b)) f x = x
+ofGet (local (Local.get a)) f x = f a
+ofGet (local Local.commit) f x = x
+ofGet (local Local.abandon) f x = x
+ofGet (save c) f x = x
+ofGet (cut ms) f x = x
+
 -- a call of the list with its own arguments: every call of the store but format
 abbrev pub requestOf : Call → Request.Request
 requestOf (local c) = Request.local c

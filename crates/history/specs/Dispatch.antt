@@ -1,39 +1,51 @@
--- The one table from a call to its definition: each row applies the definition on the right of that call's `ensures`. Lists of calls,
--- what C sees and the script go by it.
+-- The one table from a call to what it does, by which lists of calls, what C sees and the script go. That it says what the contracts say
+-- is `Cited`.
 use Prim.Native.Nat.{ℕ}
+use mathlib.Core.Path.{_≡_}
 use mathlib.Core.List.{List}
 use Rattle.store.specs.Local as Local
+use Rattle.store.specs.Local.{Local}
 use Rattle.store.specs.Save as Save
-use Rattle.store.specs.Request.{Request, format, local, save, cut, get}
+use Rattle.store.specs.Save.{Save}
+use Rattle.store.specs.Request.{Request, format, local, save, cut, power, put, commit, abandon, sync, apply, recover}
 use Rattle.store.specs.State.{State, Outcome}
 use Rattle.store.specs.Causes.{cause}
-use Rattle.store.specs.Format.{formatCall}
-use Rattle.store.specs.Power.{powerCall}
-use Rattle.store.specs.Put.{putCall}
-use Rattle.store.specs.Abandon.{abandonCall}
+use Rattle.store.specs.Outcomes.{completed, unless}
+use Rattle.store.specs.Format.{formatted, formatCall}
+use Rattle.store.specs.Power.{powered, powerCall}
+use Rattle.store.specs.Put.{putting, putCall}
+use Rattle.store.specs.Abandon.{abandoned, abandonCall}
 use Rattle.store.specs.Get.{getPlace, bytesAt}
-use Rattle.store.specs.Commit.{commitCall}
-use Rattle.store.specs.Saves.{syncCall, applyCall, recoverCall}
-use Rattle.store.specs.Cut.{cutCall}
+use Rattle.store.specs.Commit.{committed, commitCall}
+use Rattle.store.specs.Saves.{syncing, syncCall, applying, applyCall, recovering, recoverCall}
+use Rattle.store.specs.Cut.{cutting, cutCall}
 use Rattle.journal.specs.Geometry.{Geometry}
+use Rattle.journal.specs.Choice.{choose}
 use Rattle.history.specs.Call.{Call, requestOf}
 
 module _ (geo : Geometry) where
-  -- get: its number "comes from a question with the same inputs", and it leaves everything
-  abbrev pub getCall : ℕ → State → Outcome
-  getCall a st = record { answer = cause geo (get a) st; orders = 0; state = st }
+  -- a get leaves everything
+  abbrev pub servedLocal : Local → State → State
+  servedLocal (Local.power k) st = powered k st
+  servedLocal (Local.put a b) st = putting a b st
+  servedLocal (Local.get a) st = st
+  servedLocal Local.commit st = committed geo st
+  servedLocal Local.abandon st = abandoned st
 
-  abbrev pub called : Request → State → Outcome
-  called format st = formatCall geo st
-  called (local (Local.power k)) st = powerCall geo k st
-  called (local (Local.put a b)) st = putCall geo a b st
-  called (local (Local.get a)) st = getCall a st
-  called (local Local.commit) st = commitCall geo st
-  called (local Local.abandon) st = abandonCall geo st
-  called (save Save.sync) st = syncCall geo st
-  called (save Save.apply) st = applyCall geo st
-  called (save Save.recover) st = recoverCall geo st
-  called (cut ms) st = cutCall geo ms st
+  abbrev pub servedSave : Save → State → Outcome
+  servedSave Save.sync st = syncing geo st
+  servedSave Save.apply st = applying geo st
+  servedSave Save.recover st = recovering (choose geo (st .rec .blocks) (st .settled)) st
+
+  abbrev pub served : Request → State → Outcome
+  served format st = completed (formatted st)
+  served (local c) st = completed (servedLocal c st)
+  served (save c) st = servedSave c st
+  served (cut ms) st = completed (cutting ms st)
+
+  -- "The first cause in table order is given", of any call, and leaves everything
+  unfoldable pub called : Request → State → Outcome
+  called q st = unless (cause geo q st) st (served q st)
 
   -- a call of a list
   abbrev pub dispatch : Call → State → Outcome
@@ -42,3 +54,15 @@ module _ (geo : Geometry) where
   -- the block that a get hands out
   abbrev pub blockOf : ℕ → State → List ℕ
   blockOf a st = bytesAt (getPlace geo a st) st
+
+  -- the definition on the right of each call's `ensures` is the call of this table; get's contract has `cause` and `getPlace` themselves
+  pub record Cited : Type 0 where
+    pub formats : formatCall geo ≡ called format
+    pub powers : (k : ℕ) → powerCall geo k ≡ called (power k)
+    pub puts : (a : ℕ) (b : List ℕ) → putCall geo a b ≡ called (put a b)
+    pub commits : commitCall geo ≡ called commit
+    pub abandons : abandonCall geo ≡ called abandon
+    pub syncs : syncCall geo ≡ called sync
+    pub applies : applyCall geo ≡ called apply
+    pub recovers : recoverCall geo ≡ called recover
+    pub cuts : (ms : List ℕ) → cutCall geo ms ≡ called (cut ms)

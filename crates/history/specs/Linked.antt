@@ -2,31 +2,22 @@
 use Prim.Native.Nat.{ℕ, _^_, _<_}
 use mathlib.Core.Path.{_≡_}
 use mathlib.Core.List.{List, [], _∷_}
-use Rattle.store.specs.Local as Local
-use Rattle.store.specs.Local.{Local}
 use Rattle.store.specs.State.{State}
 use Rattle.store.specs.CodeState.{stateOf}
 use Rattle.store.specs.Format.{formatCall}
 use Rattle.firmware.specs.Face.{encodeRecord, decodeRecord, Face, faceOf, faced, gotIn, got}
 use Rattle.journal.specs.Geometry.{Geometry}
-use Rattle.history.specs.Call.{Call, local, save, cut, power, put, commit, abandon}
+use Rattle.history.specs.Call.{Call, power, ofGet}
 use Rattle.history.specs.Dispatch.{dispatch}
 use Rattle.history.specs.History.{begun, after}
 
 module _ (geo : Geometry) where
   -- "Each call gets the record and the settled, waiting and work bytes that the last one returned or left", the record as 36 bytes. A
   -- get has no lent byte to change
-  abbrev pub faceLocal : Local → Face → Face
-  faceLocal (Local.power k) f = faced (dispatch geo (power k)) (f .rec) (f .settled) (f .waiting) (f .work)
-  faceLocal (Local.put a b) f = faced (dispatch geo (put a b)) (f .rec) (f .settled) (f .waiting) (f .work)
-  faceLocal (Local.get a) f = faceOf (got geo a (f .rec) (f .settled) (f .waiting) (f .work) .number) 0 (f .rec) (f .settled) (f .waiting) (f .work)
-  faceLocal Local.commit f = faced (dispatch geo commit) (f .rec) (f .settled) (f .waiting) (f .work)
-  faceLocal Local.abandon f = faced (dispatch geo abandon) (f .rec) (f .settled) (f .waiting) (f .work)
-
   abbrev pub faceNext : Call → Face → Face
-  faceNext (local c) f = faceLocal c f
-  faceNext (save c) f = faced (dispatch geo (save c)) (f .rec) (f .settled) (f .waiting) (f .work)
-  faceNext (cut ms) f = faced (dispatch geo (cut ms)) (f .rec) (f .settled) (f .waiting) (f .work)
+  faceNext c f =
+      ofGet c (λ a. faceOf (got geo a (f .rec) (f .settled) (f .waiting) (f .work) .number) 0 (f .rec) (f .settled) (f .waiting) (f .work))
+      (faced (dispatch geo c) (f .rec) (f .settled) (f .waiting) (f .work))
 
   unfoldable pub faceAfter : List Call → Face → Face
   faceAfter [] f = f

@@ -7,8 +7,6 @@ use mathlib.Core.List.{List, [], _∷_, _++_}
 use lib.Dec.{eqb}
 use lib.ListN.{getD, replicate}
 use Rattle.cells.specs.Entry.{blockBytes}
-use Rattle.store.specs.Local as Local
-use Rattle.store.specs.Local.{Local}
 use Rattle.store.specs.Request as Request
 use Rattle.store.specs.State.{State}
 use Rattle.store.specs.Format.{formatCall}
@@ -19,7 +17,7 @@ use Rattle.script.specs.Answers.{answerLine}
 use Rattle.script.specs.Replies.{marks}
 use Rattle.script.specs.Transcript.{linesOf, reply, printed, said, beginning, transcript}
 use Rattle.journal.specs.Geometry.{trap}
-use Rattle.history.specs.Call.{Call, local, save, cut, power, put, get, commit, abandon, sync, apply, recover}
+use Rattle.history.specs.Call.{Call, local, save, cut, power, put, get, commit, abandon, sync, apply, recover, ofGet}
 use Rattle.history.specs.Dispatch.{called, dispatch, blockOf}
 use Rattle.history.specs.History.{World, begun, next}
 
@@ -49,15 +47,8 @@ abbrev pub says : List ℕ → Says
 says l = saysOf (parse l) l
 
 -- "a third number: orders for sync, apply, recover; first byte for a get whose answer is 0; else 0"
-abbrev pub firstByte : Local → State → ℕ
-firstByte (Local.power k) st = 0
-firstByte (Local.put a b) st = 0
-firstByte (Local.get a) st = cond (eqb (dispatch trap (get a) st .answer) 0) (getD (blockOf trap a st) 0 0) 0
-firstByte Local.commit st = 0
-firstByte Local.abandon st = 0
-
 abbrev pub thirdOf : Call → State → ℕ
-thirdOf (local c) st = firstByte c st
+thirdOf (local c) st = ofGet (local c) (λ a. cond (eqb (dispatch trap (get a) st .answer) 0) (getD (blockOf trap a st) 0 0) 0) 0
 thirdOf (save c) st = dispatch trap (save c) st .orders
 thirdOf (cut ms) st = 0
 

@@ -2,9 +2,7 @@
 use Prim.Native.Nat.{ℕ}
 use mathlib.Core.List.{List}
 use Rattle.firmware.specs.Face.{Face, Got, gotOf, got}
-use Rattle.store.specs.Local as Local
-use Rattle.store.specs.Local.{Local}
-use Rattle.history.specs.Call.{Call, local, save, cut, power, put, get, commit, abandon, sync, apply, recover}
+use Rattle.history.specs.Call.{Call, cut, power, put, get, commit, abandon, sync, apply, recover, ofGet}
 use Rattle.history.specs.Linked.{faceNext}
 use Rattle.journal.specs.Geometry.{trap}
 use Rattle.linkage.specs.declared.step.Code.{Code}
@@ -35,17 +33,8 @@ abbrev nowhere : Got
 nowhere = gotOf 0 0 0
 
 -- of the places of all addresses the one that the call hands out: none but a get does
-abbrev pub placedBy : Local → (ℕ → Got) → Got
-placedBy (Local.power k) g = nowhere
-placedBy (Local.put a b) g = nowhere
-placedBy (Local.get a) g = g a
-placedBy Local.commit g = nowhere
-placedBy Local.abandon g = nowhere
-
 abbrev pub placed : Call → (ℕ → Got) → Got
-placed (local c) g = placedBy c g
-placed (save c) g = nowhere
-placed (cut ms) g = nowhere
+placed c g = ofGet c g nowhere
 
 abbrev pub withPlace : Call → Face → (ℕ → Got) → Stepped
 withPlace c f g = steppedOf f (placed c g .buffer) (placed c g .offset)

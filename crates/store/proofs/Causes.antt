@@ -26,7 +26,7 @@ use Rattle.store.specs.Lists.{openFrom, groupFrom, listed, find}
 use Rattle.store.specs.Local as Local
 use Rattle.store.specs.Save as Save
 use Rattle.store.specs.Request.{Request, format, local, save, cut, power, abandon}
-use Rattle.store.specs.Causes.{waitingBytes, workBytes, Row, wrongSizes, some, wrongCounts, wrongWaiting, isFound, wrongLists, wrongRecord, Rules, ofBytes, ofRecord, ofOpen, rows, rules, ownSize, wrongBlock, first, cause}
+use Rattle.store.specs.Causes.{waitingBytes, workBytes, Row, wrongSizes, some, wrongCounts, wrongWaiting, isFound, wrongLists, wrongRecord, Rules, ofBytes, ofRecord, ofOpen, rules, ownSize, wrongBlock, first, causeBy, cause}
 
 -- ---- a search of n places from the last one down, i of them left
 
@@ -224,19 +224,6 @@ module _ (geo : Geometry) where
   abbrev pub ownRows : Request → List Row
   ownRows q = restOf (rules geo q)
 
-  -- a call's own rows have numbers over 2
-  pub own-over : (q : Request) → All (λ r. 2 < r .number) (ownRows q)
-  own-over format = omega arith
-  own-over (local (Local.power k)) = omega arith
-  own-over (local (Local.put a b)) = omega arith
-  own-over (local (Local.get a)) = omega arith
-  own-over (local Local.commit) = omega arith
-  own-over (local Local.abandon) = omega arith
-  own-over (save Save.sync) = omega arith
-  own-over (save Save.apply) = omega arith
-  own-over (save Save.recover) = omega arith
-  own-over (cut ms) = omega arith
-
   -- ---- a call that no row refuses
 
   pub record PassesRules (r : Rules) (st : State) : Type 0 where
@@ -255,35 +242,35 @@ passed : (t : Bool) (k rest : ℕ) → 0 < k → cond t k rest ≡ 0 → (t ≡ 
 passed true k rest h e = absurd (omega arith)
 passed false k rest h e = (refl, e)
 
-all-passed : (rs : List Row) (st : State) → All (λ r. 2 < r .number) rs → first rs st ≡ 0 → All (λ r. r .test st ≡ false) rs
-all-passed [] st a e = tt
-all-passed (r ∷ rs) st a e =
-    let h : 2 < r .number = a .0 in
+all-passed : (rs : List Row) (st : State) → first rs st ≡ 0 → All (λ r. r .test st ≡ false) rs
+all-passed [] st e = tt
+all-passed (r ∷ rs) st e =
+    let h : 2 < r .number = r .behind in
     let p = passed (r .test st) (r .number) (first rs st) (omega arith) e in
-    (p .0, all-passed rs st (a .1) (p .1))
+    (p .0, all-passed rs st (p .1))
 
 module _ (geo : Geometry) where
-  rules-pass : (r : Rules) (st : State) → All (λ row. 2 < row .number) (restOf r) → first (rows geo r) st ≡ 0 → PassesRules geo r st
-  rules-pass (ofBytes own rest) st o e =
+  rules-pass : (r : Rules) (st : State) → causeBy geo r st ≡ 0 → PassesRules geo r st
+  rules-pass (ofBytes own rest) st e =
       let a = passed _ 1 _ (omega arith) e in
       let l = neither _ _ (a .0) in
-      record { sizes = l .0; block = l .1; counts = refl; not-closed = refl; not-down = refl; own = all-passed rest st o (a .1) }
-  rules-pass (ofRecord own rest) st o e =
+      record { sizes = l .0; block = l .1; counts = refl; not-closed = refl; not-down = refl; own = all-passed rest st (a .1) }
+  rules-pass (ofRecord own rest) st e =
       let a = passed _ 1 _ (omega arith) e in
       let b = passed _ 2 _ (omega arith) (a .1) in
       let l = neither _ _ (a .0) in
-      record { sizes = l .0; block = l .1; counts = b .0; not-closed = refl; not-down = refl; own = all-passed rest st o (b .1) }
-  rules-pass (ofOpen own rest) st o e =
+      record { sizes = l .0; block = l .1; counts = b .0; not-closed = refl; not-down = refl; own = all-passed rest st (b .1) }
+  rules-pass (ofOpen own rest) st e =
       let a = passed _ 1 _ (omega arith) e in
       let b = passed _ 2 _ (omega arith) (a .1) in
       let c = passed _ 3 _ (omega arith) (b .1) in
       let d = passed _ 4 _ (omega arith) (c .1) in
       let l = neither _ _ (a .0) in
-      record { sizes = l .0; block = l .1; counts = b .0; not-closed = c .0; not-down = d .0; own = all-passed rest st o (d .1) }
+      record { sizes = l .0; block = l .1; counts = b .0; not-closed = c .0; not-down = d .0; own = all-passed rest st (d .1) }
 
   -- n being the number that was computed
   pub cause-passes : (q : Request) (st : State) (n : ℕ) → n ≡ cause geo q st → n ≡ 0 → Passes geo q st
-  cause-passes q st n e z = rules-pass (rules geo q) st (own-over geo q) (sym e ∙ z)
+  cause-passes q st n e z = rules-pass (rules geo q) st (sym e ∙ z)
 
   -- a call that reads the record and passes finds it sound
   pub passes-sound : (q : Request) (st : State) (n : ℕ) → readsRecord geo q ≡ true → n ≡ cause geo q st → n ≡ 0 → Checked geo st
@@ -295,7 +282,7 @@ module _ (geo : Geometry) where
   pub cause-block : (q : Request) (st : State) → wrongBlock geo q ≡ true → cause geo q st ≡ 1
   cause-block q st = go (rules geo q)
     where
-      go : (r : Rules) → ownSize r ≡ true → first (rows geo r) st ≡ 1
+      go : (r : Rules) → ownSize r ≡ true → causeBy geo r st ≡ 1
       go (ofBytes own rest) b = rw (b, or-true)
       go (ofRecord own rest) b = rw (b, or-true)
       go (ofOpen own rest) b = rw (b, or-true)
@@ -318,9 +305,9 @@ rows-4 false false false false n rest e = rw e
 module _ (geo : Geometry) where
   module _ (st : State) (n : ℕ) (rest : List Row) where
     -- power has rows 1 and 2 alone. n is what they come to: a call that reads the record gives it, or what its own rows come to
-    pub cause-2 : n ≡ cause geo (power 0) st → first (rows geo (ofRecord false rest)) st ≡ cond (eqb n 0) (first rest st) n
+    pub cause-2 : n ≡ cause geo (power 0) st → causeBy geo (ofRecord false rest) st ≡ cond (eqb n 0) (first rest st) n
     cause-2 e = rows-2 (wrongSizes geo st || false) (wrongRecord geo st) n _ e
 
     -- abandon has rows 1 to 4 alone: likewise for a call that needs an open record
-    pub cause-4 : (own : Bool) → own ≡ false → n ≡ cause geo abandon st → first (rows geo (ofOpen own rest)) st ≡ cond (eqb n 0) (first rest st) n
+    pub cause-4 : (own : Bool) → own ≡ false → n ≡ cause geo abandon st → causeBy geo (ofOpen own rest) st ≡ cond (eqb n 0) (first rest st) n
     cause-4 own block e = rw block (rows-4 (wrongSizes geo st || false) (wrongRecord geo st) (eqb (st .rec .mode) closed) (eqb (st .rec .mode) down) n _ e)

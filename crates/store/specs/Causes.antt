@@ -1,6 +1,6 @@
 -- The table of causes: "The first cause in table order is given, and each is given whenever it applies." Its rows first, in table order;
 -- then which rows each call has.
-use Prim.Native.Nat.{ℕ, zero, suc, _+_, _*_}
+use Prim.Native.Nat.{ℕ, zero, suc, _+_, _*_, _<_}
 use mathlib.Core.Bool.{Bool, true, false, cond, not, _&&_, _||_}
 use mathlib.Core.List.{List, [], _∷_}
 use lib.Dec.{eqb, leb, ltb}
@@ -31,11 +31,6 @@ module _ (geo : Geometry) where
   abbrev pub workBytes : ℕ
   workBytes = entryBytes * (geo .slots + geo .slots)
 
--- a row of the table: its number and its test
-pub record Row : Type 0 where
-  pub number : ℕ
-  pub test : State → Bool
-
 -- ---- 1: "a lent buffer's length is wrong, N out of bounds"
 
 module _ (geo : Geometry) where
@@ -45,9 +40,9 @@ module _ (geo : Geometry) where
       || not (eqb (length (st .waiting)) (waitingBytes geo))
       || not (eqb (length (st .work)) (workBytes geo))
 
-  -- the lent buffers, and what the call's own arguments have wrong: "a put block not 512 bytes"
-  abbrev pub sizeRow : Bool → Row
-  sizeRow own = record { number = 1; test = λ st. wrongSizes st || own }
+  -- the lent buffers, and what the call's own arguments have wrong: "a put block not 512 bytes"; else as the rest says
+  abbrev pub sizeRow : Bool → State → ℕ → ℕ
+  sizeRow own st rest = cond (wrongSizes st || own) 1 rest
 
 -- ---- 2
 
@@ -98,34 +93,40 @@ module _ (geo : Geometry) where
   abbrev pub wrongRecord : State → Bool
   wrongRecord st = wrongCounts geo st || wrongWaiting st || (eqb (st .rec .mode) openMode && wrongLists st)
 
-  abbrev pub recordRow : Row
-  recordRow = record { number = 2; test = wrongRecord }
+  abbrev pub recordRow : State → ℕ → ℕ
+  recordRow st rest = cond (wrongRecord st) 2 rest
+
+-- a row behind these two: its number and its test
+pub record Row : Type 0 where
+  pub number : ℕ
+  pub behind : 2 < number
+  pub test : State → Bool
 
 -- ---- 3: "mode closed (put, get, commit, abandon, sync, apply)"
 
 abbrev pub closedRow : Row
-closedRow = record { number = 3; test = λ st. eqb (st .rec .mode) closed }
+closedRow = record { number = 3; behind = lib.Dec.lit< tt; test = λ st. eqb (st .rec .mode) closed }
 
 -- ---- 4: "mode down (those and recover)"
 
 abbrev pub downRow : Row
-downRow = record { number = 4; test = λ st. eqb (st .rec .mode) down }
+downRow = record { number = 4; behind = lib.Dec.lit< tt; test = λ st. eqb (st .rec .mode) down }
 
 -- ---- 5: "recover when open"
 
 abbrev pub openRow : Row
-openRow = record { number = 5; test = λ st. eqb (st .rec .mode) openMode }
+openRow = record { number = 5; behind = lib.Dec.lit< tt; test = λ st. eqb (st .rec .mode) openMode }
 
 -- ---- 6: "put or get address not a data block"
 
 module _ (geo : Geometry) where
   abbrev pub addressRow : ℕ → Row
-  addressRow a = record { number = 6; test = λ st. not (isData geo (st .rec .blocks) a) }
+  addressRow a = record { number = 6; behind = lib.Dec.lit< tt; test = λ st. not (isData geo (st .rec .blocks) a) }
 
   -- ---- 7: "put of a new address with 32 open"
 
   abbrev pub openFullRow : ℕ → Row
-  openFullRow a = record { number = 7; test = λ st. not (isFound (find (st .work) openFrom (st .rec .opened) a)) && leb (geo .slots) (st .rec .opened) }
+  openFullRow a = record { number = 7; behind = lib.Dec.lit< tt; test = λ st. not (isFound (find (st .work) openFrom (st .rec .opened) a)) && leb (geo .slots) (st .rec .opened) }
 
   -- "commit giving over 32"
 
@@ -135,22 +136,22 @@ module _ (geo : Geometry) where
   newcomers work g (suc n) = newcomers work g n + cond (isFound (find work (groupFrom geo) g (listed work openFrom n .address))) 0 1
 
   abbrev pub groupFullRow : Row
-  groupFullRow = record { number = 7; test = λ st. ltb (geo .slots) (st .rec .grouped + newcomers (st .work) (st .rec .grouped) (st .rec .opened)) }
+  groupFullRow = record { number = 7; behind = lib.Dec.lit< tt; test = λ st. ltb (geo .slots) (st .rec .grouped + newcomers (st .work) (st .rec .grouped) (st .rec .opened)) }
 
   -- ---- 8: "recover: format not 1, other N, n over 32 or p over n"
 
   abbrev pub foreignRow : Row
-  foreignRow = record { number = 8; test = λ st. eqb (choiceNumber (choose geo (st .rec .blocks) (st .settled))) 8 }
+  foreignRow = record { number = 8; behind = lib.Dec.lit< tt; test = λ st. eqb (choiceNumber (choose geo (st .rec .blocks) (st .settled))) 8 }
 
   -- ---- 9: "recover: neither list good"
 
   abbrev pub unsoundRow : Row
-  unsoundRow = record { number = 9; test = λ st. eqb (choiceNumber (choose geo (st .rec .blocks) (st .settled))) 9 }
+  unsoundRow = record { number = 9; behind = lib.Dec.lit< tt; test = λ st. eqb (choiceNumber (choose geo (st .rec .blocks) (st .settled))) 9 }
 
 -- ---- 10: "cut: marks not as many as waiting, or a mark over 1"
 
 abbrev pub marksRow : List ℕ → Row
-marksRow ms = record { number = 10; test = λ st. not (marksFit ms (st .rec .waiting)) }
+marksRow ms = record { number = 10; behind = lib.Dec.lit< tt; test = λ st. not (marksFit ms (st .rec .waiting)) }
 
 -- ---- the rows of a call
 
@@ -162,12 +163,6 @@ pub data Rules : Type 0 where
   ofOpen : Bool → List Row → Rules
 
 module _ (geo : Geometry) where
-  -- "Format checks 1 only; power and cut 1 and 2." A call that needs an open record has 3 and 4 as well
-  abbrev pub rows : Rules → List Row
-  rows (ofBytes own rest) = sizeRow geo own ∷ rest
-  rows (ofRecord own rest) = sizeRow geo own ∷ recordRow geo ∷ rest
-  rows (ofOpen own rest) = sizeRow geo own ∷ recordRow geo ∷ closedRow ∷ downRow ∷ rest
-
   abbrev pub rules : Request → Rules
   rules format = ofBytes false []
   rules (local (Local.power k)) = ofRecord false []
@@ -197,5 +192,11 @@ first [] st = 0
 first (r ∷ rs) st = cond (r .test st) (r .number) (first rs st)
 
 module _ (geo : Geometry) where
+  -- "Format checks 1 only; power and cut 1 and 2." A call that needs an open record has 3 and 4 as well
+  abbrev pub causeBy : Rules → State → ℕ
+  causeBy (ofBytes own rest) st = sizeRow geo own st (first rest st)
+  causeBy (ofRecord own rest) st = sizeRow geo own st (recordRow geo st (first rest st))
+  causeBy (ofOpen own rest) st = sizeRow geo own st (recordRow geo st (first (closedRow ∷ downRow ∷ rest) st))
+
   abbrev pub cause : Request → State → ℕ
-  cause q st = first (rows geo (rules geo q)) st
+  cause q st = causeBy (rules geo q) st

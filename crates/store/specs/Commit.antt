@@ -30,8 +30,10 @@ module _ (geo : Geometry) where
   joined zero g = g
   joined (suc n) g = join (listed (g .work) openFrom n) (joined n g)
 
-  unfoldable pub commitCall : State → Outcome
-  commitCall st =
+  abbrev pub committed : State → State
+  committed st =
       let g = joined (st .rec .opened) (record { work = st .work; count = st .rec .grouped }) in
-      unless (cause geo commit st) st
-      (completed (withRecord (withOpened 0 (withGrouped (g .count) (st .rec))) (withWork (g .work) st)))
+      withRecord (withOpened 0 (withGrouped (g .count) (st .rec))) (withWork (g .work) st)
+
+  unfoldable pub commitCall : State → Outcome
+  commitCall st = unless (cause geo commit st) st (completed (committed st))

@@ -15,8 +15,9 @@ use Rattle.store.specs.Outcomes.{completed, unless}
 abbrev pub shut : Record → Record
 shut r = withMode closed (withOpened 0 (withGrouped 0 (withLog 0 start r)))
 
+abbrev pub cutting : List ℕ → State → State
+cutting marks st = withCard (Card.cut marks (cardIn st)) (withRecord (shut (st .rec)) st)
+
 module _ (geo : Geometry) where
   unfoldable pub cutCall : List ℕ → State → Outcome
-  cutCall marks st =
-      unless (cause geo (cut marks) st) st
-      (completed (withCard (Card.cut marks (cardIn st)) (withRecord (shut (st .rec)) st)))
+  cutCall marks st = unless (cause geo (cut marks) st) st (completed (cutting marks st))

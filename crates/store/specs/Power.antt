@@ -6,6 +6,9 @@ use Rattle.store.specs.Request.{power}
 use Rattle.store.specs.Causes.{cause}
 use Rattle.store.specs.Outcomes.{completed, unless}
 
+abbrev pub powered : ℕ → State → State
+powered k st = withRecord (withQueue (st .rec .waiting) k (st .rec)) st
+
 module _ (geo : Geometry) where
   unfoldable pub powerCall : ℕ → State → Outcome
-  powerCall k st = unless (cause geo (power k) st) st (completed (withRecord (withQueue (st .rec .waiting) k (st .rec)) st))
+  powerCall k st = unless (cause geo (power k) st) st (completed (powered k st))

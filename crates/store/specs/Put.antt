@@ -15,8 +15,9 @@ abbrev pub putAt : Found → Entry → State → State
 putAt (At i) e st = withWork (setEntry (st .work) i e) st
 putAt Absent e st = withRecord (withOpened (st .rec .opened + 1) (st .rec)) (withWork (setEntry (st .work) (st .rec .opened) e) st)
 
+abbrev pub putting : ℕ → List ℕ → State → State
+putting a b st = putAt (find (st .work) openFrom (st .rec .opened) a) (record { address = a; block = b }) st
+
 module _ (geo : Geometry) where
   unfoldable pub putCall : ℕ → List ℕ → State → Outcome
-  putCall a b st =
-      unless (cause geo (put a b) st) st
-      (completed (putAt (find (st .work) openFrom (st .rec .opened) a) (record { address = a; block = b }) st))
+  putCall a b st = unless (cause geo (put a b) st) st (completed (putting a b st))

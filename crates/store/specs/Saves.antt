@@ -90,8 +90,11 @@ module _ (geo : Geometry) where
   -- ---- apply
 
   -- "n = 0: done, no orders."
+  abbrev pub applying : State → Outcome
+  applying st = cond (eqb (st .rec .logged) 0) (completed st) (emptying geo st)
+
   unfoldable pub applyCall : State → Outcome
-  applyCall st = unless (cause geo apply st) st (cond (eqb (st .rec .logged) 0) (completed st) (emptying geo st))
+  applyCall st = unless (cause geo apply st) st (applying st)
 
   -- ---- recover
 

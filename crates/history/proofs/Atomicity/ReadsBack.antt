@@ -27,10 +27,9 @@ use Rattle.store.specs.Request as Request
 use Rattle.store.specs.State.{State, Outcome, closed, openMode, withQueue, withRecord}
 use Rattle.store.specs.Causes.{cause}
 use Rattle.store.specs.Outcomes.{completed}
-use Rattle.store.specs.Power.{powerCall}
 use Rattle.history.specs.Call.{Call, requestOf, local, save, cut, power, sync, recover}
 use Rattle.history.specs.Plain.{Plain, Done, refusal, locally, served, plainStep, plainRecover}
-use Rattle.history.specs.Dispatch.{dispatch}
+use Rattle.history.specs.Dispatch.{called, dispatch}
 use Rattle.history.specs.Ledger.{Ledger, recoverHeaders, noted, entered, taken, logFound, sameLog}
 use Rattle.history.specs.History.{World, begun, next, after, storeNext, ledgerNext, foundWritten, acceptedCut, exception}
 use Rattle.history.specs.Statements.{noCut, Taken, ReadBack, WrittenSummed}
@@ -72,7 +71,7 @@ module _ (geo : Geometry) where
       }
 
   pub power-served : (k : ℕ) (w : World) → WorldSim geo w → dispatch geo (power k) (w .store) ≡ completed (withRecord (withQueue (w .store .rec .waiting) k (w .store .rec)) (w .store))
-  unfolding powerCall refusal
+  unfolding called refusal
   power-served k w m =
       let e : cause geo (Request.power k) (w .store) ≡ 0 = same-cause geo (w .store) (w .ledger) (w .plain) m (power k) in
       rw (eq-eqb _ 0 e)

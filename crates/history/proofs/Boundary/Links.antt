@@ -1,6 +1,6 @@
 -- Every record that a list of calls leaves fits its 36 bytes, and so C passes on the store's state.
 use Prim.Native.Nat.{ℕ, _^_, _<_}
-use mathlib.Core.Path.{_≡_, refl, ap, sym, _∙_}
+use mathlib.Core.Path.{_≡_, refl, ap, sym, subst, _∙_}
 use mathlib.Core.Logic.{_⊎_}
 use mathlib.Core.Bool.{Bool, true, false, cond}
 use mathlib.Core.List.{List, [], _∷_}
@@ -23,23 +23,23 @@ use Rattle.store.specs.Request as Request
 use Rattle.store.specs.State.{State, Outcome, openMode, down, withMode, withLog}
 use Rattle.store.specs.CodeState.{stateOf}
 use Rattle.store.specs.Causes.{cause}
+use Rattle.store.specs.Outcomes.{refused}
 use Rattle.store.specs.Format.{formatted, formatCall}
-use Rattle.store.specs.Power.{powerCall}
-use Rattle.store.specs.Saves.{carried, applies, metByAppend, innerOrders, syncing, syncCall, applyCall, recoverCall}
-use Rattle.store.specs.Cut.{cutCall}
+use Rattle.store.specs.Saves.{carried, applies, metByAppend, innerOrders, syncing}
 use Rattle.store.proofs.Saves.{apply-carried}
 use Rattle.store.proofs.Causes.{sizes-facts}
-use Rattle.firmware.specs.Face.{recordBytes, decodeRecord, Face, faced, handed, Got, gotIn, got}
+use Rattle.firmware.specs.Face.{recordBytes, decodeRecord, Face, faceOf, faced, handed, Got, gotIn, got}
 use Rattle.firmware.proofs.Records.{length-encode, Fitting, decode-encode}
 use Rattle.firmware.proofs.Faces.{faced-length, faced-outcome, got-place}
-use Rattle.history.specs.Call.{Call, requestOf, local, save, cut, power, put, commit, abandon}
+use Rattle.history.specs.Call.{Call, requestOf, local, save, cut, power, get, ofGet}
 use Rattle.history.specs.Plain.{Plain, Done, refusal, locally, served, plainStep, plainCut}
-use Rattle.history.specs.Dispatch.{dispatch}
+use Rattle.history.specs.Dispatch.{called, dispatch}
 use Rattle.history.specs.Ledger.{Ledger, entered}
 use Rattle.history.specs.History.{World, begun, next, after, foundWritten}
 use Rattle.history.specs.Linked.{faceNext, faceAfter, Passable, AllPassable, BytesOf, Links, Linked}
 use Rattle.store.proofs.Causes.{needsOpen}
 use Rattle.history.proofs.Relation.CauseLaws.{record-facts, cause-passes}
+use Rattle.history.proofs.Relation.Forms.{get-called}
 use Rattle.history.proofs.Relation.Sim.{OpenSim, ClosedSim, DownSim, Safe}
 use Rattle.history.proofs.Steps.Shown.{same-cause, dispatch-refused, plain-refused, plain-served}
 use Rattle.history.proofs.Steps.Local.{is-open}
@@ -124,12 +124,12 @@ module _ (geo : Geometry) where
         step geo c world (s .sim) .agrees .mode ∙ ap (λ (x : Done). x .plain .mode) (plain-served geo c (foundWritten geo c world) (s .plain) r) ∙ k ∙ s .sim .basics .mirrors .mode ∙ o .mode
 
     local-sums : (c : Local) → LocalKind geo c → cause geo (Request.local c) st ≡ 0 → Sums st (dispatch geo (local c) st)
-    unfolding powerCall
+    unfolding called
     local-sums c (powers k) h = rw (eq-eqb _ 0 h) (_⊎_.inr (_⊎_.inl refl))
     local-sums c (opens _ n u) h = _⊎_.inl (still-open (local c) (Request.local c) refl n h (u (s .plain) .mode))
 
     served-sums : (c : Call) → cause geo (requestOf c) st ≡ 0 → Sums st (dispatch geo c st)
-    unfolding powerCall syncCall applyCall recoverCall cutCall
+    unfolding called
     served-sums (local c) h = local-sums c (local-kind geo c) h
     served-sums (save Save.sync) h =
         rw (eq-eqb _ 0 h) (sync-sums geo st (is-open geo st (s .ledger) (s .plain) (s .sim) Request.sync refl (cause-passes geo Request.sync st h) .mode))
@@ -203,31 +203,46 @@ module _ (geo : Geometry) where
 handed-holds : (o : Outcome) (f : Face) → f ≡ handed o → BytesOf f (o .state)
 handed-holds o f e = record { rec = ap (λ (x : Face). x .rec) e; settled = ap (λ (x : Face). x .settled) e; waiting = ap (λ (x : Face). x .waiting) e; work = ap (λ (x : Face). x .work) e }
 
+-- what holds of a get's, and of what every other call has
+of-get : {A : Type 0} (P : A → Type 0) (c : Call) (f : ℕ → A) (x : A) → ((a : ℕ) → c ≡ get a → P (f a)) → P x → P (ofGet c f x)
+of-get P (local (Local.power k)) f x g h = h
+of-get P (local (Local.put a b)) f x g h = h
+of-get P (local (Local.get a)) f x g h = g a refl
+of-get P (local Local.commit) f x g h = h
+of-get P (local Local.abandon) f x g h = h
+of-get P (save c) f x g h = h
+of-get P (cut ms) f x g h = h
+
 module _ (geo : Geometry) where
-  linked-call : (c : Call) (f : Face) (st : State) → faceNext geo c f ≡ handed (dispatch geo c st) → ((a : ℕ) → got geo a (f .rec) (f .settled) (f .waiting) (f .work) ≡ gotIn geo a st) → Links geo c f st
-  linked-call c f st e g = record {
+  -- a call through C is the store's, but for a get's place
+  record Same (c : Call) (st : State) (f : Face) : Type 0 where
+    number : f .number ≡ dispatch geo c st .answer
+    orders : f .orders ≡ dispatch geo c st .orders
+    left : BytesOf f (dispatch geo c st .state)
+
+  same-handed : (c : Call) (st : State) (f : Face) → f ≡ handed (dispatch geo c st) → Same c st f
+  same-handed c st f e = record {
     number = ap (λ (x : Face). x .number) e;
     orders = ap (λ (x : Face). x .orders) e;
-    place = g;
-    left = handed-holds (dispatch geo c st) (faceNext geo c f) e;
+    left = handed-holds (dispatch geo c st) f e;
   }
 
-  local-links : (c : Local) (f : Face) (st : State) → BytesOf f st → Fitting (st .rec) → Links geo (local c) f st
-  local-links (Local.power k) f st h t = linked-call (power k) f st (faced-next (dispatch geo (power k)) f st h t) (got-next geo f st h t)
-  local-links (Local.put a b) f st h t = linked-call (put a b) f st (faced-next (dispatch geo (put a b)) f st h t) (got-next geo f st h t)
-  local-links (Local.get a) f st h t = record {
-    number = ap (λ (x : Got). x .number) (got-next geo f st h t a);
-    orders = refl;
-    place = got-next geo f st h t;
-    left = record { rec = h .rec; settled = h .settled; waiting = h .waiting; work = h .work };
+  same-got : (a : ℕ) (f : Face) (st : State) → BytesOf f st → Fitting (st .rec) → Same (get a) st (faceNext geo (get a) f)
+  same-got a f st h t = record {
+    number = ap (λ (x : Got). x .number) (got-next geo f st h t a) ∙ ap (λ (o : Outcome). o .answer) turned;
+    orders = ap (λ (o : Outcome). o .orders) turned;
+    left = subst (λ (o : Outcome). BytesOf (faceNext geo (get a) f) (o .state)) turned (record { rec = h .rec; settled = h .settled; waiting = h .waiting; work = h .work });
   }
-  local-links Local.commit f st h t = linked-call commit f st (faced-next (dispatch geo commit) f st h t) (got-next geo f st h t)
-  local-links Local.abandon f st h t = linked-call abandon f st (faced-next (dispatch geo abandon) f st h t) (got-next geo f st h t)
+    where
+      turned : refused (cause geo (Request.get a) st) st ≡ dispatch geo (get a) st
+      turned = sym (get-called geo a st)
 
   links : (c : Call) (f : Face) (st : State) → BytesOf f st → Fitting (st .rec) → Links geo c f st
-  links (local c) f st h t = local-links c f st h t
-  links (save c) f st h t = linked-call (save c) f st (faced-next (dispatch geo (save c)) f st h t) (got-next geo f st h t)
-  links (cut ms) f st h t = linked-call (cut ms) f st (faced-next (dispatch geo (cut ms)) f st h t) (got-next geo f st h t)
+  links c f st h t =
+      let s : Same c st (faceNext geo c f) =
+      of-get (Same c st) c _ _ (λ a e. subst (λ (x : Call). Same x st (faceNext geo (get a) f)) (sym e) (same-got a f st h t))
+      (same-handed c st _ (faced-next (dispatch geo c) f st h t)) in
+      record { number = s .number; orders = s .orders; place = got-next geo f st h t; left = s .left }
 
   -- ---- a list of calls
 

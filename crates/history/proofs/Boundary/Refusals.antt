@@ -40,7 +40,7 @@ use Rattle.store.specs.Save as Save
 use Rattle.store.specs.Request.{Request, format, local, save, cut, sync, apply, recover}
 use Rattle.store.specs.Causes.{waitingBytes, cause}
 use Rattle.store.specs.Outcomes.{completed}
-use Rattle.store.specs.Saves.{carried, groupOf, applies, recoverCall}
+use Rattle.store.specs.Saves.{carried, groupOf, applies}
 use Rattle.store.proofs.Calls.{call-done}
 use Rattle.store.proofs.Causes.{sizes-facts}
 use Rattle.history.specs.Dispatch.{called}
@@ -198,8 +198,8 @@ recover-few N Foreign = omega arith
 recover-few N Neither = omega arith
 
 module _ (geo : Geometry) where
-  recover-two : (st : State) → recoverCall geo st .orders ≤ 2
-  unfolding recoverCall carried
+  recover-two : (st : State) → called geo recover st .orders ≤ 2
+  unfolding called carried
   recover-two st =
       unless-either (λ o. o .orders ≤ 2) (cause geo recover st) st _
       (λ e. omega (arith, recover-few (st .rec .blocks) (choose geo (st .rec .blocks) (st .settled))))

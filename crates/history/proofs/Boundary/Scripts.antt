@@ -1,14 +1,22 @@
 -- A line of a script is its call, and a script from a format on is a list of calls.
 use Prim.Native.Nat.{ℕ, _*_}
 use mathlib.Core.Path.{_≡_, refl, ap, sym, _∙_}
-use mathlib.Core.Bool.{false}
+use mathlib.Core.Bool.{false, cond}
 use mathlib.Core.List.{List, [], _∷_, _++_, append-assoc}
-use lib.ListN.{length, length-replicate}
+use lib.Dec.{eqb}
+use lib.ListN.{length, getD, length-replicate}
 use Rattle.cells.specs.Entry.{blockBytes}
 use Rattle.store.specs.Request as Request
-use Rattle.store.specs.State.{State}
-use Rattle.store.specs.Causes.{waitingBytes, workBytes, wrongSizes}
+use Rattle.store.specs.State.{State, Outcome}
+use Rattle.store.specs.Causes.{waitingBytes, workBytes, wrongSizes, cause}
+use Rattle.store.specs.Outcomes.{refused}
 use Rattle.store.specs.Format.{formatCall}
+use Rattle.store.specs.Power.{powerCall}
+use Rattle.store.specs.Put.{putCall}
+use Rattle.store.specs.Abandon.{abandonCall}
+use Rattle.store.specs.Commit.{commitCall}
+use Rattle.store.specs.Saves.{syncCall, applyCall, recoverCall}
+use Rattle.store.specs.Cut.{cutCall}
 use Rattle.script.specs.declared.command.Command.{Command}
 use Rattle.script.specs.declared.command.Command.the-variants.{Format, Power, Put, Get, Commit, Abandon, Sync, Apply, Recover, Cut, Bad}
 use Rattle.script.specs.Commands.{parse}
@@ -17,43 +25,32 @@ use Rattle.script.specs.Replies.{perform, answered}
 use Rattle.script.specs.Transcript.{reply, printed, said, beginning, transcript}
 use Rattle.journal.specs.Geometry.{trap}
 use Rattle.history.specs.Call.{requestOf}
-use Rattle.history.specs.Dispatch.{called}
+use Rattle.history.specs.Dispatch.{called, blockOf}
 use Rattle.history.specs.History.{World, begun, next}
 use Rattle.history.specs.Scripts.{Says, nothing, begins, asks, saysOf, says, lineOf, leftBy, ByCall, leftAfter, worldBy, told, ScriptsAreHistories}
-use Rattle.history.proofs.Relation.Forms.{SameSizes, called-sized}
+use Rattle.history.proofs.Relation.Forms.{SameSizes, get-called, called-sized}
 
 -- ---- a line
 
-prints-by : (c : Command) (l : List ℕ) (st : State) → answered c (perform c l st) ≡ lineOf (saysOf c l) c st
-unfolding perform answerLine decimal digits
-prints-by Format l st = refl
-prints-by (Power k) l st = refl
-prints-by (Put a b) l st = refl
-prints-by (Get a) l st = refl
-prints-by Commit l st = refl
-prints-by Abandon l st = refl
-prints-by Sync l st = refl
-prints-by Apply l st = refl
-prints-by Recover l st = refl
-prints-by Cut l st = refl
-prints-by Bad l st = refl
-
-leaves-by : (c : Command) (l : List ℕ) (st : State) → perform c l st .state ≡ leftBy (saysOf c l) st
-unfolding perform
-leaves-by Format l st = refl
-leaves-by (Power k) l st = refl
-leaves-by (Put a b) l st = refl
-leaves-by (Get a) l st = refl
-leaves-by Commit l st = refl
-leaves-by Abandon l st = refl
-leaves-by Sync l st = refl
-leaves-by Apply l st = refl
-leaves-by Recover l st = refl
-leaves-by Cut l st = refl
-leaves-by Bad l st = refl
+-- what a command prints, and what it leaves
+by-command : (c : Command) (l : List ℕ) (st : State) → (answered c (perform c l st) ≡ lineOf (saysOf c l) c st) × (perform c l st .state ≡ leftBy (saysOf c l) st)
+unfolding perform called formatCall powerCall putCall commitCall abandonCall syncCall applyCall recoverCall cutCall answerLine decimal digits
+by-command Format l st = (refl, refl)
+by-command (Power k) l st = (refl, refl)
+by-command (Put a b) l st = (refl, refl)
+by-command (Get a) l st =
+    let e : refused (cause trap (Request.get a) st) st ≡ called trap (Request.get a) st = sym (get-called trap a st) in
+    (ap (λ (o : Outcome). answerLine (Get a) (o .answer) (cond (eqb (o .answer) 0) (getD (blockOf trap a st) 0 0) 0)) e, ap (λ (o : Outcome). o .state) e)
+by-command Commit l st = (refl, refl)
+by-command Abandon l st = (refl, refl)
+by-command Sync l st = (refl, refl)
+by-command Apply l st = (refl, refl)
+by-command Recover l st = (refl, refl)
+by-command Cut l st = (refl, refl)
+by-command Bad l st = (refl, refl)
 
 pub by-call : (l : List ℕ) (st : State) → ByCall l st
-by-call l st = record { prints = prints-by (parse l) l st; leaves = leaves-by (parse l) l st }
+by-call l st = let b = by-command (parse l) l st in record { prints = b .0; leaves = b .1 }
 
 -- ---- no call changes a buffer's length
 
@@ -91,7 +88,7 @@ said-append [] ms st = refl
 said-append (l ∷ ls) ms st = ap (λ (x : List ℕ). printed l st ++ x) (said-append ls ms (reply l st .state)) ∙ sym (append-assoc (printed l st) (said ls (reply l st .state)) _)
 
 called-store : (s : Says) (w : World) → leftBy s (w .store) ≡ worldBy s w .store
-unfolding begun next
+unfolding begun next called formatCall
 called-store nothing w = refl
 called-store begins w = refl
 called-store (asks c) w = refl
@@ -107,10 +104,11 @@ said-told (l ∷ ls) w =
 -- ---- the theorem
 
 format-line : (f : List ℕ) (st : State) → parse f ≡ Format → formatCall trap st .answer ≡ 0 → printed f st ≡ answerLine Format 0 0
+unfolding answerLine formatCall called
 format-line f st p h = by-call f st .prints ∙ ap (λ (c : Command). lineOf (saysOf c f) c st) p ∙ ap (λ (k : ℕ). answerLine Format k 0) h
 
 format-left : (f : List ℕ) (st : State) → parse f ≡ Format → reply f st .state ≡ begun trap st .store
-unfolding begun
+unfolding begun formatCall called
 format-left f st p = by-call f st .leaves ∙ ap (λ (c : Command). leftBy (saysOf c f) st) p
 
 pub scripts : ScriptsAreHistories

@@ -25,10 +25,10 @@ use Rattle.store.specs.Save as Save
 use Rattle.store.specs.Request as Request
 use Rattle.store.specs.Request.{Request}
 use Rattle.store.specs.Causes as Causes
-use Rattle.store.specs.Causes.{wrongSizes, wrongCounts, wrongWaiting, wrongLists, wrongRecord, Row, sizeRow, recordRow, closedRow, downRow, Rules, ofBytes, ofRecord, ofOpen, rows, rules, ownSize, wrongBlock, some, first, cause}
-use Rattle.store.proofs.Causes.{restOf, readsRecord, needsOpen, ownRows, own-over, other, SizeFacts, sizes-facts, counts-facts, waiting-facts, Passes, cause-passes as Causes·cause-passes}
+use Rattle.store.specs.Causes.{wrongSizes, wrongCounts, wrongWaiting, wrongLists, wrongRecord, Row, closedRow, downRow, addressRow, openFullRow, groupFullRow, Rules, ofBytes, ofRecord, ofOpen, rules, ownSize, wrongBlock, some, first, causeBy, cause}
+use Rattle.store.proofs.Causes.{readsRecord, needsOpen, other, SizeFacts, sizes-facts, counts-facts, waiting-facts, Passes, cause-passes as Causes·cause-passes}
 use Rattle.history.specs.Call.{Call, requestOf, local, save, cut, recover}
-use Rattle.history.specs.Plain.{Plain, refusal}
+use Rattle.history.specs.Plain.{Plain, whenOpen, refusal}
 use Rattle.history.proofs.Relation.Lists.{none-some, find-has, Distinct, twice-distinct, distinct-twice, Data, strays-all, all-strays}
 use Rattle.history.proofs.Relation.WorkLists.{newcomers-merge}
 
@@ -167,23 +167,25 @@ when-open m x y h e = go (eqb m closed) (eqb m down) refl refl
 
 module _ (geo : Geometry) where
   module _ (st : State) (d : Plain) (sizes : wrongSizes geo st ≡ false) (counts : wrongRecord geo st ≡ false) (m : Mirrors geo st d) where
+    -- rows 1 to 4 of a call that needs an open record; its own rows count when open
+    open-refusal : (own : Bool) (rs : List Row) (k : ℕ) → (st .rec .mode ≡ openMode → first rs st ≡ k) → causeBy geo (ofOpen own rs) st ≡ cond own 1 (whenOpen d k)
+    open-refusal own rs k e =
+        rw (sizes, counts, m .mode) (ap (λ (n : ℕ). cond own 1 n) (when-open (st .rec .mode) (first rs st) k (record-facts geo st counts .mode) e))
+
     pub cause-refusal : (c : Call) → (c ≡ recover → st .rec .mode ≡ closed → choiceNumber (choose geo (st .rec .blocks) (st .settled)) ≡ 0)
         → cause geo (requestOf c) st ≡ refusal geo c d
     unfolding refusal
     cause-refusal (local (Local.power k)) h = rw (sizes, counts)
     cause-refusal (local (Local.put a b)) h =
-        rw (sizes, counts, m .mode, m .N)
-        (ap (λ (k : ℕ). cond (not (eqb (length b) blockBytes)) 1 k)
-        (when-open (st .rec .mode) _ _ (record-facts geo st counts .mode)
-        (λ o. rw (find-has (st .work) openFrom (st .rec .opened) a, m .T o, length-upTo (listed (st .work) openFrom) (st .rec .opened)))))
-    cause-refusal (local (Local.get a)) h = rw (sizes, counts, m .mode, m .N)
+        open-refusal (not (eqb (length b) blockBytes)) (addressRow geo a ∷ openFullRow geo a ∷ []) _
+        (λ o. rw (m .N, find-has (st .work) openFrom (st .rec .opened) a, m .T o, length-upTo (listed (st .work) openFrom) (st .rec .opened)))
+    cause-refusal (local (Local.get a)) h = open-refusal false (addressRow geo a ∷ []) _ (λ o. rw (m .N))
     cause-refusal (local Local.commit) h =
-        rw (sizes, counts, m .mode)
-        (when-open (st .rec .mode) _ _ (record-facts geo st counts .mode)
-        (λ o. rw (newcomers-merge geo (st .work) (st .rec .grouped) (st .rec .opened) (record-facts geo st counts .lists o .open-distinct), m .T o, m .G o)))
-    cause-refusal (local Local.abandon) h = rw (sizes, counts, m .mode)
-    cause-refusal (save Save.sync) h = rw (sizes, counts, m .mode)
-    cause-refusal (save Save.apply) h = rw (sizes, counts, m .mode)
+        open-refusal false (groupFullRow geo ∷ []) _
+        (λ o. rw (newcomers-merge geo (st .work) (st .rec .grouped) (st .rec .opened) (record-facts geo st counts .lists o .open-distinct), m .T o, m .G o))
+    cause-refusal (local Local.abandon) h = open-refusal false [] 0 (λ o. refl)
+    cause-refusal (save Save.sync) h = open-refusal false [] 0 (λ o. refl)
+    cause-refusal (save Save.apply) h = open-refusal false [] 0 (λ o. refl)
     cause-refusal (save Save.recover) h = rw (sizes, counts, m .mode) (go (eqb (st .rec .mode) down) (eqb (st .rec .mode) openMode) refl refl)
       where
         choice : ℕ
@@ -203,50 +205,45 @@ module _ (geo : Geometry) where
 -- ---- numbers that are not given
 
 -- a row of another number in front
-first-else : (r : Row) (rs : List Row) (k : ℕ) (st : State) → r .number ≢ k → first rs st ≢ k → first (r ∷ rs) st ≢ k
-first-else r rs k st n f = go (r .test st)
-  where
-    go : (t : Bool) → cond t (r .number) (first rs st) ≢ k
-    go true = n
-    go false = f
+else-not : (t : Bool) (j k rest : ℕ) → j ≢ k → rest ≢ k → cond t j rest ≢ k
+else-not true j k rest n f = n
+else-not false j k rest n f = f
 
-first-not : (rs : List Row) (k : ℕ) (st : State) → k ≢ 0 → All (λ r. r .number ≢ k) rs → first rs st ≢ k
-first-not [] k st z a e = z (sym e)
-first-not (r ∷ rs) k st z a e = first-else r rs k st (a .0) (first-not rs k st z (a .1)) e
+-- the rows behind 1 and 2 give neither
+behind-not : (rs : List Row) (k : ℕ) (st : State) → k ≤ 2 → k ≢ 0 → first rs st ≢ k
+behind-not [] k st small z = λ e. z (sym e)
+behind-not (r ∷ rs) k st small z =
+    let h : 2 < r .number = r .behind in
+    else-not (r .test st) (r .number) k (first rs st) (λ e. omega arith) (behind-not rs k st small z)
 
 module _ (geo : Geometry) where
-  own-not : (q : Request) (k : ℕ) (st : State) → k ≤ 2 → k ≢ 0 → first (ownRows geo q) st ≢ k
-  own-not q k st small z = first-not (ownRows geo q) k st z (all-map (λ r. 2 < r .number) (λ r. r .number ≢ k) (λ r h e. omega arith) (ownRows geo q) (own-over geo q))
-
   -- 1 is for the call's own block
   pub cause-one : (q : Request) (st : State) → wrongSizes geo st ≡ false → cause geo q st ≡ 1 → wrongBlock geo q ≡ true
-  cause-one q st sizes = go (rules geo q) (own-not q 1 st (omega arith) (omega arith))
+  cause-one q st sizes = go (rules geo q)
     where
-      own-one : (t own : Bool) (rest : ℕ) → t ≡ false → cond (t || own) 1 rest ≡ 1 → rest ≢ 1 → own ≡ true
-      own-one true own rest z e h = absurd (false≢true (sym z))
-      own-one false true rest z e h = refl
-      own-one false false rest z e h = absurd (h e)
+      own-one : (t own : Bool) (rest : ℕ) → t ≡ false → rest ≢ 1 → cond (t || own) 1 rest ≡ 1 → own ≡ true
+      own-one true own rest z h e = absurd (false≢true (sym z))
+      own-one false true rest z h e = refl
+      own-one false false rest z h e = absurd (h e)
 
-      go : (r : Rules) → first (restOf r) st ≢ 1 → first (rows geo r) st ≡ 1 → ownSize r ≡ true
-      go (ofBytes own rest) h e = own-one (wrongSizes geo st) own (first rest st) sizes e h
-      go (ofRecord own rest) h e = own-one (wrongSizes geo st) own (first (recordRow geo ∷ rest) st) sizes e (first-else (recordRow geo) rest 1 st (omega arith) h)
-      go (ofOpen own rest) h e =
-          own-one (wrongSizes geo st) own (first (recordRow geo ∷ closedRow ∷ downRow ∷ rest) st) sizes e
-          (first-else (recordRow geo) (closedRow ∷ downRow ∷ rest) 1 st (omega arith)
-          (first-else closedRow (downRow ∷ rest) 1 st (omega arith)
-          (first-else downRow rest 1 st (omega arith) h)))
+      behind : (rs : List Row) → first rs st ≢ 1
+      behind rs = behind-not rs 1 st (omega arith) (omega arith)
+
+      go : (r : Rules) → causeBy geo r st ≡ 1 → ownSize r ≡ true
+      go (ofBytes own rest) = own-one (wrongSizes geo st) own _ sizes (behind rest)
+      go (ofRecord own rest) = own-one (wrongSizes geo st) own _ sizes (else-not (wrongRecord geo st) 2 1 _ (omega arith) (behind rest))
+      go (ofOpen own rest) = own-one (wrongSizes geo st) own _ sizes (else-not (wrongRecord geo st) 2 1 _ (omega arith) (behind (closedRow ∷ downRow ∷ rest)))
 
   pub cause-two : (q : Request) (st : State) → wrongRecord geo st ≡ false → cause geo q st ≢ 2
-  cause-two q st counts = go (rules geo q) (own-not q 2 st (omega arith) (omega arith))
+  cause-two q st counts = go (rules geo q)
     where
-      go : (r : Rules) → first (restOf r) st ≢ 2 → first (rows geo r) st ≢ 2
-      go (ofBytes own rest) h = first-else (sizeRow geo own) rest 2 st (omega arith) h
-      go (ofRecord own rest) h = first-else (sizeRow geo own) (recordRow geo ∷ rest) 2 st (omega arith) (rw counts h)
-      go (ofOpen own rest) h =
-          first-else (sizeRow geo own) (recordRow geo ∷ closedRow ∷ downRow ∷ rest) 2 st (omega arith)
-          (rw counts
-          (first-else closedRow (downRow ∷ rest) 2 st (omega arith)
-          (first-else downRow rest 2 st (omega arith) h)))
+      behind : (rs : List Row) → first rs st ≢ 2
+      behind rs = behind-not rs 2 st (omega arith) (omega arith)
+
+      go : (r : Rules) → causeBy geo r st ≢ 2
+      go (ofBytes own rest) = else-not (wrongSizes geo st || own) 1 2 _ (omega arith) (behind rest)
+      go (ofRecord own rest) = else-not (wrongSizes geo st || own) 1 2 _ (omega arith) (rw counts (behind rest))
+      go (ofOpen own rest) = else-not (wrongSizes geo st || own) 1 2 _ (omega arith) (rw counts (behind (closedRow ∷ downRow ∷ rest)))
 
   -- ---- a call that no row of the table refuses
 

@@ -32,13 +32,10 @@ use Rattle.store.specs.State.{State, Outcome, withLog, withGrouped, cardIn}
 use Rattle.store.specs.Lists.{openFrom, groupFrom, listed, find}
 use Rattle.store.specs.Causes.{cause}
 use Rattle.store.specs.Outcomes.{refused, completed, unless}
-use Rattle.store.specs.Format.{formatted, formatCall}
-use Rattle.store.specs.Power.{powerCall}
-use Rattle.store.specs.Put.{putAt, putCall}
-use Rattle.store.specs.Abandon.{abandonCall}
-use Rattle.store.specs.Commit.{Group, joinAt, join, joined, commitCall}
-use Rattle.store.specs.Saves.{carried, groupOf, applies, metByAppend, innerOrders, syncCall, applyCall, recoverCall}
-use Rattle.store.specs.Cut.{cutCall}
+use Rattle.store.specs.Format.{formatted}
+use Rattle.store.specs.Put.{putAt}
+use Rattle.store.specs.Commit.{Group, joinAt, join, joined}
+use Rattle.store.specs.Saves.{carried, groupOf, applies, metByAppend, innerOrders}
 use Rattle.store.proofs.Calls.{call-refused}
 use Rattle.store.proofs.Saves.{apply-carried}
 use Rattle.history.specs.Dispatch.{called}
@@ -48,17 +45,8 @@ use Rattle.history.specs.Refusals.{ordersOf, innerDone}
 
 module _ (geo : Geometry) where
   pub called-refused : (q : Request) (st : State) → cause geo q st ≢ 0 → called geo q st ≡ refused (cause geo q st) st
-  unfolding formatCall powerCall putCall commitCall abandonCall syncCall applyCall recoverCall cutCall
-  called-refused format st h = rw (ne-eqb _ 0 h)
-  called-refused (local (Local.power k)) st h = sym (call-refused _ _ st _ refl h)
-  called-refused (local (Local.put a b)) st h = rw (ne-eqb _ 0 h)
-  called-refused (local (Local.get a)) st h = refl
-  called-refused (local Local.commit) st h = rw (ne-eqb _ 0 h)
-  called-refused (local Local.abandon) st h = rw (ne-eqb _ 0 h)
-  called-refused (save Save.sync) st h = rw (ne-eqb _ 0 h)
-  called-refused (save Save.apply) st h = rw (ne-eqb _ 0 h)
-  called-refused (save Save.recover) st h = rw (ne-eqb _ 0 h)
-  called-refused (cut ms) st h = rw (ne-eqb _ 0 h)
+  unfolding called
+  called-refused q st h = rw (ne-eqb _ 0 h)
 
 -- ---- no call changes a buffer's length
 
@@ -139,11 +127,13 @@ unless-either P k st o done turned = go (eqb k 0) refl
     go true p = done (eqb-true k 0 p)
     go false p = turned
 
--- a get leaves everything, refused or not
-form-get : (k : ℕ) (st : State) → refused k st ≡ unless k st (completed st)
-form-get k st = unless-either (λ o. refused k st ≡ o) k st (completed st) (λ e. ap (λ (n : ℕ). refused n st) e) refl
-
 module _ (geo : Geometry) where
+  -- a get leaves everything, refused or not, and answers its cause
+  pub get-called : (a : ℕ) (st : State) → called geo (get a) st ≡ refused (cause geo (get a) st) st
+  unfolding called
+  get-called a st =
+      unless-either (λ o. o ≡ refused (cause geo (get a) st) st) (cause geo (get a) st) st (completed st) (λ e. ap (λ (n : ℕ). refused n st) (sym e)) refl
+
   -- the record that a sync leaves when cut short: that before the call, or the same with an empty log
   sync-left : (st : State) → cond (leb (length (innerOrders geo st)) (st .rec .power)) (metByAppend geo st) (st .rec) ≡ left (innerDone geo st) st
   sync-left st = go (applies geo st)
@@ -172,11 +162,11 @@ recover-other e = let z : _≡_ {A = ℕ} 0 1 = cc in omega arith
 
 module _ (geo : Geometry) where
   pub form : (q : Request) (st : State) → Form geo q st
-  unfolding formatCall powerCall putCall commitCall abandonCall syncCall applyCall recoverCall cutCall
+  unfolding called
   form format st = quiet _ refl refl (format-sized st)
   form (local (Local.power k)) st = quiet _ refl refl (record { settled = refl; waiting = refl; work = refl })
   form (local (Local.put a b)) st = quiet _ refl refl (put-sized (find (st .work) openFrom (st .rec .opened) a) (record { address = a; block = b }) st)
-  form (local (Local.get a)) st = quiet st (form-get (cause geo (get a) st) st) refl (same-size st)
+  form (local (Local.get a)) st = quiet _ refl refl (same-size st)
   form (local Local.commit) st =
       quiet _ refl refl (record { settled = refl; waiting = refl; work = joined-sized geo (st .rec .opened) (record { work = st .work; count = st .rec .grouped }) })
   form (local Local.abandon) st = quiet _ refl refl (record { settled = refl; waiting = refl; work = refl })

@@ -17,10 +17,10 @@ use Rattle.journal.proofs.Logs.{sumOf-nil}
 use Rattle.store.specs.Request as Request
 use Rattle.store.specs.State.{State, Outcome, withLog}
 use Rattle.store.specs.Causes.{cause}
-use Rattle.store.specs.Saves.{carried, applyCall, groupOf}
+use Rattle.store.specs.Saves.{carried, groupOf}
 use Rattle.history.specs.Call.{Call, get, apply}
 use Rattle.history.specs.Plain.{ofApply, Done, refusal, plainStep, plainApply, applyWaits, headerKept}
-use Rattle.history.specs.Dispatch.{dispatch}
+use Rattle.history.specs.Dispatch.{called, dispatch}
 use Rattle.history.specs.Ledger.{applyHeaders, noted, entered, applyHeader}
 use Rattle.history.specs.History.{World, ledgerNext, foundWritten}
 use Rattle.crash.proofs.Plans.{Plan, planned, takes, Throughout, throughout-map}
@@ -76,9 +76,9 @@ module _ (geo : Geometry) where
 
     -- n = 0
     none-logged : st .rec .logged ≡ 0 → StepOK geo apply w
-    unfolding entered applyCall
+    unfolding called entered
     none-logged z =
-        let D : applyCall geo st ≡ record { answer = 0; orders = 0; state = st } = rw (eq-eqb _ 0 accepted, eq-eqb _ 0 z) in
+        let D : dispatch geo apply st ≡ record { answer = 0; orders = 0; state = st } = rw (eq-eqb _ 0 accepted, eq-eqb _ 0 z) in
         nothing-step geo apply w (opened-sim geo f) D (plain ∙ apply-nothing (plainNow geo st S) z)
         (ap (λ (y : Outcome). noted (applyHeaders st) (y .orders) (settledLedger v)) D ∙ noted-none (applyHeaders st) (settledLedger v)) apply-no-get
 
@@ -90,8 +90,8 @@ module _ (geo : Geometry) where
       count : takes plan ≡ st .rec .logged + 3
       count = checkpoint-takes geo st (settledLedger v) (plainNow geo st S) b o
 
-      call : applyCall geo st ≡ carried (planned plan) (withLog 0 start (st .rec)) (st .rec) st
-      unfolding applyCall
+      call : dispatch geo apply st ≡ carried (planned plan) (withLog 0 start (st .rec)) (st .rec) st
+      unfolding called
       call = rw (eq-eqb _ 0 accepted, ne-eqb _ 0 z) (ap (λ (os : List Order). carried os (withLog 0 start (st .rec)) (st .rec) st) (checkpoint-orders geo st (settledLedger v) (plainNow geo st S) b o))
 
       cuts : Throughout (CutsAt geo w (applyHeader st ∷ []) ofApply (applyWaits (st .rec .logged))) [] plan (st .settled) 0

@@ -23,12 +23,12 @@ use Rattle.store.specs.Request as Request
 use Rattle.store.specs.State.{State, Outcome, down, withRecord, withCard, cardIn}
 use Rattle.store.specs.Causes.{cause}
 use Rattle.store.specs.Outcomes.{completed}
-use Rattle.store.specs.Cut.{shut, cutCall}
+use Rattle.store.specs.Cut.{shut}
 use Rattle.store.proofs.Causes.{sizes-facts}
 use Rattle.journal.specs.Geometry.{Geometry}
 use Rattle.history.specs.Call.{get, cut}
 use Rattle.history.specs.Plain.{Plain, Done, plainStep, none, still, closedWith, Verdict, refusal, plainCut, headerKept}
-use Rattle.history.specs.Dispatch.{dispatch}
+use Rattle.history.specs.Dispatch.{called, dispatch}
 use Rattle.history.specs.Ledger.{Ledger, nothing, settledBy, resolved, entered, logFound, sameLog, collides}
 use Rattle.history.specs.History.{World, storeNext, ledgerNext, foundWritten, acceptedCut, exception}
 use Rattle.history.proofs.Relation.CauseLaws.{facts-sizes, record-facts, facts-record, idle}
@@ -66,8 +66,8 @@ abbrev pub afterCut : List ℕ → State → State
 afterCut ms st = withCard (Card.cut ms (cardIn st)) (withRecord (shut (st .rec)) st)
 
 module _ (geo : Geometry) where
-  pub cut-served : (ms : List ℕ) (st : State) → cause geo (Request.cut ms) st ≡ 0 → cutCall geo ms st ≡ completed (afterCut ms st)
-  unfolding cutCall
+  pub cut-served : (ms : List ℕ) (st : State) → cause geo (Request.cut ms) st ≡ 0 → dispatch geo (cut ms) st ≡ completed (afterCut ms st)
+  unfolding called
   cut-served ms st h = rw (eq-eqb _ 0 h)
 
 abbrev pub writtenAt : List ℕ → Ledger → Ledger

@@ -21,17 +21,15 @@ use Rattle.store.specs.Request as Request
 use Rattle.store.specs.Request.{Request}
 use Rattle.store.specs.Causes.{workBytes, wrongSizes, wrongCounts, wrongWaiting, wrongLists, cause}
 use Rattle.store.specs.Outcomes.{completed}
-use Rattle.store.specs.Power.{powerCall}
-use Rattle.store.specs.Put.{putAt, putCall}
-use Rattle.store.specs.Abandon.{abandonCall}
+use Rattle.store.specs.Put.{putAt}
 use Rattle.store.specs.declared.place.Place.{Place}
 use Rattle.store.specs.Get.{newest, getPlace, bytesAt}
-use Rattle.store.specs.Commit.{Group, joined, commitCall}
+use Rattle.store.specs.Commit.{Group, joined}
 use Rattle.store.proofs.Causes.{sizes-facts, needsOpen, Passes}
 use Rattle.store.proofs.Places.{data-lt}
 use Rattle.history.specs.Call.{Call, requestOf, power, put, get, commit, abandon}
 use Rattle.history.specs.Plain.{Plain, Done, insert, merge, refusal, withLists, withPower, still, served, plainStep, plainGet}
-use Rattle.history.specs.Dispatch.{dispatch, blockOf}
+use Rattle.history.specs.Dispatch.{called, dispatch, blockOf}
 use Rattle.history.specs.Ledger.{Ledger, entered}
 use Rattle.history.specs.History.{World, foundWritten}
 use Rattle.history.proofs.Relation.Lists.{Distinct, Data, distinct-insert, all-insert, distinct-merge, all-merge}
@@ -93,7 +91,7 @@ module _ (geo : Geometry) where
       go (_⊎_.inr (_⊎_.inr o)) = _⊎_.inr (_⊎_.inr (record { mode = o .mode; cuts = o .cuts }))
 
   pub power-step : (k : ℕ) (w : World) → WorldSim geo w → StepOK geo (power k) w
-  unfolding powerCall entered
+  unfolding called entered
   power-step k w m =
       quiet-step (power k) w (withPower k (w .plain)) m refl refl
       (λ e. record {
@@ -209,7 +207,7 @@ module _ (geo : Geometry) where
       })
 
   pub abandon-step : (w : World) → WorldSim geo w → StepOK geo abandon w
-  unfolding abandonCall entered
+  unfolding called entered
   abandon-step w m =
       lists-step abandon w [] (w .plain .G) m refl (λ a q. let z : _≡_ {A = ℕ} 0 1 = cc in omega arith) refl refl
       (λ e q b. record {
@@ -221,7 +219,7 @@ module _ (geo : Geometry) where
       })
 
   pub put-step : (a : ℕ) (b : List ℕ) (w : World) → WorldSim geo w → StepOK geo (put a b) w
-  unfolding putCall entered
+  unfolding called entered
   put-step a b w m =
       lists-step (put a b) w (insert x (w .plain .T)) (w .plain .G) m refl (λ i q. let z : _≡_ {A = ℕ} 0 1 = cc in omega arith) refl refl
       (λ e q f.
@@ -260,7 +258,7 @@ module _ (geo : Geometry) where
       now = putAt (find (st .work) openFrom (st .rec .opened) a) x st
 
   pub commit-step : (w : World) → WorldSim geo w → StepOK geo commit w
-  unfolding commitCall entered
+  unfolding called entered
   commit-step w m =
       lists-step commit w [] (merge (w .plain .T) (w .plain .G)) m refl (λ a q. let z : _≡_ {A = ℕ} 0 1 = cc in omega arith) refl refl
       (λ e q f.
@@ -314,7 +312,7 @@ module _ (geo : Geometry) where
       (overlay-agree (d .T) _ _ a (overlay-agree (d .G) _ _ a (sym (o .card .disk a h tt))))
 
   pub get-step : (a : ℕ) (w : World) → WorldSim geo w → StepOK geo (get a) w
-  unfolding entered getPlace
+  unfolding called entered getPlace
   get-step a w m =
       quiet-step geo (get a) w d m refl refl
       (λ e.
@@ -324,7 +322,7 @@ module _ (geo : Geometry) where
       let b : blockOf geo a st ≡ plainGet a d = ap (λ (p : Place). bytesAt p st) place ∙ newest-plain a st l d o (lists-in st l d m (o .mode)) (not-false _ (q .own .0)) in
       record {
         now = st;
-        call = ap (λ (k : ℕ). record { answer = k; orders = 0; state = st }) e;
+        call = rw (eq-eqb _ 0 e);
         block = λ i z. let j : a ≡ i = cc in rw j at b;
         sim = m;
       })

@@ -28,10 +28,11 @@ use Rattle.crash.proofs.Logs.{logD, entries-disk}
 use Rattle.store.specs.Request as Request
 use Rattle.store.specs.State.{State}
 use Rattle.store.specs.Causes.{cause}
-use Rattle.store.specs.Saves.{reopened, recovering, recoverCall}
+use Rattle.store.specs.Saves.{reopened, recovering}
 use Rattle.store.proofs.Causes.{Passes}
 use Rattle.history.specs.Call.{get, recover}
 use Rattle.history.specs.Plain.{Plain, ofRecover, refusal, plainStep, plainRecover, headerKept, unchanged}
+use Rattle.history.specs.Dispatch.{called, dispatch}
 use Rattle.history.specs.Ledger.{Ledger, waits, recoverHeaders, noted, entered, taken, resolved, waitsBehind}
 use Rattle.history.specs.History.{World, foundWritten}
 use Rattle.history.proofs.Relation.CauseLaws.{RecordFacts, record-facts, cause-passes}
@@ -90,8 +91,8 @@ module _ (geo : Geometry) where
     accepted : cause geo Request.recover st ≡ 0
     accepted = same-cause geo st (settledLedger v) d (closed-sim geo f) recover ∙ served
 
-    call : (c : Choice) → choose geo N s ≡ c → recoverCall geo st ≡ recovering c st
-    unfolding recoverCall
+    call : (c : Choice) → choose geo N s ≡ c → dispatch geo recover st ≡ recovering c st
+    unfolding called
     call c e = rw (eq-eqb _ 0 accepted) (ap (λ (y : Choice). recovering y st) e)
 
     plain : plainStep geo recover (foundWritten geo recover w) d ≡ plainRecover d

@@ -33,9 +33,10 @@ use Rattle.store.specs.declared.record.Record.{Record}
 use Rattle.store.specs.State.{State, Outcome, withGrouped, withLog, cardIn}
 use Rattle.store.specs.Lists.{groupFrom, listOf}
 use Rattle.store.specs.Causes.{cause}
-use Rattle.store.specs.Saves.{carried, syncCall, groupOf, applies, metByAppend, innerOrders}
+use Rattle.store.specs.Saves.{carried, groupOf, applies, metByAppend, innerOrders}
 use Rattle.history.specs.Call.{get, sync}
 use Rattle.history.specs.Plain.{Plain, ofSync, refusal, plainStep, plainSync, syncTakes, syncWaits, ownVerdict, unchanged}
+use Rattle.history.specs.Dispatch.{called, dispatch}
 use Rattle.history.specs.Ledger.{Ledger, waits, syncHeaders, noted, entered, ownHeader, standing, inner, resolved, sameLog, waitsBehind}
 use Rattle.history.specs.History.{World, ledgerNext, foundWritten}
 use Rattle.history.specs.Statements.{Logged}
@@ -90,8 +91,8 @@ module _ (geo : Geometry) where
     saving os r =
         carried os (withGrouped 0 (withLog (r .logged + st .rec .grouped) (sumOf (r .sum) (groupOf geo st)) r)) (cond (leb (length (innerOrders geo st)) (st .rec .power)) r (st .rec)) st
 
-    call : syncCall geo st ≡ saving (syncOrders geo N (st .settled) (st .rec .logged) (st .rec .sum) G) (metByAppend geo st)
-    unfolding syncCall
+    call : dispatch geo sync st ≡ saving (syncOrders geo N (st .settled) (st .rec .logged) (st .rec .sum) G) (metByAppend geo st)
+    unfolding called
     call = rw (eq-eqb _ 0 accepted)
 
     plain : plainStep geo sync (foundWritten geo sync w) d ≡ plainSync geo d
@@ -109,7 +110,7 @@ module _ (geo : Geometry) where
         rw single
         (λ i. withGrouped (sym z i)
         (withLog ((ap (λ (k : ℕ). st .rec .logged + k) z ∙ add-zero (st .rec .logged)) i) ((ap (λ (g : List Entry). sumOf (st .rec .sum) g) nil ∙ sumOf-nil (st .rec .sum)) i) (st .rec))) in
-        let D : syncCall geo st ≡ record { answer = 0; orders = 0; state = st } =
+        let D : dispatch geo sync st ≡ record { answer = 0; orders = 0; state = st } =
         call
         ∙ ap₂ (λ (os : List Order) (r : Record). carried os r (cond (leb (length (innerOrders geo st)) (st .rec .power)) (metByAppend geo st) (st .rec)) st) (rw (eq-eqb _ 0 zero-G)) same
         ∙ carried-done [] (st .rec) _ st (omega arith)
@@ -256,10 +257,10 @@ module _ (geo : Geometry) where
 
       -- ---- what it leaves done
 
-      own-logged : syncCall geo st .answer ≡ 0 → Logged geo st (syncCall geo st .state)
+      own-logged : dispatch geo sync st .answer ≡ 0 → Logged geo st (dispatch geo sync st .state)
       own-logged e =
           let q = done-logged geo (y .meets) (standing geo st) (y .standing-is) in
-          let t : syncCall geo st .state .settled ≡ settle W s = gives-settled geo sync w plan (f .basics) gives (gives-enough geo sync w plan (f .basics) gives e) ∙ settled-plan in
+          let t : dispatch geo sync st .state .settled ≡ settle W s = gives-settled geo sync w plan (f .basics) gives (gives-enough geo sync w plan (f .basics) gives e) ∙ settled-plan in
           record { head = ap (λ (i : List ℕ). blockAt i headerAt) t ∙ q .0; list = ap (λ (i : List ℕ). entries geo i (length (standing geo st ++ G))) t ∙ q .1 }
 
       -- ---- cut short behind its own header, with every write kept: the log found is the log written
@@ -274,8 +275,8 @@ module _ (geo : Geometry) where
           behind-front Whole (throughout-all Whole [] (y .front) (st .settled) 0 (λ t q k h e. absurd (omega arith)))
           (λ j k h e u r l ms. whole-found geo (y .meets) (cardIn st) r j l (omega arith) ms)
 
-      own-whole : syncCall geo st .answer ≡ 4 → syncCall geo st .orders ≡ inner geo st + (st .rec .grouped + geo .descriptors + 1) → (ms : List ℕ) → marksFit ms (syncCall geo st .state .rec .waiting) ≡ true → allKept ms ≡ true
-          → (keptAt ms (st .rec .grouped + geo .descriptors) ≡ true) × (sameLog (foundIn geo (cutSettled ms (syncCall geo st .state))) (cutWritten ms (ledgerNext geo sync w)) ≡ true)
+      own-whole : dispatch geo sync st .answer ≡ 4 → dispatch geo sync st .orders ≡ inner geo st + (st .rec .grouped + geo .descriptors + 1) → (ms : List ℕ) → marksFit ms (dispatch geo sync st .state .rec .waiting) ≡ true → allKept ms ≡ true
+          → (keptAt ms (st .rec .grouped + geo .descriptors) ≡ true) × (sameLog (foundIn geo (cutSettled ms (dispatch geo sync st .state))) (cutWritten ms (ledgerNext geo sync w)) ≡ true)
       unfolding entered resolved
       own-whole a q ms l o =
           let less = gives-less geo sync w plan (f .basics) gives a in
@@ -311,12 +312,12 @@ module _ (geo : Geometry) where
     meets : Met geo (w .store) (w .ledger .written) (w .plain .S) (w .excepted)
     meets = met geo (w .store) (w .ledger .written) (w .plain .S) (w .excepted) f z
 
-    pub logged : syncCall geo (w .store) .answer ≡ 0 → Logged geo (w .store) (syncCall geo (w .store) .state)
+    pub logged : dispatch geo sync (w .store) .answer ≡ 0 → Logged geo (w .store) (dispatch geo sync (w .store) .state)
     logged = own-logged (w .store) (w .ledger .written) (w .plain .S) (w .excepted) f z meets
 
-    pub short-whole : syncCall geo (w .store) .answer ≡ 4 → syncCall geo (w .store) .orders ≡ inner geo (w .store) + (w .store .rec .grouped + geo .descriptors + 1)
-        → (ms : List ℕ) → marksFit ms (syncCall geo (w .store) .state .rec .waiting) ≡ true → allKept ms ≡ true
-        → (keptAt ms (w .store .rec .grouped + geo .descriptors) ≡ true) × (sameLog (foundIn geo (cutSettled ms (syncCall geo (w .store) .state))) (cutWritten ms (ledgerNext geo sync w)) ≡ true)
+    pub short-whole : dispatch geo sync (w .store) .answer ≡ 4 → dispatch geo sync (w .store) .orders ≡ inner geo (w .store) + (w .store .rec .grouped + geo .descriptors + 1)
+        → (ms : List ℕ) → marksFit ms (dispatch geo sync (w .store) .state .rec .waiting) ≡ true → allKept ms ≡ true
+        → (keptAt ms (w .store .rec .grouped + geo .descriptors) ≡ true) × (sameLog (foundIn geo (cutSettled ms (dispatch geo sync (w .store) .state))) (cutWritten ms (ledgerNext geo sync w)) ≡ true)
     short-whole a q ms l ones =
-        subst (λ (i : World). (keptAt ms (i .store .rec .grouped + geo .descriptors) ≡ true) × (sameLog (foundIn geo (cutSettled ms (syncCall geo (i .store) .state))) (cutWritten ms (ledgerNext geo sync i)) ≡ true)) (sym (open-world geo w (m .basics) o))
+        subst (λ (i : World). (keptAt ms (i .store .rec .grouped + geo .descriptors) ≡ true) × (sameLog (foundIn geo (cutSettled ms (dispatch geo sync (i .store) .state))) (cutWritten ms (ledgerNext geo sync i)) ≡ true)) (sym (open-world geo w (m .basics) o))
         (own-whole (w .store) (w .ledger .written) (w .plain .S) (w .excepted) f z meets a q ms l ones)

@@ -28,17 +28,17 @@ use Rattle.store.specs.Lists.{openFrom, find}
 use Rattle.store.specs.Causes.{cause}
 use Rattle.store.specs.Outcomes.{refused, completed, unless}
 use Rattle.store.specs.Format.{formatCall}
-use Rattle.store.specs.Put.{putAt, putCall}
-use Rattle.store.specs.Commit.{commitCall}
+use Rattle.store.specs.Put.{putAt}
 use Rattle.history.specs.Call.{power, put, get, commit, sync, recover, cut}
 use Rattle.history.specs.Plain.{Plain, fresh, blankPlain, refusal, headerKept, plainStep, still}
-use Rattle.history.specs.Dispatch.{dispatch}
+use Rattle.history.specs.Dispatch.{called, dispatch}
 use Rattle.history.specs.Ledger.{sameLog, collides}
 use Rattle.history.specs.History.{World, begun, next, after, storeNext, ledgerNext, foundWritten, acceptedCut, exception}
 use Rattle.history.specs.Statements as S
 use Rattle.history.specs.Statements.{noCut, EndsFinished, noneFinished, shortSync, Fate, quiet, decided, Progress, known, undecided, observe, fate, outcome}
 use Rattle.history.specs.Linked.{AllPassable}
 use Rattle.history.specs.Worked.{halted, cut101, cut111, sevens, nines, at40, filed, crashed, answers, Script, Worked}
+use Rattle.history.proofs.Relation.Forms.{get-called}
 use Rattle.history.proofs.Relation.Sim.{cutSettled, cutWritten}
 use Rattle.history.proofs.Steps.Shown.{WorldSim}
 use Rattle.history.proofs.Steps.Cut.{found-cut, exception-cut}
@@ -63,8 +63,8 @@ unless-settled k st s e = go (eqb k 0)
     go true = e
     go false = refl
 
-put-settled : (a : ℕ) (b : List ℕ) (st : State) → putCall trap a b st .state .settled ≡ st .settled
-unfolding putCall
+put-settled : (a : ℕ) (b : List ℕ) (st : State) → dispatch trap (put a b) st .state .settled ≡ st .settled
+unfolding called
 put-settled a b st = unless-settled (cause trap (Request.put a b) st) st (putAt (find (st .work) openFrom (st .rec .opened) a) e st) (go (find (st .work) openFrom (st .rec .opened) a))
   where
     e : Entry
@@ -74,8 +74,8 @@ put-settled a b st = unless-settled (cause trap (Request.put a b) st) st (putAt 
     go (At i) = refl
     go Absent = refl
 
-commit-settled : (st : State) → commitCall trap st .state .settled ≡ st .settled
-unfolding commitCall
+commit-settled : (st : State) → dispatch trap commit st .state .settled ≡ st .settled
+unfolding called
 commit-settled st = unless-settled (cause trap Request.commit st) st _ refl
 
 length-sevens : length sevens ≡ blockBytes
@@ -294,7 +294,7 @@ module _ (w : World) (m : Filed w) (ms : List ℕ) (same : Bool) (k : ℕ) (c : 
   later-lines g =
       λ j.
       (t₁ w m .answer j, t₁ w m .orders j) ∷ (t₂ w m .answer j, t₂ w m .orders j) ∷ (t₃ w m .answer j, t₃ w m .orders j) ∷ (t₄ w m .answer j, t₄ w m .orders j)
-      ∷ (t₅ .answer j, t₅ .orders j) ∷ (t₆ .answer j, t₆ .orders j) ∷ (t₇ .answer j, t₇ .orders j) ∷ (g j, 0) ∷ []
+      ∷ (t₅ .answer j, t₅ .orders j) ∷ (t₆ .answer j, t₆ .orders j) ∷ (t₇ .answer j, t₇ .orders j) ∷ (g j, get-called trap 40 (storeNext trap recover v₆) j .orders) ∷ []
 
 -- ---- the whole scripts
 
