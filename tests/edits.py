@@ -14,9 +14,9 @@ An .edit file holds one or more wrong changes, each of these lines:
     old: TEXT
     new: TEXT
 
-A file with more than one change holds edits of bodies alone, each of another function, and each expects its error in the
-proof of that function. That proof reads the function's body and the contracts and specifications that all share, so no
-other change of the file can be the reason for its error. A change of anything else has a file to itself.
+A file may hold more than one change if no other can be the reason for an error: the declaration that fails depends on what the
+change is a change of, and on nothing that another change of the file is a change of (`reach.py`). So edits of the bodies of
+different functions stand together, and a change of a statement stands with any that its proof does not read.
 
 An expectation is met by an error in that file that is a fact which no longer holds. These forms count:
 
@@ -32,6 +32,8 @@ import os
 import pathlib
 import re
 import sys
+
+from reach import Reach
 
 FACTS = [
     r"(computed as far as they go|as printed), the two (types|values|sides) ",
@@ -88,51 +90,6 @@ def changes(edit):
     return found
 
 
-def folder(file):
-    """The folder of a module's proofs."""
-    return "proofs/" if file.stem in ("lib", "main") else f"proofs/{file.stem}/"
-
-
-def bodies(crate, file):
-    """The bodies of a source file, as `rt fmt` lays it out: the proof file of each function and its body's text. The proofs of
-    a method stand with the module of its type."""
-    text = (crate / file).read_text()
-    head = re.compile(r"^( *)(?:pub(?:\(crate\))? )?(?:extern \"C\" )?fn (\w+)|^impl (\w+) \{$", re.M)
-    plain = owned = folder(crate / file)
-    for match in head.finditer(text):
-        indent, name, owner = match.groups()
-        if owner:
-            home = next(f for f in (crate / "src").glob("*.rt") if re.search(rf"(struct|enum) {owner}\b", f.read_text()))
-            owned = f"{folder(home)}{owner}/"
-            continue
-        begin = re.compile(rf"^{indent}(\S.*)?\{{$", re.M).search(text, match.start())
-        end = re.compile(rf"^{indent}\}}$", re.M).search(text, begin.end())
-        yield f"{owned if indent else plain}{name}/Proof.antt", text[begin.end():end.start()]
-
-
-def proof_of(crate, file, old, new):
-    """The proof file of the function in whose body an `old:` text stands, or None."""
-    if not file.startswith("src/"):
-        return None
-    if new.replace("mut self", "self") == old:
-        return ""
-    return next((proof for proof, body in bodies(crate, file) if old in body), None)
-
-
-def together(crate, edit, found):
-    """Demands that the changes of one file are of bodies of different functions."""
-    seen = set()
-    for label, expected, pairs in found:
-        proofs = {proof_of(crate, *pair) for pair in pairs} - {""}
-        if len(proofs) != 1 or None in proofs:
-            raise Wrong(f"{edit}: {label} is no edit of one body, so it needs a file to itself")
-        if expected != list(proofs):
-            raise Wrong(f"{edit}: {label} is to expect {proofs.pop()}")
-        if expected[0] in seen:
-            raise Wrong(f"{edit}: {label} is a second change of one function")
-        seen.add(expected[0])
-
-
 def fit(crate, edit, found):
     """Demands that each `old:` text occurs once in what the pairs before it left."""
     texts = {}
@@ -145,43 +102,51 @@ def fit(crate, edit, found):
 
 
 def facts(log, where):
-    """The files in which the log has an error that is a fact, and what the other errors say."""
+    """The files and lines at which the log has an error that is a fact, and what the other errors say."""
     error = re.compile(r"^(\S+?):(\d+):\d+: error: `([^`]*)`: (.*\n(?:  .*\n)*)", re.M)
-    held, other = set(), []
+    held, other = [], []
     for path, line, name, message in error.findall(log):
         file = path.removeprefix(f"{where}/")
         if any(re.match(form, message) for form in FACTS) and not name.endswith("-spec") and "tie.Need-" not in message:
-            held.add(file)
+            held.append((file, int(line)))
         else:
             other.append(f"{file}:{line}: `{name}`: {message.splitlines()[0][:120]}")
     return held, other
 
 
-def refused(edit, log, where, found):
-    """Demands of every expectation that the log has a fact in its file."""
+def alone(reach, label, touched, file, line):
+    """Whether an error can come of this change and of no other of its edit."""
+    reached = reach.from_error(file, line)
+    return all(bool(reached & nodes) == (other == label) for other, nodes in touched.items())
+
+
+def refused(edit, log, where, found, reach):
+    """Demands of every expectation that the log has a fact in its file, for which the change is the only reason."""
     held, other = facts(log, where)
+    touched = {label: set().union(*(reach.changed(file, old) for file, old, _ in pairs)) for label, _, pairs in found} if reach else {}
     missed = []
     for label, expected, _ in found:
         for file in expected:
-            if file not in held:
-                near = [line for line in other if line.startswith(file)] or [f"{f}: a fact" for f in sorted(held)]
+            lines = [line for path, line in held if path == file]
+            if not lines:
+                near = [line for line in other if line.startswith(file)] or [f"{f}:{n}: a fact" for f, n in sorted(held)]
                 missed.append("\n    ".join([f"{edit}: {label}: no fact fails in {file}; the log has", *near]))
+            elif reach and not any(alone(reach, label, touched, file, line) for line in lines):
+                missed.append(f"{edit}: {label}: what fails in {file} may come of another change of this file")
     if missed:
         raise Wrong("\n".join(missed))
 
 
-def tried(crate, edit, labels, logs):
+def tried(crate, edit, labels, logs, reach):
     """Demands all of one edit, and hands back the labels of its changes."""
     found = changes(edit)
     fit(crate, edit, found)
-    if len(found) > 1:
-        together(crate, edit, found)
     own = [label for label, _, _ in found]
     if len(set(labels + own)) < len(labels + own):
         raise Wrong(f"{edit}: a label that the crate has already")
     if logs:
         where = logs / crate.name / edit.stem
-        refused(edit, (where / ".log").read_text(), where, found)
+        refused(edit, (where / ".log").read_text(), where, found, reach if len(found) > 1 else None)
     return own
 
 
@@ -191,11 +156,11 @@ def main(words):
     names = [word for word in words if word != "--fit"]
     edits, shown, wrong = 0, 0, []
     for crate in sorted(pathlib.Path("crates").iterdir()):
-        labels = []
+        labels, reach = [], Reach(crate) if logs else None
         for edit in sorted((crate / "must-fail").glob("*.edit")):
             if not names or crate.name in names:
                 try:
-                    labels += tried(crate, edit, labels, logs)
+                    labels += tried(crate, edit, labels, logs, reach)
                     edits += 1
                 except (Wrong, OSError) as reason:
                     wrong.append(str(reason))

@@ -15,6 +15,7 @@ trouble = []
 class Decl:
     def __init__(self, path, name, kind, public, parts):
         self.path, self.name, self.kind, self.public, self.parts = path, name, kind, public, parts
+        self.lines = set()
         self.crate = path.split("/")[1]
         self.row = (self.crate, kind)
         of = path.split("/")[-2] if path.endswith("/Proof.antt") else self.crate if kind.endswith("promises") else ""
@@ -132,7 +133,8 @@ def item(path, kind, lines, heads, scope, found):
     elif own in scope:
         scope[own].parts.append(text)
     else:
-        fail(path, lines[0][0], "a clause of no declaration", lines[0][2])
+        return fail(path, lines[0][0], "a clause of no declaration", lines[0][2])
+    scope[own].lines |= set(range(lines[0][0], lines[-1][0] + 1))
 
 
 # ---- code
