@@ -1,57 +1,66 @@
 -- `linkage::step::step` meets its contract: each call's promise is that of its C function. A need that is not named is closed by search.
 use borrow.Author.Needs.{needs}
-use Rattle.journal.specs.Geometry.{trap}
-use Rattle.history.specs.Dispatch.{Cited}
-use Rattle.history.proofs.Theorems.{cited}
+use Rattle.store.specs.Power.{powerCall}
+use Rattle.store.specs.Put.{putCall}
+use Rattle.store.specs.Commit.{commitCall}
+use Rattle.store.specs.Abandon.{abandonCall}
+use Rattle.store.specs.Saves.{syncCall, applyCall, recoverCall}
+use Rattle.store.specs.Cut.{cutCall}
+use Rattle.history.specs.Dispatch.{called}
 use Rattle.linkage.proofs.Steps.{no-place, get-place}
 use Rattle.linkage.proofs.step.step.Statement.{statement}
 use Rattle.linkage.proofs.step.step.Tie as tie
 
-rows : Cited trap
-rows = cited trap
-
 returns : tie.Need-returns
+unfolding called powerCall
 returns c =
     let m = c .before .before in
-    rw (m .before .before .before .before .before .before .code .given .1) (no-place _ _ _ _ (rows .powers _) (m .trapcard-power .ensures))
+    rw (m .before .before .before .before .before .before .code .given .1) (no-place (m .trapcard-power .ensures))
 
 returns-2 : tie.Need-returns-2
+unfolding called putCall
 returns-2 c =
     let m = c .before .before .before .before in
-    rw (m .before .before .before .before .before .before .code2 .given .1) (no-place _ _ _ _ (rows .puts _ _) (m .trapcard-put .ensures))
+    rw (m .before .before .before .before .before .before .code2 .given .1) (no-place (m .trapcard-put .ensures))
 
 returns-3 : tie.Need-returns-3
 returns-3 c = rw (c .before .before .before .before .before .before .before .before .code3 .given .1) (get-place (c .trapcard-get .ensures))
 
 returns-4 : tie.Need-returns-4
+unfolding called commitCall
 returns-4 c =
     let m = c .before .before .before .before in
-    rw (m .before .before .before .before .before .enum-told .given .1) (no-place _ _ _ _ (rows .commits) (m .trapcard-commit .ensures))
+    rw (m .before .before .before .before .before .enum-told .given .1) (no-place (m .trapcard-commit .ensures))
 
 returns-5 : tie.Need-returns-5
+unfolding called abandonCall
 returns-5 c =
     let m = c .before .before in
-    rw (m .before .before .before .before .before .enum-told2 .given .1) (no-place _ _ _ _ (rows .abandons) (m .trapcard-abandon .ensures))
+    rw (m .before .before .before .before .before .enum-told2 .given .1) (no-place (m .trapcard-abandon .ensures))
 
 returns-6 : tie.Need-returns-6
+unfolding called syncCall
 returns-6 c =
     let m = c .before .before .before .before .before .before in
-    rw (m .before .before .before .before .before .before .enum-told3 .given .1) (no-place _ _ _ _ (rows .syncs) (m .trapcard-sync .ensures))
+    rw (m .before .before .before .before .before .before .enum-told3 .given .1) (no-place (m .trapcard-sync .ensures))
 
 returns-7 : tie.Need-returns-7
+unfolding called applyCall
 returns-7 c =
     let m = c .before .before .before .before .before .before in
-    rw (m .before .before .before .before .before .before .enum-told4 .given .1) (no-place _ _ _ _ (rows .applies) (m .trapcard-apply .ensures))
+    rw (m .before .before .before .before .before .before .enum-told4 .given .1) (no-place (m .trapcard-apply .ensures))
 
 returns-8 : tie.Need-returns-8
+unfolding called recoverCall
 returns-8 c =
     let m = c .before .before .before .before .before .before in
-    rw (m .before .before .before .before .before .before .enum-told5 .given .1) (no-place _ _ _ _ (rows .recovers) (m .trapcard-recover .ensures))
+    rw (m .before .before .before .before .before .before .enum-told5 .given .1) (no-place (m .trapcard-recover .ensures))
 
 returns-9 : tie.Need-returns-9
+unfolding called cutCall
 returns-9 c =
     let m = c .before .before .before .before in
-    rw (m .before .before .before .before .before .enum-told6 .given .1) (no-place _ _ _ _ (rows .cuts _) (m .trapcard-cut .ensures))
+    rw (m .before .before .before .before .before .enum-told6 .given .1) (no-place (m .trapcard-cut .ensures))
 
 pub step-spec : {M : Type 1} → statement M
 step-spec =
