@@ -14,9 +14,10 @@ An .edit file holds one or more wrong changes, each of these lines:
     old: TEXT
     new: TEXT
 
-A file may hold more than one change if no other can be the reason for an error: the declaration that fails depends on what the
-change is a change of, and on nothing that another change of the file is a change of (`reach.py`). So edits of the bodies of
-different functions stand together, and a change of a statement stands with any that its proof does not read.
+A file may hold more than one change if no other can be the reason for an error: the declaration that fails depends, by the sources
+and by their edited copy, on what the change is a change of, and on nothing that another change of the file is a change of
+(`reach.py`). So edits of the bodies of different functions stand together, and a change of a statement stands with any that its
+proof does not read.
 
 An expectation is met by an error in that file that is a fact which no longer holds. These forms count:
 
@@ -33,7 +34,7 @@ import pathlib
 import re
 import sys
 
-from reach import Reach
+from reach import Reach, trouble
 
 FACTS = [
     r"(computed as far as they go|as printed), the two (types|values|sides) ",
@@ -114,16 +115,27 @@ def facts(log, where):
     return held, other
 
 
-def alone(reach, label, touched, file, line):
+def sources(crate):
+    """What each declaration of a crate can depend on; all of its files must be understood."""
+    trouble.clear()
+    reach = Reach(crate, crate.name)
+    if trouble:
+        raise SystemExit(f"edits: can't read {trouble[0]}")
+    return reach
+
+
+def alone(reaches, label, touched, file, line):
     """Whether an error can come of this change and of no other of its edit."""
-    reached = reach.from_error(file, line)
+    reached = set().union(*(reach.from_error(file, line) for reach in reaches))
     return all(bool(reached & nodes) == (other == label) for other, nodes in touched.items())
 
 
 def refused(edit, log, where, found, reach):
     """Demands of every expectation that the log has a fact in its file, for which the change is the only reason."""
     held, other = facts(log, where)
-    touched = {label: set().union(*(reach.changed(file, old) for file, old, _ in pairs)) for label, _, pairs in found} if reach else {}
+    if reach:
+        reaches = reach, Reach(where, edit.parent.parent.name)
+        touched = {label: set().union(*(reach.changed(*pair) for pair in pairs)) for label, _, pairs in found}
     missed = []
     for label, expected, _ in found:
         for file in expected:
@@ -131,7 +143,7 @@ def refused(edit, log, where, found, reach):
             if not lines:
                 near = [line for line in other if line.startswith(file)] or [f"{f}:{n}: a fact" for f, n in sorted(held)]
                 missed.append("\n    ".join([f"{edit}: {label}: no fact fails in {file}; the log has", *near]))
-            elif reach and not any(alone(reach, label, touched, file, line) for line in lines):
+            elif reach and not any(alone(reaches, label, touched, file, line) for line in lines):
                 missed.append(f"{edit}: {label}: what fails in {file} may come of another change of this file")
     if missed:
         raise Wrong("\n".join(missed))
@@ -156,7 +168,7 @@ def main(words):
     names = [word for word in words if word != "--fit"]
     edits, shown, wrong = 0, 0, []
     for crate in sorted(pathlib.Path("crates").iterdir()):
-        labels, reach = [], Reach(crate) if logs else None
+        labels, reach = [], sources(crate) if logs else None
         for edit in sorted((crate / "must-fail").glob("*.edit")):
             if not names or crate.name in names:
                 try:

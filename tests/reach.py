@@ -2,16 +2,17 @@
 
 A node is a declaration of specs/ or proofs/, a constant or a type of src/, or of a function its contract or its body. It reaches what
 the names in its text stand for, those of constructors too, by the imports of its file; a local name that is also a declaration's is taken
-for that. A function's name in a body reaches its contract and never its body, and its proof reaches both. So more is reached than is used, and not
-less: what has a record's fields names the record in its type.
+for that. A function's name in a body reaches its contract and never its body, and its proof reaches both; a method's contract reaches
+its type. What has a record's fields names the record in its type, so more is reached than is used, and not less.
 """
 import pathlib
 import re
 import sys
 
 sys.path.insert(0, str(pathlib.Path(__file__).resolve().parent.parent / "tools"))
-from declarations import declared, filed, imported, promised, words
+from declarations import declared, filed, imported, promised, trouble, words
 
+ITEM = re.compile(r"\b(?:use|mod|const|struct|enum|impl|fn)\b")
 HEAD = re.compile(r"^( *)(?:pub(?:\(crate\))? )?(?:extern \"C\" )?fn (\w+)|^impl (\w+) \{$", re.M)
 
 
@@ -38,33 +39,33 @@ def functions(crate, file):
 
 def constructors(text):
     """The constructors of a datatype, or the variants of an enum."""
-    if re.match(r"(pub )?data\b", text):
+    if re.search(r"^(pub )?data\b", text, re.M):
         return re.findall(r"^(\S+) :", text, re.M)
-    return re.findall(r"[{,] (\w+)", text) if re.match(r"(pub )?enum\b", text) else []
+    return re.findall(r"[{,] (\w+)", text) if re.match(r"(pub (\( crate \) )?)?enum\b", text) else []
 
 
 class Reach:
-    """The nodes of a crate by file and name, and a body's by file and proof file."""
+    """The nodes of a crate in a folder, by file and name, and a body's by file and proof file."""
 
-    def __init__(self, crate):
-        self.crate, self.texts, self.lines, self.proofs, self.known = crate, {}, {}, {}, {}
+    def __init__(self, crate, name):
+        self.crate, self.root, self.texts, self.lines, self.proofs, self.known = crate, f"crates/{name}/", {}, {}, {}, {}
         self.imports, self.home, self.code, self.calls = {}, {}, {}, {}
         for file in sorted([*crate.glob("specs/**/*.antt"), *crate.glob("proofs/**/*.antt"), *crate.glob("src/**/*.rt")]):
             path, text = str(file.relative_to(crate)), file.read_text()
-            whole = f"crates/{crate.name}/{path}"
+            whole = self.root + path
             self.imports[whole] = imported(text)
             for d in promised(whole, text) if path.endswith(".rt") else declared(whole, text, ""):
                 key, own = (path, d.name), "\n".join(d.parts)
                 self.texts[key], self.lines[key] = own, d.lines
-                for name in [d.name.partition(" (")[0].rpartition("::")[2], *constructors(own)]:
-                    self.home.setdefault((whole, name), set()).add(key)
+                for one in [d.name.partition(" (")[0].rpartition("::")[2], *constructors(own)]:
+                    self.home.setdefault((whole, one), set()).add(key)
                     if path.endswith(".rt"):
-                        (self.code if d.kind == "shapes" else self.calls).setdefault(name, set()).add(key)
+                        (self.code if d.kind == "shapes" else self.calls).setdefault(one, set()).add(key)
         for file in sorted(crate.glob("src/**/*.rt")):
             path, text = str(file.relative_to(crate)), file.read_text()
             for proof, _, begin, end in functions(crate, path):
+                self.proofs[proof] = {(path, proof)} | self.contract(path, proof)
                 self.texts[path, proof], self.lines[path, proof] = text[begin:end], set()
-                self.proofs[proof] = {(path, proof), self.contract(path, proof)}
 
     def named(self, whole, name):
         """What a name of a file stands for: what it declares, or what it imports, a type of the code among these."""
@@ -87,12 +88,16 @@ class Reach:
         return found
 
     def contract(self, path, proof):
-        return next(k for k in self.texts if k[0] == path and k[1].rpartition("::")[2] == proof.split("/")[-2])
+        """The contract of a function, a method's by its type."""
+        owner, name = proof.split("/")[-3:-1]
+        return {k for k in self.texts if k[0] == path and k[1] in (name, f"{owner}::{name}")}
 
     def step(self, key):
+        """What a node reaches at once; a method's contract its type too."""
         if key not in self.known:
-            whole = f"crates/{self.crate.name}/{key[0]}"
-            self.known[key] = self.proofs.get(key[0], set()).union(*(self.meant(whole, t, key[1] in self.proofs) for t in set(words(self.texts[key]))))
+            whole, body = self.root + key[0], key[1] in self.proofs
+            tokens = set(words(self.texts[key])) | {key[1].partition("::")[0]}
+            self.known[key] = self.proofs.get(key[0], set()).union(*(self.meant(whole, t, body) for t in tokens))
         return self.known[key]
 
     def from_error(self, file, line):
@@ -107,11 +112,11 @@ class Reach:
             todo += new
         return found
 
-    def changed(self, file, old):
-        """The nodes that a change of this text is a change of: all of its file, where it stands in none."""
+    def changed(self, file, old, new):
+        """The nodes that a change of this text is a change of: all of its file, where it stands in none or puts an item in."""
         text = (self.crate / file).read_text()
         mine = {k for k in self.texts if k[0] == file}
-        if text.count(old) != 1:
+        if text.count(old) != 1 or file.endswith(".rt") and len(ITEM.findall(new)) > len(ITEM.findall(old)):
             return mine
         at = text.index(old)
         if file.endswith(".antt"):
@@ -119,6 +124,6 @@ class Reach:
             return {k for k in mine if line in self.lines[k]} or mine
         for proof, start, begin, end in functions(self.crate, file):
             if start <= at < end:
-                return {(file, proof) if at >= begin else self.contract(file, proof)}
-        name = re.search(r"\bconst (\w+)", text[text.rfind("\n", 0, at) + 1:text.index("\n", at)])
+                return {(file, proof)} if at >= begin else self.contract(file, proof)
+        name = re.match(r"(?:pub(?:\(crate\))? )?const (\w+)", text[text.rfind("\n", 0, at) + 1:])
         return {(file, name[1])} if name else mine

@@ -28,6 +28,7 @@ use Rattle.history.specs.Refusals.{Refusals}
 use Rattle.history.specs.Linked.{Linked}
 use Rattle.history.specs.Scripts.{ScriptsAreHistories}
 use Rattle.history.proofs.Relation.CauseLaws.{cause-one, cause-two, cause-passes}
+use Rattle.history.proofs.Relation.Forms.{get-called}
 use Rattle.history.proofs.Relation.Sim.{Safe}
 use Rattle.history.proofs.Steps.Shown.{same-cause, dispatch-refused, plain-served}
 use Rattle.history.proofs.Steps.Local.{is-open}
@@ -153,6 +154,7 @@ module _ (geo : Geometry) where
     formats = refl;
     powers = λ k. refl;
     puts = λ a b. refl;
+    gets = get-called geo;
     commits = refl;
     abandons = refl;
     syncs = refl;

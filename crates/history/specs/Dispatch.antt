@@ -7,7 +7,7 @@ use Rattle.store.specs.Local as Local
 use Rattle.store.specs.Local.{Local}
 use Rattle.store.specs.Save as Save
 use Rattle.store.specs.Save.{Save}
-use Rattle.store.specs.Request.{Request, format, local, save, cut, power, put, commit, abandon, sync, apply, recover}
+use Rattle.store.specs.Request.{Request, format, local, save, cut, power, put, get, commit, abandon, sync, apply, recover}
 use Rattle.store.specs.State.{State, Outcome}
 use Rattle.store.specs.Causes.{cause}
 use Rattle.store.specs.Outcomes.{completed, unless}
@@ -55,11 +55,13 @@ module _ (geo : Geometry) where
   abbrev pub blockOf : ℕ → State → List ℕ
   blockOf a st = bytesAt (getPlace geo a st) st
 
-  -- the definition on the right of each call's `ensures` is the call of this table; get's contract has `cause` and `getPlace` themselves
+  -- the definition on the right of each call's `ensures` is the call of this table. Get's contracts are of its number, `cause`, and of its
+  -- place: it answers that number and leaves everything
   pub record Cited : Type 0 where
     pub formats : formatCall geo ≡ called format
     pub powers : (k : ℕ) → powerCall geo k ≡ called (power k)
     pub puts : (a : ℕ) (b : List ℕ) → putCall geo a b ≡ called (put a b)
+    pub gets : (a : ℕ) (st : State) → called (get a) st ≡ record { answer = cause geo (get a) st; orders = 0; state = st }
     pub commits : commitCall geo ≡ called commit
     pub abandons : abandonCall geo ≡ called abandon
     pub syncs : syncCall geo ≡ called sync

@@ -203,7 +203,7 @@ module _ (geo : Geometry) where
 handed-holds : (o : Outcome) (f : Face) → f ≡ handed o → BytesOf f (o .state)
 handed-holds o f e = record { rec = ap (λ (x : Face). x .rec) e; settled = ap (λ (x : Face). x .settled) e; waiting = ap (λ (x : Face). x .waiting) e; work = ap (λ (x : Face). x .work) e }
 
--- what holds of a get's, and of what every other call has
+-- what holds of a get's and of what the others have
 of-get : {A : Type 0} (P : A → Type 0) (c : Call) (f : ℕ → A) (x : A) → ((a : ℕ) → c ≡ get a → P (f a)) → P x → P (ofGet c f x)
 of-get P (local (Local.power k)) f x g h = h
 of-get P (local (Local.put a b)) f x g h = h
