@@ -26,7 +26,7 @@ from histories import lived, made_up
 
 ROOT = Path(__file__).resolve().parent.parent
 ARCHIVE = ROOT / "target/staticlib/libfirmware.a"
-SEED, CALLS, LARGE_EVERY = 1, 250000, 150
+SEED, CALLS, LARGE_EVERY = 1, 150000, 150
 PUBLISHED = {b"": 0xcbf29ce484222325, b"a": 0xaf63dc4c8601ec8c, b"foobar": 0x85944171f73967e8}
 
 Done = namedtuple("Done", "calls histories seen")
