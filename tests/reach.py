@@ -3,7 +3,8 @@
 A node is a declaration of specs/ or proofs/, a constant or a type of src/, or of a function its contract or its body. It reaches what
 the names in its text stand for, those of constructors too, by the imports of its file; a local name that is also a declaration's is taken
 for that. A function's name in a body reaches its contract and never its body, and its proof reaches both; a method's contract reaches
-its type. What has a record's fields names the record in its type, so more is reached than is used, and not less.
+its type. What has a record's fields names the record in its type, so more is reached than is used. Generated modules are not read: only
+a function's own proof names one.
 """
 import pathlib
 import re

@@ -24,7 +24,7 @@ use Rattle.journal.specs.Choice.{choose}
 use Rattle.history.specs.Call.{Call, requestOf}
 
 module _ (geo : Geometry) where
-  -- a get leaves everything
+  -- what a local call leaves where no cause refuses; a get leaves everything
   abbrev pub servedLocal : Local → State → State
   servedLocal (Local.power k) st = powered k st
   servedLocal (Local.put a b) st = putting a b st
@@ -32,11 +32,13 @@ module _ (geo : Geometry) where
   servedLocal Local.commit st = committed geo st
   servedLocal Local.abandon st = abandoned st
 
+  -- what a call that gives orders comes to, power gone included
   abbrev pub servedSave : Save → State → Outcome
   servedSave Save.sync st = syncing geo st
   servedSave Save.apply st = applying geo st
   servedSave Save.recover st = recovering (choose geo (st .rec .blocks) (st .settled)) st
 
+  -- the row of each call
   abbrev pub served : Request → State → Outcome
   served format st = completed (formatted st)
   served (local c) st = completed (servedLocal c st)

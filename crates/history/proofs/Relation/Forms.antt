@@ -38,7 +38,7 @@ use Rattle.store.specs.Commit.{Group, joinAt, join, joined}
 use Rattle.store.specs.Saves.{carried, groupOf, applies, metByAppend, innerOrders}
 use Rattle.store.proofs.Calls.{call-refused}
 use Rattle.store.proofs.Saves.{apply-carried}
-use Rattle.history.specs.Dispatch.{called}
+use Rattle.history.specs.Dispatch.{served, called}
 use Rattle.history.specs.Refusals.{ordersOf, innerDone}
 
 -- ---- a refused call leaves everything
@@ -46,7 +46,7 @@ use Rattle.history.specs.Refusals.{ordersOf, innerDone}
 module _ (geo : Geometry) where
   pub called-refused : (q : Request) (st : State) → cause geo q st ≢ 0 → called geo q st ≡ refused (cause geo q st) st
   unfolding called
-  called-refused q st h = rw (ne-eqb _ 0 h)
+  called-refused q st h = ap (λ (t : Bool). cond t (served geo q st) (refused (cause geo q st) st)) (ne-eqb (cause geo q st) 0 h)
 
 -- ---- no call changes a buffer's length
 
