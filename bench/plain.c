@@ -1,15 +1,15 @@
-/* The card store in plain C, written from document 01 and not from the Rattle sources: what the bench measures the store
- * against. It makes the same checks (rows 1 to 10 of the table of causes) and leaves the same bytes. */
+/* The card store in plain C, written from document 01, with W-201 of document 02, and not from the Rattle sources: what the bench
+ * measures the store against. It makes the same checks (rows 1 to 10 and 12 of the table of causes) and leaves the same bytes. */
 #include "plain.h"
 
 #include <stdbool.h>
 #include <string.h>
 
-enum { BLOCK = TRAPCARD_BLOCK, ENTRY = 4 + BLOCK, SLOTS = TRAPCARD_SLOTS, FIRST_SLOT = 2, POWER = 1000000 };
+enum { BLOCK = TRAPCARD_BLOCK, ENTRY = 4 + BLOCK, SLOTS = TRAPCARD_SLOTS, FIRST_SLOT = 2, POWER = 1000000, FORMAT = 2 };
 
 struct record {
     uint32_t mode, blocks, opened, grouped, logged, waiting, power;
-    uint64_t sum;
+    uint64_t sum, save;
 };
 
 /* The three buffers as a call is lent them. */
@@ -59,7 +59,7 @@ static uint64_t fnv(uint64_t h, const uint8_t *s, size_t n)
 static struct record decode(const uint8_t *p)
 {
     struct record r = {load32(p), load32(p + 4), load32(p + 8), load32(p + 12), load32(p + 16), load32(p + 20),
-                       load32(p + 24), load64(p + 28)};
+                       load32(p + 24), load64(p + 28), load64(p + 36)};
     return r;
 }
 
@@ -73,6 +73,7 @@ static void encode(uint8_t *p, const struct record *r)
     store32(p + 20, r->waiting);
     store32(p + 24, r->power);
     store64(p + 28, r->sum);
+    store64(p + 36, r->save);
 }
 
 /* ---- The layout. */
@@ -212,15 +213,16 @@ static bool order_flush(struct record *r, uint8_t *settled, const uint8_t *waiti
 
 /* ---- The header. */
 
-static void fill_header(uint8_t *block, uint32_t blocks, uint32_t p, uint64_t presum, uint32_t n, uint64_t sum)
+static void fill_header(uint8_t *block, uint32_t blocks, uint32_t p, uint64_t presum, uint32_t n, uint64_t sum, uint64_t save)
 {
     memset(block, 0, BLOCK);
-    store32(block, 1);
+    store32(block, FORMAT);
     store32(block + 4, blocks);
     store32(block + 8, p);
     store32(block + 12, n);
     store64(block + 16, presum);
     store64(block + 24, sum);
+    store64(block + 32, save);
 }
 
 /* The write of a header and the flush behind it. */
@@ -240,16 +242,27 @@ static bool good(const uint8_t *settled, uint32_t blocks, uint32_t n, uint64_t s
     return h == sum && !strays(addresses, 4, n, blocks);
 }
 
-/* The list that a recovery takes: 0, its count and sum, and whether it is the shorter one; else 8 or 9. */
-static uint32_t choose(const uint8_t *settled, uint32_t blocks, uint32_t *count, uint64_t *sum, bool *shorter)
+/* The list that a recovery takes: its count, sum and save number, and whether it is the shorter one. */
+struct choice {
+    uint32_t count;
+    uint64_t sum, save;
+    bool shorter;
+};
+
+/* 0 and that list; else 8 or 9. */
+static uint32_t choose(const uint8_t *settled, uint32_t blocks, struct choice *c)
 {
     uint32_t p = load32(settled + 8), n = load32(settled + 12);
-    if (load32(settled) != 1 || load32(settled + 4) != blocks || n > SLOTS || p > n)
+    uint64_t presum = load64(settled + 16), sum = load64(settled + 24), save = load64(settled + 32);
+    if (load32(settled) != FORMAT || load32(settled + 4) != blocks || n > SLOTS || p > n)
         return TRAPCARD_ERR_FOREIGN;
-    *shorter = !good(settled, blocks, n, load64(settled + 24));
-    *count = *shorter ? p : n;
-    *sum = load64(settled + (*shorter ? 16 : 24));
-    return *shorter && !good(settled, blocks, p, *sum) ? TRAPCARD_ERR_UNSOUND : TRAPCARD_DONE;
+    if (save == 0 && (p != n || presum != sum))
+        return TRAPCARD_ERR_FOREIGN;
+    c->shorter = !good(settled, blocks, n, sum);
+    c->count = c->shorter ? p : n;
+    c->sum = c->shorter ? presum : sum;
+    c->save = save - c->shorter;
+    return c->shorter && !good(settled, blocks, p, presum) ? TRAPCARD_ERR_UNSOUND : TRAPCARD_DONE;
 }
 
 /* ---- The calls that give no orders. */
@@ -265,7 +278,7 @@ uint32_t plain_format(uint8_t *record, size_t record_len, uint8_t *settled, size
     memset(settled, 0, settled_len);
     memset(waiting, 0, waiting_len);
     memset(work, 0, work_len);
-    fill_header(settled, r.blocks, 0, r.sum, 0, r.sum);
+    fill_header(settled, r.blocks, 0, r.sum, 0, r.sum, 0);
     encode(record, &r);
     return TRAPCARD_DONE;
 }
@@ -433,11 +446,12 @@ static bool append(struct record *r, uint8_t *settled, uint8_t *waiting, const u
     }
     if (!order_write(r, waiting, 1, block))
         return false;
-    fill_header(block, r->blocks, n, r->sum, n + m, sum);
+    fill_header(block, r->blocks, n, r->sum, n + m, sum, r->save + 1);
     if (!order_header(r, settled, waiting, block))
         return false;
     r->logged = n + m;
     r->sum = sum;
+    r->save++;
     r->grouped = 0;
     return true;
 }
@@ -451,7 +465,7 @@ static bool checkpoint(struct record *r, uint8_t *settled, uint8_t *waiting)
             return false;
     if (!order_flush(r, settled, waiting))
         return false;
-    fill_header(block, r->blocks, 0, TRAPCARD_EMPTY_SUM, 0, TRAPCARD_EMPTY_SUM);
+    fill_header(block, r->blocks, 0, TRAPCARD_EMPTY_SUM, 0, TRAPCARD_EMPTY_SUM, r->save);
     if (!order_header(r, settled, waiting, block))
         return false;
     r->logged = 0;
@@ -480,6 +494,8 @@ uint32_t plain_sync(uint8_t *record, size_t record_len, uint8_t *settled, size_t
     uint32_t number = not_open(&r, &l), power = r.power;
     if (number != TRAPCARD_DONE || r.grouped == 0)
         return number;
+    if (r.save == UINT64_MAX)
+        return TRAPCARD_ERR_LAST;
     bool room = r.logged + r.grouped <= SLOTS || checkpoint(&r, settled, waiting);
     return saved(record, &r, room && append(&r, settled, waiting, work), power, orders);
 }
@@ -503,9 +519,7 @@ uint32_t plain_recover(uint8_t *record, size_t record_len, uint8_t *settled, siz
 {
     const struct lent l = LENT;
     uint8_t block[BLOCK];
-    uint32_t n;
-    uint64_t sum;
-    bool shorter;
+    struct choice c;
     *orders = 0;
     if (record_len != TRAPCARD_RECORD)
         return TRAPCARD_ERR_SIZE;
@@ -515,15 +529,15 @@ uint32_t plain_recover(uint8_t *record, size_t record_len, uint8_t *settled, siz
         return number;
     if (r.mode != TRAPCARD_MODE_CLOSED)
         return r.mode == TRAPCARD_MODE_DOWN ? TRAPCARD_ERR_POWER : TRAPCARD_ERR_OPEN;
-    number = choose(settled, r.blocks, &n, &sum, &shorter);
+    number = choose(settled, r.blocks, &c);
     if (number != TRAPCARD_DONE)
         return number;
-    if (shorter) {
-        fill_header(block, r.blocks, n, sum, n, sum);
+    if (c.shorter) {
+        fill_header(block, r.blocks, c.count, c.sum, c.count, c.sum, c.save);
         if (!order_header(&r, settled, waiting, block))
             return saved(record, &r, false, power, orders);
     }
-    struct record found = {TRAPCARD_MODE_OPEN, r.blocks, 0, 0, n, r.waiting, r.power, sum};
+    struct record found = {TRAPCARD_MODE_OPEN, r.blocks, 0, 0, c.count, r.waiting, r.power, c.sum, c.save};
     return saved(record, &found, true, power, orders);
 }
 
@@ -532,11 +546,10 @@ uint32_t plain_recover(uint8_t *record, size_t record_len, uint8_t *settled, siz
 /* Rows 1, 8 and 9; and the count of the list taken. */
 static uint32_t inspect(const uint8_t *settled, size_t len, uint32_t *count)
 {
-    uint64_t sum;
-    bool shorter;
-    if (wrong_size(len))
-        return TRAPCARD_ERR_SIZE;
-    return choose(settled, (uint32_t)(len / BLOCK), count, &sum, &shorter);
+    struct choice c = {0};
+    uint32_t number = wrong_size(len) ? TRAPCARD_ERR_SIZE : choose(settled, (uint32_t)(len / BLOCK), &c);
+    *count = c.count;
+    return number;
 }
 
 /* The block at an address with the first n entries laid over. */

@@ -88,16 +88,19 @@ static void give(struct side *s, const struct drawn *d)
     }
 }
 
-/* Damages a byte that the checks read: of the record, the header, the descriptor or an entry's address. */
+/* Damages a byte that the checks read: of the record, the header, the descriptor or an entry's address. Or the record gets the
+ * largest save number. */
 static void damage(struct side *a, struct side *b)
 {
-    uint32_t where = draw(4), at = draw(TRAPCARD_RECORD), i = draw(32);
+    uint32_t where = draw(5), at = draw(TRAPCARD_RECORD), i = draw(32);
     uint8_t value = (uint8_t)draw(48);
     struct side *both[2] = {a, b};
     for (int k = 0; k < 2; k++) {
         uint8_t *bytes = where == 0 ? both[k]->record : where == 1 ? both[k]->settled : both[k]->settled + TRAPCARD_BLOCK;
         if (where == 3)
             both[k]->work[516 * i] = value;
+        else if (where == 4)
+            memset(both[k]->record + TRAPCARD_RECORD_SAVE, 255, 8);
         else
             bytes[at] = value;
     }

@@ -10,15 +10,23 @@
  * Out-parameters are set on every return, to 0 where there is nothing to say.
  *
  * The record is TRAPCARD_RECORD bytes: mode, N, open count, group count, log count, waiting count, power count, 4 bytes each,
- * then the log's sum, 8 bytes; all little-endian. Another record length is TRAPCARD_ERR_SIZE in every call that takes one.
+ * then the log's sum and the save number, 8 bytes each; all little-endian. Another record length is TRAPCARD_ERR_SIZE in every
+ * call that takes one.
+ *
+ * The save number counts the saves of a card, in its header and in the record (trapcard_save): 0 after trapcard_format, one more
+ * after each sync of a group that is not empty and that returned 0. A sync that power ended leaves the record's number, and a power
+ * loss forgets it, as it does the rest of the record. trapcard_recover hands back the number of the save it found: it counts the
+ * saves that are in the disk found, those that returned 0 and each that power ended and a recovery found new, checksum collisions
+ * apart. So after a power loss in save k + 1 it is k + 1 if that save is found and k if it is not. trapcard_apply keeps the number.
  *
  * Boot, the first time and after every power loss:
  *   1. settled is the card as it is found; waiting and work have their lengths and any bytes.
- *   2. trapcard_closed_record makes the record: closed, N set, counts 0, the empty list's sum. A cut leaves the same one, but
- *      for the power count, which it keeps.
+ *   2. trapcard_closed_record makes the record: closed, N set, counts 0, the empty list's sum, save number 0. A cut leaves the
+ *      same one, but for the power count, which it keeps.
  *   3. trapcard_power, before any orders: the record just made has power for none.
- *   4. trapcard_recover. After 0 the record is open. After TRAPCARD_ERR_FOREIGN or TRAPCARD_ERR_UNSOUND this is no card of N
- *      blocks that a format made and these calls alone wrote since; trapcard_format makes it one, and forgets what it held.
+ *   4. trapcard_recover. After 0 the record is open and has the number of the save found. After TRAPCARD_ERR_FOREIGN or
+ *      TRAPCARD_ERR_UNSOUND this is no card of N blocks that a format made and these calls alone wrote since; trapcard_format
+ *      makes it one, and forgets what it held.
  *
  * "Checksum collisions apart" says: unless, at a power loss before, the log found on the card was another list than the log
  * written, as long and with the same sum.
@@ -35,7 +43,7 @@ extern "C" {
 
 /* Sizes in bytes. The settled bytes are N blocks, TRAPCARD_LEAST to TRAPCARD_MOST of them. */
 #define TRAPCARD_BLOCK 512u
-#define TRAPCARD_RECORD 36u
+#define TRAPCARD_RECORD 44u
 #define TRAPCARD_WAITING 17544u
 #define TRAPCARD_WORK 33024u
 #define TRAPCARD_LEAST 35u
@@ -55,8 +63,9 @@ extern "C" {
 #define TRAPCARD_RECORD_WAITING 20u
 #define TRAPCARD_RECORD_POWER 24u
 #define TRAPCARD_RECORD_SUM 28u
+#define TRAPCARD_RECORD_SAVE 36u
 
-/* Modes, the record's first number. The sum of an empty log, its last. */
+/* Modes, the record's first number. The sum of an empty log. */
 #define TRAPCARD_MODE_CLOSED 0u
 #define TRAPCARD_MODE_OPEN 1u
 #define TRAPCARD_MODE_DOWN 2u
@@ -71,17 +80,18 @@ extern "C" {
 #define TRAPCARD_ERR_OPEN 5u     /* recover when open */
 #define TRAPCARD_ERR_ADDRESS 6u  /* not a data block */
 #define TRAPCARD_ERR_FULL 7u     /* over 32 entries in open or group */
-#define TRAPCARD_ERR_FOREIGN 8u  /* the header is not this card's */
+#define TRAPCARD_ERR_FOREIGN 8u  /* the header is not this card's, or of another format */
 #define TRAPCARD_ERR_UNSOUND 9u  /* neither list is good */
 #define TRAPCARD_ERR_MARKS 10u   /* marks not as many as waiting, or a mark over 1 */
+#define TRAPCARD_ERR_LAST 12u    /* sync of a group that is not empty, at the largest save number, 2^64 - 1 */
 
 /* The buffer in which trapcard_get found its block. */
 #define TRAPCARD_NOWHERE 0u
 #define TRAPCARD_IN_SETTLED 1u
 #define TRAPCARD_IN_WORK 2u
 
-/* Makes a fresh card: zeros everywhere, an empty log, the record open with power 1,000,000. Returns 0 or 1, and looks at
- * nothing but lengths. Not safe against power loss: a card that was cut off while it was formatted is formatted again. */
+/* Makes a fresh card: zeros everywhere, an empty log, save number 0, the record open with power 1,000,000. Returns 0 or 1, and
+ * looks at nothing but lengths. Not safe against power loss: a card that was cut off while it was formatted is formatted again. */
 uint32_t trapcard_format(uint8_t *record, size_t record_len, uint8_t *settled, size_t settled_len, uint8_t *waiting,
                          size_t waiting_len, uint8_t *work, size_t work_len);
 
@@ -113,9 +123,10 @@ uint32_t trapcard_commit(uint8_t *record, size_t record_len, const uint8_t *sett
 uint32_t trapcard_abandon(uint8_t *record, size_t record_len, const uint8_t *settled, size_t settled_len,
                           const uint8_t *waiting, size_t waiting_len, const uint8_t *work, size_t work_len);
 
-/* Saves the group as one: after 0 it is on the card, and every later recovery finds it. Returns 0 or 1 to 4. If power ends in
+/* Saves the group as one: after 0 it is on the card, and every later recovery finds it. Returns 0, 1 to 4 or 12. If power ends in
  * the call, or at any moment before it returns, the next recovery finds all of the group or none of it. Both hold checksum
- * collisions apart. *orders: the orders carried out. */
+ * collisions apart. The save number is one more after 0; an empty group saves nothing and leaves it. *orders: the orders carried
+ * out. */
 uint32_t trapcard_sync(uint8_t *record, size_t record_len, uint8_t *settled, size_t settled_len, uint8_t *waiting,
                        size_t waiting_len, const uint8_t *work, size_t work_len, uint32_t *orders);
 
@@ -125,8 +136,9 @@ uint32_t trapcard_apply(uint8_t *record, size_t record_len, uint8_t *settled, si
                         size_t waiting_len, const uint8_t *work, size_t work_len, uint32_t *orders);
 
 /* Opens a closed record on a card: the log written last if all of it is there, else the one before it, checksum collisions
- * apart. Returns 0, 1, 2, 4, 5, 8 or 9; never 8 or 9 on a card that a format made and these calls alone wrote since. Two orders
- * suffice; if power ends in the call, recover again after the cut. *orders: the orders carried out. */
+ * apart; the record has the number of the save found. Returns 0, 1, 2, 4, 5, 8 or 9; never 8 or 9 on a card that a format made and
+ * these calls alone wrote since. Two orders suffice; if power ends in the call, recover again after the cut. *orders: the orders
+ * carried out. */
 uint32_t trapcard_recover(uint8_t *record, size_t record_len, uint8_t *settled, size_t settled_len, uint8_t *waiting,
                           size_t waiting_len, const uint8_t *work, size_t work_len, uint32_t *orders);
 
@@ -159,6 +171,15 @@ static inline uint32_t trapcard_record_number(const uint8_t *record, size_t at)
     uint32_t number = 0;
     for (size_t i = 0; i < 4; i++)
         number |= (uint32_t)record[at + i] << (8 * i);
+    return number;
+}
+
+/* The record's save number. */
+static inline uint64_t trapcard_save(const uint8_t *record)
+{
+    uint64_t number = 0;
+    for (size_t i = 0; i < 8; i++)
+        number |= (uint64_t)record[TRAPCARD_RECORD_SAVE + i] << (8 * i);
     return number;
 }
 

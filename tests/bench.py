@@ -23,12 +23,12 @@ def resized(data, length):
 
 
 def laid_card(settled):
-    """A card with the same data blocks and no log, or the card itself where a recovery would refuse it."""
+    """A card with the same data blocks, no log and no save, or the card itself where a recovery would refuse it."""
     answer, listed = model.chosen(settled)
     if answer:
         return bytearray(settled)
     blocks = len(settled) // BLOCK
-    empty = model.header(model.fresh(blocks), 0, 0, model.EMPTY_SUM, model.EMPTY_SUM)
+    empty = model.header(model.fresh(blocks), 0, 0, model.EMPTY_SUM, model.EMPTY_SUM, 0)
     return bytearray(empty + settled[BLOCK:BLOCK * model.FIRST_DATA] + model.laid(settled, listed))
 
 

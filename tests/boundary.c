@@ -185,6 +185,11 @@ static void holds(uint32_t mode, uint32_t opened, uint32_t grouped, uint32_t log
     same("the record", "has power count", trapcard_record_number(c.record, TRAPCARD_RECORD_POWER), power);
 }
 
+static void numbered(uint64_t save)
+{
+    same("the record", "has save number", trapcard_save(c.record), save);
+}
+
 static void start(void)
 {
     memset(&c, 0x5a, sizeof c);
@@ -193,6 +198,7 @@ static void start(void)
     length[5] = 0;
     done(FORMAT, 0, 0);
     holds(TRAPCARD_MODE_OPEN, 0, 0, 0, 0, 1000000);
+    numbered(0);
 }
 
 /* ---- the tests */
@@ -226,6 +232,7 @@ static void places(void)
     put(42, 9);
     done(SYNC, 0, 5);
     holds(TRAPCARD_MODE_OPEN, 1, 0, 2, 0, 95);
+    numbered(1);
     got(41, TRAPCARD_IN_SETTLED, 1536, 8);
     done(ABANDON, 0, 0);
     got(42, TRAPCARD_IN_SETTLED, 21504, 0);
@@ -233,9 +240,11 @@ static void places(void)
     done(COMMIT, 0, 0);
     done(SYNC, 0, 4);
     holds(TRAPCARD_MODE_OPEN, 0, 0, 3, 0, 91);
+    numbered(2);
     got(41, TRAPCARD_IN_SETTLED, 2048, 3);
     done(APPLY, 0, 6);
     holds(TRAPCARD_MODE_OPEN, 0, 0, 0, 0, 85);
+    numbered(2);
     got(41, TRAPCARD_IN_SETTLED, 20992, 3);
 }
 
@@ -257,6 +266,7 @@ static void causes(void)
     done(POWER, TRAPCARD_SLOTS + 2, 0);
     gone(SYNC, TRAPCARD_SLOTS + 2);
     holds(TRAPCARD_MODE_DOWN, 1, TRAPCARD_SLOTS, 0, TRAPCARD_PLACES, 0);
+    numbered(0);
     refused(APPLY, 0, TRAPCARD_ERR_POWER);
     refused(CUT, 0, TRAPCARD_ERR_MARKS);
     cut("1111111111111111111111111111111111");
@@ -270,6 +280,40 @@ static void causes(void)
     refused(RECOVER, 0, TRAPCARD_ERR_UNSOUND);
     c.settled[0]++;
     refused(RECOVER, 0, TRAPCARD_ERR_FOREIGN);
+    c.settled[0] = 1;
+    refused(RECOVER, 0, TRAPCARD_ERR_FOREIGN);
+    c.settled[0] = 2;
+    c.settled[32] = 0;
+    refused(RECOVER, 0, TRAPCARD_ERR_FOREIGN);
+}
+
+/* Each byte of the save number counts, in the record and in the header. The largest is the last: a group is refused then, and an
+ * empty one is not. */
+static void saves(void)
+{
+    const uint64_t number = UINT64_C(0x08070605040302ff);
+    start();
+    for (size_t i = 0; i < 8; i++)
+        c.record[TRAPCARD_RECORD_SAVE + i] = (uint8_t)(number >> (8 * i));
+    numbered(number);
+    put(40, 7);
+    done(COMMIT, 0, 0);
+    done(SYNC, 0, 4);
+    numbered(number + 1);
+    for (size_t i = 0; i < 8; i++)
+        same("sync", "wrote the header's byte", c.settled[32 + i], (uint8_t)((number + 1) >> (8 * i)));
+    cut("");
+    numbered(0);
+    done(RECOVER, 0, 0);
+    numbered(number + 1);
+    memset(c.record + TRAPCARD_RECORD_SAVE, 255, 8);
+    done(SYNC, 0, 0);
+    put(40, 8);
+    done(COMMIT, 0, 0);
+    refused(SYNC, 0, TRAPCARD_ERR_LAST);
+    c.record[TRAPCARD_RECORD_SAVE]--;
+    done(SYNC, 0, 4);
+    numbered(UINT64_MAX);
 }
 
 /* The record for a boot is what a cut leaves at power 0. It opens a card whatever work memory and waiting bytes hold, and once
@@ -301,6 +345,7 @@ static void boot(void)
     done(POWER, 2, 0);
     done(RECOVER, 0, 2);
     holds(TRAPCARD_MODE_OPEN, 0, 0, 1, 0, 0);
+    numbered(1);
     got(40, TRAPCARD_IN_SETTLED, 1024, 7);
 }
 
@@ -332,14 +377,15 @@ static void bounds(void)
     same("tally", "set sum to", wide[1], 0);
 }
 
-#define KINDS 5
+#define KINDS 7
 #define SMALL (36u * TRAPCARD_BLOCK)
 #define OTHER (40u * TRAPCARD_BLOCK)
 
-/* Two sets of cards, of 36 and of 40 blocks: good, good with another block, foreign, unsound, and one whose length is wrong. */
+/* Two sets of cards, of 36 and of 40 blocks: good, good with another block, foreign, unsound, one whose length is wrong, and two more
+ * that are foreign: by format number 1, and by unlike sums with save number 0. */
 static uint8_t cards[2][KINDS][OTHER], kept[2][KINDS][OTHER];
 static const uint32_t numbers[KINDS] = {TRAPCARD_DONE, TRAPCARD_DONE, TRAPCARD_ERR_FOREIGN, TRAPCARD_ERR_UNSOUND,
-                                        TRAPCARD_ERR_SIZE};
+                                        TRAPCARD_ERR_SIZE, TRAPCARD_ERR_FOREIGN, TRAPCARD_ERR_FOREIGN};
 
 static size_t bytes_of(int set, int kind)
 {
@@ -365,9 +411,9 @@ static void inspections(void)
             uint8_t *card = cards[set][kind];
             same("format", "answered", format(card, bytes_of(set, 0) / TRAPCARD_BLOCK), TRAPCARD_DONE);
             card[DATA + 5] = (uint8_t)(kind == 1 ? 200 : 100);
-            card[0] = (uint8_t)(card[0] + (kind == 2));
+            card[0] = (uint8_t)(kind == 5 ? 1 : card[0] + (kind == 2));
             card[16] = (uint8_t)(card[16] + (kind == 3));
-            card[24] = (uint8_t)(card[24] + (kind == 3));
+            card[24] = (uint8_t)(card[24] + (kind == 3 || kind == 6));
         }
     memcpy(kept, cards, sizeof cards);
     for (int i = 0; i < 2 * KINDS; i++)
@@ -389,6 +435,7 @@ int main(void)
     lengths();
     places();
     causes();
+    saves();
     boot();
     bounds();
     inspections();

@@ -59,6 +59,7 @@ FIELDS = {
     "TRAPCARD_RECORD_WAITING": "waiting",
     "TRAPCARD_RECORD_POWER": "power",
     "TRAPCARD_RECORD_SUM": "sum",
+    "TRAPCARD_RECORD_SAVE": "save",
 }
 
 # Constants that are rows of the table of causes: the definitions of the rows that they stand for. These are all rows.
@@ -74,6 +75,7 @@ CAUSES = {
     "TRAPCARD_ERR_FOREIGN": ["foreignRow"],
     "TRAPCARD_ERR_UNSOUND": ["unsoundRow"],
     "TRAPCARD_ERR_MARKS": ["marksRow"],
+    "TRAPCARD_ERR_LAST": ["lastSaveRow"],
 }
 
 # Constants of rows whose test compares the number of the choice: the case of the choice that has that number.

@@ -1,7 +1,7 @@
 """What one call met, as cells of the coverage table. It is asked before the call, and told the outcome after it."""
 from coverage import IN_APPLY, IN_SYNC, TWO
-from model import (BLOCK, CLOSED, DOWN, FIRST_DATA, LEAST, MOST, OPEN, PLACES, RECORD, SLOTS, WAITING, WORK, choice, chosen, is_data, lists,
-                   wrong_counts, wrong_lists)
+from model import (BLOCK, CLOSED, DOWN, FIRST_DATA, LAST, LEAST, MOST, OPEN, PLACES, RECORD, SLOTS, WAITING, WORK, choice, chosen, foreign,
+                   is_data, lists, read_header, wrong_counts, wrong_lists)
 
 
 def settled_sizes(settled):
@@ -59,6 +59,39 @@ def recover_case(rec, answer, orders):
     return "recover: cut short" + (", header waits" if orders else " at once")
 
 
+# ---- the save number
+
+NAMED = {0: "0", 1: "1", 2**32 - 1: "2^32 - 1", 2**32: "2^32", LAST - 1: "2^64 - 2", LAST: "2^64 - 1"}
+
+
+def save_cases(call, rec, number, orders, head):
+    """The record's for sync, apply and cut, the header's for recover. Those of note are counted."""
+    ended = "cut short" if number == "gone" else "done"
+    if call == "sync":
+        if number == "12":
+            yield "refused at " + NAMED[rec.save]
+        elif rec.save in NAMED:
+            yield NAMED[rec.save] + ", " + (ended if rec.grouped else "nothing to save")
+        if number == "gone" and rec.save and rec.logged + rec.grouped > SLOTS and orders >= rec.logged + 3:
+            yield "cut short, kept after its apply"
+    if call == "apply" and rec.save in NAMED and rec.logged:
+        yield NAMED[rec.save] + ", " + ended
+    if call == "recover":
+        if number == "gone" and rec.save not in (head[6], head[6] - 1):
+            yield "cut short, the record's kept"
+        elif number == "0" and head[6] in NAMED:
+            yield NAMED[head[6]] + ", " + ("fallback" if orders else "whole")
+    if call == "cut" and rec.save:
+        yield "forgotten"
+
+
+def foreign_part(call, settled):
+    """The part of row 8 that alone applies."""
+    parts = list(foreign(len(settled) // BLOCK, read_header(settled)))
+    if len(parts) == 1:
+        yield "cause 8", parts[0], call
+
+
 SIX = ("put", "get", "commit", "abandon", "sync", "apply")
 ORDERS = {"sync": sync_case, "apply": apply_case, "recover": recover_case}
 
@@ -69,6 +102,7 @@ class Met:
     def __init__(self, call, views, rec, numbers, last):
         self.call, self.views, self.rec, self.numbers, self.last = call, views, rec, numbers, last
         self.blocks, self.sizes, self.parts, self.lists = len(views["settled"]) // BLOCK, list(wrong_sizes(views)), [], None
+        self.head = None if self.sizes else read_header(views["settled"])
         if self.sizes or call in TWO:
             return
         card = views["settled"], views["waiting"], views["work"]
@@ -84,9 +118,14 @@ class Met:
             yield "cause 1", self.sizes[0], self.call
         if answer == 2 and len(self.parts) == 1:
             yield "cause 2", self.parts[0], self.call
+        if answer == 8:
+            yield from foreign_part(self.call, self.foreigner())
         if 0 < answer < 10:
             yield from (("first of two", number, str(later)) for later in self.later() if later > answer)
         yield from (("cases", case, "") for case in self.cases(outcome, number, after))
+
+    def foreigner(self):
+        return self.views["settled"]
 
     def later(self):
         """Rows that apply, be they the first or not, as far as the record and the arguments show it."""
@@ -98,6 +137,8 @@ class Met:
             yield 6
         if self.call == "put" and self.rec.opened == SLOTS and not is_data(self.blocks, self.numbers[0]):
             yield 7
+        if self.call == "sync" and self.rec.grouped and self.rec.save == LAST:
+            yield 12
         if self.call == "recover":
             yield {OPEN: 5, DOWN: 4}.get(self.rec.mode, 0)
             yield 0 if self.sizes else choice(self.blocks, self.views["settled"])[0]
@@ -109,6 +150,9 @@ class Met:
             yield ORDERS[self.call](self.rec, *outcome)
         elif self.call in ("put", "get", "commit", "cut"):
             yield from getattr(self, self.call)(outcome[0], after)
+        if number in ("0", "gone", "12"):
+            cases = save_cases(self.call, self.rec, number, outcome[-1], self.head)
+            yield from ("save number, %s: %s" % (self.call, case) for case in cases)
         if outcome[0] == 0 and after.mode == OPEN:
             yield from self.accepted()
 
@@ -163,16 +207,23 @@ class MetCards(Met):
     def later(self):
         return ()
 
+    def foreigner(self):
+        """The card that is refused."""
+        one = self.views["settled"]
+        return one if chosen(one)[0] else self.views["other"]
+
     def cases(self, outcome, number, after):
         answer, found = outcome
         one, other = self.views["settled"], self.views.get("other")
         if self.call == "alike":
             yield from self.alike(answer, found, one, other)
         elif answer == 0:
-            _, count, _, back = choice(self.blocks, one)
+            _, count, _, back, _ = choice(self.blocks, one)
             yield "tally: " + ("fallback list" if back else "whole log" if count else "no log")
             if self.blocks == MOST:
                 yield "tally: N 65536"
+        if answer == 0 and self.head[6] == LAST:
+            yield "save number, %s: 2^64 - 1, %s" % (self.call, "fallback" if choice(self.blocks, one)[3] else "whole")
 
     def alike(self, answer, yes, one, other):
         if answer:
@@ -183,6 +234,8 @@ class MetCards(Met):
             yield "alike: yes, " + ("one card twice" if one is other else "other bytes")
         if yes and self.blocks == MOST:
             yield "alike: yes, N 65536"
+        if yes and self.head[6] != read_header(other)[6]:
+            yield "save number, alike: unlike, yes"
 
 
 def met(call, views, rec, numbers, last):

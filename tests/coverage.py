@@ -2,12 +2,12 @@
 
 TEN = ("format", "power", "put", "get", "commit", "abandon", "sync", "apply", "recover", "cut")
 TWO = ("tally", "alike")
-NUMBERS = ("0", "1", "2", "3", "4", "gone", "5", "6", "7", "8", "9", "10")
+NUMBERS = ("0", "1", "2", "3", "4", "gone", "5", "6", "7", "8", "9", "10", "12")
 
 # The numbers that each call may give; 4 is a record that was down, gone is power gone in the call.
 CAUSES = {
     "format": "0 1", "power": "0 1 2", "put": "0 1 2 3 4 6 7", "get": "0 1 2 3 4 6", "commit": "0 1 2 3 4 7", "abandon": "0 1 2 3 4",
-    "sync": "0 1 2 3 4 gone", "apply": "0 1 2 3 4 gone", "recover": "0 1 2 4 gone 5 8 9", "cut": "0 1 2 10", "tally": "0 1 8 9",
+    "sync": "0 1 2 3 4 gone 12", "apply": "0 1 2 3 4 gone", "recover": "0 1 2 4 gone 5 8 9", "cut": "0 1 2 10", "tally": "0 1 8 9",
     "alike": "0 1 8 9",
 }
 
@@ -16,8 +16,13 @@ SIZES = ("record length", "settled length", "N under 35", "N over 65536", "waiti
 PARTS = ("mode", "open count", "group count", "log count", "waiting count", "waiting unless down", "N", "waiting address",
          "open address", "group address", "log address", "twice in open", "twice in group")
 
+# The parts of row 8, likewise, and the calls that have it.
+FOREIGN = ("format 1", "another format", "N", "n over 32", "p over n", "save 0, unlike counts", "save 0, unlike sums",
+           "save 0, unlike counts and sums")
+THREE = ("recover", "tally", "alike")
+
 # Where two rows apply: the number given, and the later ones.
-FIRST = {"1": "2 3 4 5 6 10", "2": "3 4 5 6 8 9 10", "3": "6", "4": "6 8 9", "5": "8 9", "6": "7"}
+FIRST = {"1": "2 3 4 5 6 10 12", "2": "3 4 5 6 8 9 10 12", "3": "6 12", "4": "6 8 9 12", "5": "8 9", "6": "7"}
 
 # The places at which orders end.
 IN_APPLY = ("home blocks wait", "home blocks flushed", "header waits")
@@ -52,6 +57,14 @@ CASES = (
     + prefixed("tally: ", ("no log", "whole log", "fallback list", "N 65536"))
     + prefixed("alike: ", ("yes, one card twice", "yes, other bytes", "no", "no, other N", "yes, N 65536"))
     + tuple("alike: %d by the %s" % (number, card) for number in (1, 8, 9) for card in ("first", "second"))
+    + prefixed("save number, sync: ", ("refused at 2^64 - 1", "2^64 - 1, nothing to save", "2^64 - 2, done", "2^64 - 2, cut short",
+                                       "2^32 - 1, done", "cut short, kept after its apply"))
+    + prefixed("save number, apply: ", ("2^64 - 1, done", "2^64 - 1, cut short"))
+    + prefixed("save number, recover: ", ("0, whole", "2^64 - 1, whole", "1, fallback", "2^32, fallback", "2^64 - 1, fallback",
+                                          "cut short, the record's kept"))
+    + tuple("save number, %s: 2^64 - 1, %s" % (call, found) for call in TWO for found in ("whole", "fallback"))
+    + ("save number, alike: unlike, yes", "save number, cut: forgotten")
+    + prefixed("the number found: ", ("new", "old", "old, by a fallback"))
 )
 
 
@@ -65,6 +78,8 @@ def required():
         yield from (("cause 1", size, call) for call in TWO)
     for part in PARTS:
         yield from (("cause 2", part, call) for call in TEN[1:])
+    for part in FOREIGN:
+        yield from (("cause 8", part, call) for call in THREE)
     for number, later in FIRST.items():
         yield from (("first of two", number, other) for other in later.split())
     yield from (("cases", case, "") for case in CASES)
@@ -73,10 +88,11 @@ def required():
 def table(seen, name, rows, columns):
     """Counts by row and column. A cell that no call can reach is blank."""
     cells = {(row, column) for named, row, column in required() if named == name}
-    yield name.ljust(22) + "".join(column.rjust(8) for column in columns)
+    wide = max(22, *(len(row) + 2 for row in rows))
+    yield name.ljust(wide) + "".join(column.rjust(8) for column in columns)
     for row in rows:
         counts = (str(seen[name, row, column]) if (row, column) in cells else "" for column in columns)
-        yield ("  " + row).ljust(22) + "".join(count.rjust(8) for count in counts).rstrip()
+        yield ("  " + row).ljust(wide) + "".join(count.rjust(8) for count in counts).rstrip()
 
 
 def report(seen):
@@ -84,6 +100,7 @@ def report(seen):
     yield from table(seen, "causes", CAUSES, NUMBERS)
     yield from table(seen, "cause 1", SIZES, TEN + TWO)
     yield from table(seen, "cause 2", PARTS, TEN[1:])
+    yield from table(seen, "cause 8", FOREIGN, THREE)
     yield from table(seen, "first of two", FIRST, NUMBERS)
     yield "cases"
     half = -(-len(CASES) // 2)

@@ -1,5 +1,6 @@
 """Demands 2 and 3 in document 01's words, on the C library itself: beside a list of calls from a format answering 0 stand the plain
-disk, the log written, and the old and the new disk of a sync cut short. Of the card it reads what the library left there."""
+disk, the log written, the old and the new disk of a sync cut short, and the groups laid. Of the card it reads what the library left
+there."""
 from plain import BLOCK, DOWN, FIRST_DATA, OPEN, SLOTS, ZERO, Plain
 from model import fnv
 
@@ -28,11 +29,16 @@ class Witness:
         self.plain = Plain(lent["settled"].length // BLOCK)
         self.written, self.waiting_header, self.expected = [], None, []
         self.old, self.short, self.excepted, self.events = {}, None, False, []
+        self.groups = 0
 
     # ---- what the library left
 
     def record(self, field):
         return self.lent["record"].number(4 * ("mode", "N", "open", "group", "n", "waiting", "power").index(field))
+
+    def save(self):
+        """The save number, behind seven numbers of 4 bytes and the sum."""
+        return self.lent["record"].number(36, 8)
 
     def log(self, count):
         settled = self.lent["settled"]
@@ -67,13 +73,14 @@ class Witness:
         if call == "get":
             must(self.block(outcome) == block, "the plain disk has another block")
         self.compare_record()
-        self.judge(call, outcome[0])
+        self.judge(call, outcome)
 
     def compare_record(self):
         for field in ("mode", "power", "waiting"):
             must(self.record(field) == getattr(self.plain, field), "the plain disk's %s is %d", field, getattr(self.plain, field))
         if self.plain.mode == OPEN:
             must(self.record("n") == self.plain.n, "the plain disk's n is %d", self.plain.n)
+            must(self.save() == self.plain.laid, "the plain disk has %d groups laid, the save number is %d", self.plain.laid, self.save())
 
     # ---- the log written
 
@@ -137,12 +144,16 @@ class Witness:
         place = self.short.place
         kept = place is not None and marks[place] == 1
         self.short.decided = kept and same
+        self.groups += self.short.decided
         whole = place is not None and all(marks)
         must(not whole or self.short.decided, "all writes of a sync were made and kept, and it is not new")
         self.events.append("demand 3, " + ("new: all kept" if whole else "new: a harmless loss" if kept and same else
                                            "old: log torn" if kept else "old: header lost" if place is not None else "old: no header"))
 
-    def judge(self, call, answer):
+    def judge(self, call, outcome):
+        answer = outcome[0]
+        if call == "sync" and answer == 0 and self.entries:
+            self.groups += 1
         if call == "sync" and answer == 4 and self.mode == OPEN:
             must(self.short is None, "two syncs cut short since the last finished sync or recovery")
             short = self.plain.short
@@ -150,6 +161,7 @@ class Witness:
         if call == "recover" and answer == 0:
             new = self.short is not None and self.short.decided
             self.compare_disk(*((self.short.new, "new") if new else (self.old, "old")))
+            self.compare_number("new" if new else "old, by a fallback" if outcome[1] else "old")
         if call in ("sync", "recover") and answer == 0:
             self.old, self.short = dict(self.plain.S), None
 
@@ -162,6 +174,11 @@ class Witness:
             must(block == disk.get(address, ZERO), "demand 3: block %d is not the %s disk's", address, which)
             must(block == self.plain.get(address), "demand 2: block %d is not the plain disk's", address)
         self.events.append("demand 3, the %s disk found" % which)
+
+    def compare_number(self, which):
+        """W-201: the number found counts the nonempty groups laid: syncs that finished, and those cut short that a cut made new."""
+        must(self.save() == self.groups, "the save found is number %d, and %d groups were laid", self.save(), self.groups)
+        self.events.append("the number found: " + which)
 
 
 def total(listed):

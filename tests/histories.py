@@ -170,7 +170,8 @@ def odd_length(chance, call, blocks, large):
         name = "settled" if call == "tally" else chance.choice(("settled", "other"))
     else:
         name = chance.choice(("record", "settled", "waiting", "work"))
-    lengths = {"record": (0, RECORD - 1, RECORD + 1, 2 * RECORD), "waiting": (0, WAITING - 1, WAITING + 1, WAITING - 516, WAITING + 516),
+    lengths = {"record": (0, RECORD - 8, RECORD - 1, RECORD + 1, 2 * RECORD),
+               "waiting": (0, WAITING - 1, WAITING + 1, WAITING - 516, WAITING + 516),
                "work": (0, WORK - 1, WORK + 1, WORK - 516, WORK + 516)}
     if name in lengths:
         return name, chance.choice(lengths[name])
@@ -194,8 +195,8 @@ def made_up(chance, bench, large):
     blocks, count = size(chance, large), chance.choice((0, 0, 1, 1, 1, 1, 2, 3))
     pool = chance.choice((RECORD_FAULTS, RECORD_FAULTS, CARD_FAULTS, RECORD_FAULTS + CARD_FAULTS))
     yield Step("make", (blocks, chance.randrange(1 << 32), tuple(fault.__name__ for fault in chance.sample(pool, count))))
-    calls = chance.choices(NINE + ("tally", "alike"), k=chance.randint(2, 12))
-    for call in calls + ["cut", "recover"] + (["format"] if chance.random() < 0.2 else []):
+    calls = chance.choices(NINE + ("sync", "tally", "alike"), k=chance.randint(2, 12))
+    for call in calls + ["cut", "recover"] + (["format"] if chance.random() < 0.3 else []):
         if call == "alike":
             given = other_card(chance, blocks, large)
         else:

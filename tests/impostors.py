@@ -1,9 +1,10 @@
-"""Faults for the model, to see that the lockstep bites: those of document 01's "Faults to keep out", and two that only bytes show."""
+"""Faults for the model, to see that the lockstep bites: those of document 01's "Faults to keep out", one that only bytes show, and two
+of the save number."""
 from contextlib import contextmanager
 from dataclasses import replace
 
 import model
-from model import BLOCK, EMPTY_SUM, SLOTS
+from model import BLOCK, EMPTY_SUM
 
 
 def checkpoint(rec, orders):
@@ -11,7 +12,7 @@ def checkpoint(rec, orders):
     for address, block in model.log(orders.settled, rec.logged):
         orders.write(address, block)
     orders.flush()
-    orders.write(0, model.header(rec, 0, 0, EMPTY_SUM, EMPTY_SUM))
+    orders.write(0, model.header(rec, 0, 0, EMPTY_SUM, EMPTY_SUM, rec.save))
     return replace(rec, logged=0, sum=EMPTY_SUM)
 
 
@@ -25,10 +26,10 @@ def log_sum(log_entries, h=EMPTY_SUM):
 
 def choice(blocks, settled):
     """the count is trusted without the sum"""
-    version, counted, previous, count = (model.number(settled, at) for at in (0, 4, 8, 12))
-    if version != 1 or counted != blocks or count > SLOTS or previous > count:
-        return 8, 0, 0, False
-    return 0, count, model.number(settled, 24, 8), False
+    head = model.read_header(settled)
+    if any(model.foreign(blocks, head)):
+        return 8, 0, 0, False, 0
+    return 0, head[3], head[5], False, head[6]
 
 
 def get(rec, settled, waiting, work, address):
@@ -48,8 +49,19 @@ def settle(settled, waiting, marks):
             settled[at:at + BLOCK] = waiting[model.ENTRY * i + 4:model.ENTRY * (i + 1)]
 
 
-real_get = model.get
-IMPOSTORS = (checkpoint, log_sum, choice, get, settle)
+def recover(rec, settled, waiting, work):
+    """a fallback hands back the number of the save that was lost"""
+    answer, orders, left = real_recover(rec, settled, waiting, work)
+    return answer, orders, replace(left, save=left.save + 1) if answer == 0 and orders else left
+
+
+def unnumbered(previous, count, previous_sum, count_sum, save):
+    """a header with save number 0 and unlike sums is not foreign"""
+    return real_unnumbered(previous, count, 0, 0, save)
+
+
+real_get, real_recover, real_unnumbered = model.get, model.recover, model.unnumbered
+IMPOSTORS = (checkpoint, log_sum, choice, get, settle, recover, unnumbered)
 
 
 @contextmanager

@@ -2,7 +2,8 @@
 import random
 import struct
 
-from model import (BLOCK, CLOSED, DOWN, EMPTY_SUM, ENTRY, FIRST_DATA, OPEN, PLACES, SLOTS, WAITING, WORK, Record, encode, log, log_sum)
+from model import (BLOCK, CLOSED, DOWN, EMPTY_SUM, ENTRY, FIRST_DATA, FORMAT, LAST, OPEN, PLACES, SLOTS, WAITING, WORK, Record, encode,
+                   log, log_sum)
 
 TOP = 2**32 - 1
 RUN = 1 << 16
@@ -23,6 +24,11 @@ def few(chance, most):
     return min(most, chance.choice((0, 1, 2, 3, 5, 8, 16, 31, 32)))
 
 
+def save_number(chance):
+    """The largest and the one before it, those at a carry into the upper half, small ones, those with one bit, and any but 0."""
+    return chance.choice((LAST, LAST, LAST - 1, LAST - 1, TOP, TOP + 1, 1, 2, 1 << chance.randrange(64), chance.randrange(1, LAST)))
+
+
 class Made:
     """A record that fits its bytes and a card that a recovery takes, until a fault is put in."""
 
@@ -35,7 +41,9 @@ class Made:
         self.queued = chance.choice((few(chance, SLOTS), few(chance, SLOTS), PLACES)) if self.mode == DOWN else 0
         self.count = chance.choice((self.logged, few(chance, SLOTS)))
         self.previous = min(self.count, few(chance, SLOTS))
-        self.version, self.header_blocks, self.flips = 1, blocks, [0, 0]
+        self.version, self.header_blocks, self.flips, self.one_sum = FORMAT, blocks, [0, 0], False
+        self.save = 0 if self.previous == self.count and chance.random() < 0.3 else save_number(chance)
+        self.record_save = chance.choice((0, self.save, save_number(chance), save_number(chance)))
         self.list_addresses(room)
 
     def data(self):
@@ -80,9 +88,11 @@ class Made:
         if self.chance.random() < 0.5:
             self.spoil()
         sums = [log_sum(log(self.settled, min(n, SLOTS))) ^ flip for n, flip in zip((self.previous, self.count), self.flips)]
-        struct.pack_into("<4I2Q", self.settled, 0, self.version, self.header_blocks, self.previous, self.count, *sums)
+        if self.one_sum:
+            sums[0] = sums[1]
+        struct.pack_into("<4I3Q", self.settled, 0, self.version, self.header_blocks, self.previous, self.count, *sums, self.save)
         total = self.chance.choice((EMPTY_SUM, sums[1], self.chance.randrange(2**64)))
-        rec = Record(self.mode, self.N, self.opened, self.grouped, self.logged, self.queued, self.power, total)
+        rec = Record(self.mode, self.N, self.opened, self.grouped, self.logged, self.queued, self.power, total, self.record_save)
         return bytearray(encode(rec)), self.settled, self.waiting, self.work
 
 
@@ -161,10 +171,15 @@ def twice_in_group(made):
     made.grouped = twice(made, SLOTS, made.grouped)
 
 
+def last_save(made):
+    """No fault by itself: a group that meets the largest save number, or leaves it."""
+    made.record_save, made.grouped = made.chance.choice((LAST, LAST, LAST - 1)), max(made.grouped, 1)
+
+
 # ---- faults of the card
 
 def card_format(made):
-    made.version = made.chance.choice((0, 2, 257, TOP))
+    made.version = made.chance.choice((0, 1, 1, 3, 258, TOP))
 
 
 def card_blocks(made):
@@ -192,14 +207,27 @@ def neither_sum(made):
     sum_of_previous(made)
 
 
+def no_save_counts(made):
+    """Save number 0 and unlike counts, with the sum of n twice or with both."""
+    made.save, made.count = 0, max(made.count, 1)
+    made.previous, made.one_sum = min(made.previous, made.count - 1), made.chance.random() < 0.5
+
+
+def no_save_sums(made):
+    """Save number 0 and unlike sums. The counts are alike, so that one of the two sums is wrong."""
+    made.save, made.previous = 0, made.count
+    made.flips[made.chance.randrange(2)] = 1 << made.chance.randrange(64)
+
+
 def stray_in_list(made):
     made.count = max(made.count, 1)
     made.log_at(place(made, made.count, SLOTS), made.stray())
 
 
 RECORD_FAULTS = (mode, open_count, group_count, log_count, waiting_count, waiting_unless_down, other_blocks, open_address, group_address,
-                 log_address, waiting_address, twice_in_open, twice_in_group)
-CARD_FAULTS = (card_format, card_blocks, card_count, card_previous, sum_of_count, sum_of_count, sum_of_previous, neither_sum, stray_in_list)
+                 log_address, waiting_address, twice_in_open, twice_in_group, last_save)
+CARD_FAULTS = (card_format, card_blocks, card_count, card_previous, sum_of_count, sum_of_count, sum_of_previous, neither_sum, stray_in_list,
+               no_save_counts, no_save_sums)
 FAULTS = {fault.__name__: fault for fault in RECORD_FAULTS + CARD_FAULTS}
 
 

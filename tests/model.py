@@ -1,4 +1,5 @@
-"""Document 01's twelve calls on plain Python values, written from the paper and not from the code of the crates.
+"""Document 01's twelve calls, with W-201 of document 02, on plain Python values, written from the papers and not from the code of
+the crates.
 
 Buffers are bytearrays. A call of the ten returns its number and the record that it leaves; sync, apply and recover their orders
 between. tally and alike return their number and what they found. `c_call` is any of the twelve as C sees it.
@@ -7,11 +8,12 @@ import struct
 from dataclasses import dataclass, replace
 from functools import lru_cache
 
-BLOCK, ENTRY, SLOTS, FIRST_DATA, PLACES, RECORD = 512, 516, 32, 34, 34, 36
+BLOCK, ENTRY, SLOTS, FIRST_DATA, PLACES, RECORD = 512, 516, 32, 34, 34, 44
 LEAST, MOST = 35, 65536
 WAITING, WORK = PLACES * ENTRY, 2 * SLOTS * ENTRY
 CLOSED, OPEN, DOWN = 0, 1, 2
 EMPTY_SUM = 14695981039346656037
+FORMAT, LAST = 2, 2**64 - 1
 
 
 @dataclass(frozen=True)
@@ -24,6 +26,7 @@ class Record:
     waiting: int = 0
     power: int = 7
     sum: int = EMPTY_SUM
+    save: int = 0
 
 
 @lru_cache(1 << 14)
@@ -70,17 +73,38 @@ def log_sum(log_entries, h=EMPTY_SUM):
     return h
 
 
+def read_header(settled):
+    """Format number, N, p, n, the sums of both, the save number."""
+    return struct.unpack_from("<4I3Q", settled)
+
+
+def unnumbered(previous, count, previous_sum, count_sum, save):
+    """What a header with save number 0 may not have, by name."""
+    unlike = [name for name, wrong in (("counts", previous != count), ("sums", previous_sum != count_sum)) if wrong]
+    return "save 0, unlike " + " and ".join(unlike) if save == 0 and unlike else None
+
+
+def foreign(blocks, head):
+    """What row 8 finds in a header, by name."""
+    version, counted, previous, count = head[:4]
+    for name, wrong in (("format 1", version == 1), ("another format", version not in (1, FORMAT)), ("N", counted != blocks),
+                        ("n over 32", count > SLOTS), ("p over n", previous > count)):
+        if wrong:
+            yield name
+    yield from filter(None, [unnumbered(*head[2:])])
+
+
 def choice(blocks, settled):
-    """What a recovery comes to: its number, the count and the sum of the list taken, and whether it falls back."""
-    version, counted, previous, count = (number(settled, at) for at in (0, 4, 8, 12))
-    sums = [number(settled, at, 8) for at in (16, 24)]
-    if version != 1 or counted != blocks or count > SLOTS or previous > count:
-        return 8, 0, 0, False
-    for taken, total, back in ((count, sums[1], False), (previous, sums[0], True)):
+    """What a recovery comes to: its number, the count and the sum of the list taken, whether it falls back, and the number found."""
+    head = read_header(settled)
+    if any(foreign(blocks, head)):
+        return 8, 0, 0, False, 0
+    _, _, previous, count, previous_sum, count_sum, save = head
+    for taken, total, back in ((count, count_sum, False), (previous, previous_sum, True)):
         listed = log(settled, taken)
         if all(is_data(blocks, a) for a, _ in listed) and log_sum(listed) == total:
-            return 0, taken, total, back
-    return 9, 0, 0, False
+            return 0, taken, total, back, save - back
+    return 9, 0, 0, False, 0
 
 
 def wrong_counts(rec, settled):
@@ -141,6 +165,8 @@ def cause(call, rec, settled, waiting, work, address=None, block=None, marks=Non
         return 7
     if call == "commit" and len(set(opened) | set(grouped)) > SLOTS:
         return 7
+    if call == "sync" and rec.grouped and rec.save == LAST:
+        return 12
     return 0
 
 
@@ -149,7 +175,7 @@ def format(rec, settled, waiting, work):
     if answer:
         return answer, rec
     blocks = len(settled) // BLOCK
-    header = bytes([1, 0, 0, 0]) + blocks.to_bytes(4, "little") + bytes(8) + EMPTY_SUM.to_bytes(8, "little") * 2
+    header = bytes([FORMAT, 0, 0, 0]) + blocks.to_bytes(4, "little") + bytes(8) + EMPTY_SUM.to_bytes(8, "little") * 2
     for buffer in (settled, waiting, work):
         buffer[:] = bytes(len(buffer))
     settled[:len(header)] = header
@@ -243,9 +269,8 @@ def settle(settled, waiting, marks):
             settled[at:at + BLOCK] = waiting[ENTRY * i + 4:ENTRY * (i + 1)]
 
 
-def header(rec, previous, count, previous_sum, count_sum):
-    numbers = b"".join(n.to_bytes(4, "little") for n in (1, rec.blocks, previous, count))
-    return (numbers + previous_sum.to_bytes(8, "little") + count_sum.to_bytes(8, "little")).ljust(BLOCK, b"\0")
+def header(rec, previous, count, previous_sum, count_sum, save):
+    return struct.pack("<4I3Q", FORMAT, rec.blocks, previous, count, previous_sum, count_sum, save).ljust(BLOCK, b"\0")
 
 
 def checkpoint(rec, orders):
@@ -253,7 +278,7 @@ def checkpoint(rec, orders):
     for address, block in log(orders.settled, rec.logged):
         orders.write(address, block)
     orders.flush()
-    orders.write(0, header(rec, 0, 0, EMPTY_SUM, EMPTY_SUM))
+    orders.write(0, header(rec, 0, 0, EMPTY_SUM, EMPTY_SUM, rec.save))
     orders.flush()
     return replace(rec, logged=0, sum=EMPTY_SUM)
 
@@ -274,9 +299,9 @@ def sync(rec, settled, waiting, work):
     for i, (_, block) in enumerate(group):
         orders.write(2 + before.logged + i, block)
     orders.write(1, addresses.ljust(BLOCK, b"\0"))
-    orders.write(0, header(rec, before.logged, count, before.sum, total))
+    orders.write(0, header(rec, before.logged, count, before.sum, total, rec.save + 1))
     orders.flush()
-    return orders.outcome(replace(before, logged=count, sum=total, grouped=0), before)
+    return orders.outcome(replace(before, logged=count, sum=total, grouped=0, save=rec.save + 1), before)
 
 
 def apply(rec, settled, waiting, work):
@@ -291,12 +316,12 @@ def recover(rec, settled, waiting, work):
     answer = cause("recover", rec, settled, waiting, work)
     if answer:
         return answer, 0, rec
-    _, count, total, back = choice(rec.blocks, settled)
+    _, count, total, back, save = choice(rec.blocks, settled)
     orders = Orders(rec, settled, waiting)
     if back:
-        orders.write(0, header(rec, count, count, total, total))
+        orders.write(0, header(rec, count, count, total, total, save))
         orders.flush()
-    return orders.outcome(replace(rec, mode=OPEN, opened=0, grouped=0, logged=count, sum=total), rec)
+    return orders.outcome(replace(rec, mode=OPEN, opened=0, grouped=0, logged=count, sum=total, save=save), rec)
 
 
 def cut(rec, settled, waiting, work, marks):
@@ -313,7 +338,7 @@ def chosen(settled):
     """The number, and the list that a recovery of these settled bytes takes."""
     if wrong_size(settled):
         return 1, []
-    answer, count, _, _ = choice(len(settled) // BLOCK, settled)
+    answer, count = choice(len(settled) // BLOCK, settled)[:2]
     return answer, log(settled, count)
 
 
@@ -341,11 +366,11 @@ def alike(one, other):
 # ---- what C sees
 
 def decode(record):
-    return Record(*struct.unpack("<7IQ", record))
+    return Record(*struct.unpack("<7I2Q", record))
 
 
 def encode(rec):
-    return struct.pack("<7IQ", rec.mode, rec.blocks, rec.opened, rec.grouped, rec.logged, rec.waiting, rec.power, rec.sum)
+    return struct.pack("<7I2Q", rec.mode, rec.blocks, rec.opened, rec.grouped, rec.logged, rec.waiting, rec.power, rec.sum, rec.save)
 
 
 OUTS = {"get": 2, "sync": 1, "apply": 1, "recover": 1, "tally": 1, "alike": 1}

@@ -1,8 +1,9 @@
 """The plain disk, from its own section of document 01: fed N, a call's arguments and, at a cut, whether the log found is the log
-written. It knows no bytes of a card."""
+written. By W-201 it counts the nonempty groups laid into S. It knows no bytes of a card."""
 
 CLOSED, OPEN, DOWN = 0, 1, 2
 BLOCK, SLOTS, FIRST_DATA = 512, 32, 34
+LAST = 2**64 - 1
 ZERO = bytes(BLOCK)
 
 
@@ -29,6 +30,7 @@ class Plain:
         """As a format answering 0 leaves it."""
         self.blocks, self.S, self.G, self.T = blocks, {}, {}, {}
         self.n, self.F, self.mode, self.power, self.waiting, self.short = 0, 0, OPEN, 1000000, 0, None
+        self.laid = 0
 
     def refusal(self, call, arguments):
         if call == "put" and len(arguments[1]) != BLOCK:
@@ -46,7 +48,9 @@ class Plain:
             return 6
         if call == "put" and arguments[0] not in self.T and len(self.T) == SLOTS:
             return 7
-        return 7 if call == "commit" and len(self.T.keys() | self.G.keys()) > SLOTS else 0
+        if call == "commit" and len(self.T.keys() | self.G.keys()) > SLOTS:
+            return 7
+        return 12 if call == "sync" and self.G and self.laid == LAST else 0
 
     def step(self, call, arguments=(), found=True):
         """The answer, the orders handed back, and the block of a get."""
@@ -91,10 +95,14 @@ class Plain:
         applied = self.n + 3 if self.n + m > SLOTS else 0
         outcome = self.carried_out("sync", applied + m + 3, self.n, m, applied)
         if outcome[0] == 0:
-            self.S.update(self.G)
+            self.lay()
             self.G = {}
             self.n = m if applied else self.n + m
         return outcome
+
+    def lay(self):
+        self.S.update(self.G)
+        self.laid += 1
 
     def apply(self):
         outcome = self.carried_out("apply", self.n + 3 if self.n else 0, self.n)
@@ -127,7 +135,7 @@ class Plain:
                 self.n, self.F = 0, 0
         if short.own_header():
             if kept and found:
-                self.S.update(self.G)
+                self.lay()
                 self.n, self.F = self.n + short.m, 0
             else:
                 self.F = 1 if kept else 0

@@ -23,8 +23,8 @@ TYPE = re.compile(r"^(pub )?(struct|enum) ", re.M)
 
 Fault = namedtuple("Fault", "name file old new demands", defaults=(False,))
 FAULTS = (
-    Fault("apply's last flush is dropped", "journal/checkpoint", "Header::empty(blocks).order(f.queue, settled, waiting)\n",
-          "let mut b = [0u8; 512];\nHeader::empty(blocks).fill(&mut b);\nf.queue.write(waiting, 0, &b)\n", True),
+    Fault("apply's last flush is dropped", "journal/checkpoint", "Header::empty(blocks, save).order(f.queue, settled, waiting)\n",
+          "let mut b = [0u8; 512];\nHeader::empty(blocks, save).fill(&mut b);\nf.queue.write(waiting, 0, &b)\n", True),
     Fault("the count is trusted without the sum", "journal/choice", "if good(settled, blocks, h.count, h.sum)", "if true", True),
     Fault("the sum starts afresh at the new entries", "journal/append", "sum_group(log.sum, work, group)", "sum_group(fnv::START, work, group)",
           True),
@@ -33,6 +33,14 @@ FAULTS = (
     Fault("a recovery always falls back", "journal/choice", "if good(settled, blocks, h.count, h.sum)", "if false", True),
     Fault("kept writes settle newest first", "card/queue", "settle_marked(settled, waiting, i, marks[i])",
           "settle_marked(settled, waiting, marks.len() - 1 - i, marks[marks.len() - 1 - i])"),
+    Fault("a fallback keeps the save number", "journal/choice", "h.save - 1)", "h.save)", True),
+    Fault("a fallback's header keeps the save number", "journal/fallback", "p, sum, p, sum, save)", "p, sum, p, sum, save + 1)", True),
+    Fault("apply's header starts the save number afresh", "journal/checkpoint", "Header::empty(blocks, save).order", "Header::empty(blocks, 0).order",
+          True),
+    Fault("a sync cut short takes the next save number", "store/sync", "self.after(ordered, done)", "self.with_save(log.save).after(ordered, done)"),
+    Fault("a cut keeps the record's save number", "store/cut", "self.with_save(0)", "self.with_save(self.save)"),
+    Fault("a header with save number 0 and unlike sums is not foreign", "journal/choice", "h.presum != h.sum", "false"),
+    Fault("the largest save number refuses an empty group too", "store/refusals", "if self.grouped == 0 {\n            return 0;", "if false {\nreturn 0;"),
     Fault("put reads a byte behind its block", "firmware/calls", "let placed = decode(rec)",
           "unsafe { std::ptr::read_volatile(block.as_ptr().add(block.len())) };\nlet placed = decode(rec)"),
     Fault("commit writes a const byte with itself", "firmware/calls", "let committed = decode(rec)",

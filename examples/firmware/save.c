@@ -1,5 +1,6 @@
 /* Saves three blocks as one, loses power in that sync at every order with every set of kept writes, recovers, and checks that
- * the three are found together: all old or all new. Prints a line for each order and a last line with the total. */
+ * the three are found together, all old or all new, under the number of their save. Prints a line for each order, with how often
+ * each save was found, and a last line with the total. */
 #include <stdio.h>
 #include <stdlib.h>
 #include <string.h>
@@ -65,8 +66,12 @@ static void boot(struct card *c)
     must(trapcard_recover(CARD(c), &orders), "recover");
 }
 
-/* Power for p orders, then a cut that keeps the writes of the set: 7 for old, 9 for new. */
-static int found(const struct card *start, uint32_t p, uint32_t set)
+/* The blocks' value in each save. */
+enum { OLD = 7, NEW = 9 };
+
+/* Power for p orders, then a cut that keeps the writes of the set. The number of the save found, or 0 if its blocks are not all of
+ * that save, or if it is not the new one though the sync returned. */
+static uint64_t found(const struct card *start, uint32_t p, uint32_t set)
 {
     static struct card c;
     uint8_t marks[TRAPCARD_PLACES];
@@ -79,10 +84,10 @@ static int found(const struct card *start, uint32_t p, uint32_t set)
         marks[i] = (uint8_t)(set >> i & 1u);
     must(trapcard_cut(CARD(&c), marks, waiting), "cut");
     boot(&c);
-    int v = value(&c);
-    if (answer == TRAPCARD_DONE && v != 9)
-        return -1;
-    return v;
+    uint64_t save = trapcard_save(c.record);
+    if (value(&c) != (save == 1 ? OLD : NEW) || (answer == TRAPCARD_DONE && save != 2))
+        return 0;
+    return save;
 }
 
 int main(void)
@@ -90,24 +95,23 @@ int main(void)
     static struct card c;
     uint32_t orders, cuts = 0, news = 0;
     must(trapcard_format(CARD(&c)), "format");
-    commit(&c, 7);
+    commit(&c, OLD);
     must(trapcard_sync(CARD(&c), &orders), "sync");
-    commit(&c, 9);
+    commit(&c, NEW);
     for (uint32_t p = 0; p <= 6; p++) {
-        uint32_t waiting = p < 6 ? p : 0, old = 0, fresh = 0;
+        uint32_t waiting = p < 6 ? p : 0, times[3] = {0, 0, 0};
         for (uint32_t set = 0; set < 1u << waiting; set++) {
-            int v = found(&c, p, set);
-            if (v != 7 && v != 9) {
+            uint64_t save = found(&c, p, set);
+            if (save != 1 && save != 2) {
                 printf("torn: power %u, kept %u\n", p, set);
                 return 1;
             }
-            old += v == 7;
-            fresh += v == 9;
+            times[save]++;
         }
-        printf("power %u: %u old, %u new\n", p, old, fresh);
-        cuts += old + fresh;
-        news += fresh;
+        printf("power %u: save 1 found %u times, save 2 found %u times\n", p, times[1], times[2]);
+        cuts += times[1] + times[2];
+        news += times[2];
     }
-    printf("%u cuts, %u new, every save whole\n", cuts, news);
+    printf("%u cuts, save 2 found %u times, every save whole\n", cuts, news);
     return 0;
 }

@@ -35,30 +35,30 @@ use Rattle.crash.proofs.Frames.{Besides, Sized, Aside, log-left, homes-
 
 -- ---- the writes of an append
 
-module _ (geo : Geometry) (N : ℕ) (s : List ℕ) (n h : ℕ) (G : List Entry) where
+module _ (geo : Geometry) (N : ℕ) (s : List ℕ) (n h c : ℕ) (G : List Entry) where
   -- all but the header
   abbrev pub front : List Entry
   front = slotBlocks geo n G ++ descriptors geo s n G
 
   abbrev pub top : Entry
-  top = headerEntry (header N n h (n + length G) (sumOf h G))
+  top = headerEntry (header N n h (n + length G) (sumOf h G) c)
 
-  pub writes-split : appendWrites geo N s n h G ≡ front ++ (top ∷ [])
+  pub writes-split : appendWrites geo N s n h c G ≡ front ++ (top ∷ [])
   writes-split = sym (append-assoc (slotBlocks geo n G) (descriptors geo s n G) (top ∷ []))
 
   pub length-front : length front ≡ length G + geo .descriptors
   length-front = length-append (slotBlocks geo n G) (descriptors geo s n G) ∙ ap₂ (λ (a b : ℕ). a + b) (length-slotBlocks geo n G) (length-upTo (descriptorEntry s n G) (geo .descriptors))
 
-  pub length-append-writes : length (appendWrites geo N s n h G) ≡ length G + geo .descriptors + 1
+  pub length-append-writes : length (appendWrites geo N s n h c G) ≡ length G + geo .descriptors + 1
   length-append-writes = ap length writes-split ∙ length-append front (top ∷ []) ∙ ap (λ (k : ℕ). k + 1) length-front
 
-  pub writes-whole : All Whole G → All Whole (appendWrites geo N s n h G)
+  pub writes-whole : All Whole G → All Whole (appendWrites geo N s n h c G)
   writes-whole w =
       all-append Whole (slotBlocks geo n G) (descriptors geo s n G ++ (top ∷ [])) (slots-whole geo n G w)
       (all-append Whole (descriptors geo s n G) (top ∷ []) (all-upTo Whole (descriptorEntry s n G) (geo .descriptors) (λ j l. length-describe _ _ _))
-      (length-encode (header N n h (n + length G) (sumOf h G)), tt))
+      (length-encode (header N n h (n + length G) (sumOf h G) c), tt))
 
-  pub writes-below : (X : ℕ) → n + length G ≤ geo .slots → firstData geo ≤ X → All (λ e. e .address < X) (appendWrites geo N s n h G)
+  pub writes-below : (X : ℕ) → n + length G ≤ geo .slots → firstData geo ≤ X → All (λ e. e .address < X) (appendWrites geo N s n h c G)
   writes-below X room l =
       all-append (λ e. e .address < X) (slotBlocks geo n G) (descriptors geo s n G ++ (top ∷ [])) (slots-below geo X n G (omega arith))
       (all-append (λ e. e .address < X) (descriptors geo s n G) (top ∷ []) (all-upTo (λ e. e .address < X) (descriptorEntry s n G) (geo .descriptors) (λ j k. omega arith)) (omega arith, tt))
@@ -100,27 +100,27 @@ module _ (geo : Geometry) (N : ℕ) (s : List ℕ) (n h : ℕ) (G : List Entry) 
         let above : firstData geo ≤ a = data-above geo N a l in
         front-all (λ e. a ≢ e .address) (λ e q u z. omega arith) (λ j k z. omega arith)
 
-    all-aside : All (Aside geo n (blockAt s)) (appendWrites geo N s n h G)
+    all-aside : All (Aside geo n (blockAt s)) (appendWrites geo N s n h c G)
     all-aside = rw writes-split (all-append (Aside geo n (blockAt s)) front (top ∷ []) front-aside (top-aside, tt))
 
-    all-homes : (a : ℕ) → isData geo N a ≡ true → All (λ x. a ≢ x .address) (appendWrites geo N s n h G)
+    all-homes : (a : ℕ) → isData geo N a ≡ true → All (λ x. a ≢ x .address) (appendWrites geo N s n h c G)
     all-homes a q = rw writes-split (all-append (λ x. a ≢ x .address) front (top ∷ []) (front-homes a q) ((λ z. let u = data-above geo N a q in omega arith), tt))
 
     -- ---- behind any queue q₀ that keeps off header and log
 
     module _ (ms : List ℕ) (q₀ : List Entry) (off : KeepOff geo q₀) (e : Disk) where
       -- without its header
-      pub lost-stands : (k : ℕ) → k ≤ length front → Leaves N ms (q₀ ++ take k (appendWrites geo N s n h G)) (blockAt s) e → Stands geo N n q₀ (blockAt s) e
+      pub lost-stands : (k : ℕ) → k ≤ length front → Leaves N ms (q₀ ++ take k (appendWrites geo N s n h c G)) (blockAt s) e → Stands geo N n q₀ (blockAt s) e
       lost-stands k l v =
-          let p : take k (appendWrites geo N s n h G) ≡ take k front = ap (take k) writes-split ∙ take-append-le k front (top ∷ []) l in
+          let p : take k (appendWrites geo N s n h c G) ≡ take k front = ap (take k) writes-split ∙ take-append-le k front (top ∷ []) l in
           let u : Leaves N ms (q₀ ++ take k front) (blockAt s) e = rw p at v in
           aside-stands geo N ms q₀ (take k front) n (blockAt s) e big (omega arith) off u size (all-take (Aside geo n (blockAt s)) k front front-aside)
           (u .untouched headerAt (omega arith) (all-append (λ x. headerAt ≢ x .address) q₀ (take k front) (off-low geo q₀ off headerAt (omega arith)) (all-take (λ x. headerAt ≢ x .address) k front front-high)))
           (λ a q. all-take (λ x. a ≢ x .address) k front (front-homes a q))
 
-      module _ (v : Leaves N ms (q₀ ++ appendWrites geo N s n h G) (blockAt s) e) where
+      module _ (v : Leaves N ms (q₀ ++ appendWrites geo N s n h c G) (blockAt s) e) where
         -- its header is the last write
-        last-write : q₀ ++ appendWrites geo N s n h G ≡ (q₀ ++ front) ++ (top ∷ [])
+        last-write : q₀ ++ appendWrites geo N s n h c G ≡ (q₀ ++ front) ++ (top ∷ [])
         last-write = ap (λ (l : List Entry). q₀ ++ l) writes-split ∙ sym (append-assoc q₀ front (top ∷ []))
 
         last-place : length (q₀ ++ front) ≡ length q₀ + (length G + geo .descriptors)
@@ -129,23 +129,23 @@ module _ (geo : Geometry) (N : ℕ) (s : List ℕ) (n h : ℕ) (G : List Entry) 
         -- its header was written, and lost
         pub header-lost : keptAt ms (length q₀ + (length G + geo .descriptors)) ≡ false → Stands geo N n q₀ (blockAt s) e
         header-lost z =
-            aside-stands geo N ms q₀ (appendWrites geo N s n h G) n (blockAt s) e big (omega arith) off v size all-aside
+            aside-stands geo N ms q₀ (appendWrites geo N s n h c G) n (blockAt s) e big (omega arith) off v size all-aside
             (lost-header v (only-lost (keptAt ms) headerAt (q₀ ++ front) [] top last-write (all-append (λ x. headerAt ≢ x .address) q₀ front (off-low geo q₀ off headerAt (omega arith)) front-high) tt (ap (keptAt ms) last-place ∙ z))) all-homes
 
         -- its header was written, and kept
-        pub header-kept : keptAt ms (length q₀ + (length G + geo .descriptors)) ≡ true → e headerAt ≡ encode (header N n h (n + length G) (sumOf h G))
+        pub header-kept : keptAt ms (length q₀ + (length G + geo .descriptors)) ≡ true → e headerAt ≡ encode (header N n h (n + length G) (sumOf h G) c)
         header-kept z = kept-header v (q₀ ++ front) [] top last-write refl tt (ap (keptAt ms) last-place ∙ z)
 
         -- header or not, the first n entries stand, and the homes that q₀ does not write to
         pub log-stands : LogStands geo n e (blockAt s)
         log-stands =
-            log-left geo N ms (q₀ ++ appendWrites geo N s n h G) n (blockAt s) e big v (omega arith) size
-            (all-append (Aside geo n (blockAt s)) q₀ (appendWrites geo N s n h G) (off-aside geo n (blockAt s) q₀ (omega arith) off) all-aside)
+            log-left geo N ms (q₀ ++ appendWrites geo N s n h c G) n (blockAt s) e big v (omega arith) size
+            (all-append (Aside geo n (blockAt s)) q₀ (appendWrites geo N s n h c G) (off-aside geo n (blockAt s) q₀ (omega arith) off) all-aside)
 
         pub homes-stand : (a : ℕ) → isData geo N a ≡ true → All (λ x. a ≢ x .address) q₀ → e a ≡ blockAt s a
         homes-stand a l k =
-            homes-left geo N ms (q₀ ++ appendWrites geo N s n h G) n (blockAt s) e big v a l
-            (all-append (λ x. a ≢ x .address) q₀ (appendWrites geo N s n h G) k (all-homes a l))
+            homes-left geo N ms (q₀ ++ appendWrites geo N s n h c G) n (blockAt s) e big v a l
+            (all-append (λ x. a ≢ x .address) q₀ (appendWrites geo N s n h c G) k (all-homes a l))
 
 slots-laid : (geo : Geometry) (n : ℕ) (G : List Entry) (d : Disk) (i : ℕ) (x : Entry) → i < length G → overlay (slotBlocks geo n G) d (slotAt geo (n + i)) ≡ getD G i x .block
 unfolding slotBlocks overlay
@@ -170,34 +170,34 @@ row-laid f b at (suc k) j d h =
 
 -- ---- all of them kept: the log found is the log written
 
-module _ (geo : Geometry) (N : ℕ) (s : List ℕ) (n h : ℕ) (G : List Entry) (room : n + length G ≤ geo .slots) (big : firstData geo < N) (size : Sized N (blockAt s)) (low : All NarrowAddress G)
-    (ms : List ℕ) (q₀ : List Entry) (off : KeepOff geo q₀) (e : Disk) (v : Leaves N ms (q₀ ++ appendWrites geo N s n h G) (blockAt s) e) (all : allKept ms ≡ true) where
+module _ (geo : Geometry) (N : ℕ) (s : List ℕ) (n h c : ℕ) (G : List Entry) (room : n + length G ≤ geo .slots) (big : firstData geo < N) (size : Sized N (blockAt s)) (low : All NarrowAddress G)
+    (ms : List ℕ) (q₀ : List Entry) (off : KeepOff geo q₀) (e : Disk) (v : Leaves N ms (q₀ ++ appendWrites geo N s n h c G) (blockAt s) e) (all : allKept ms ≡ true) where
   -- what q₀ wrote plays no part below the data blocks
-  over : (a : ℕ) → a < firstData geo → e a ≡ overlay (appendWrites geo N s n h G) (blockAt s) a
+  over : (a : ℕ) → a < firstData geo → e a ≡ overlay (appendWrites geo N s n h c G) (blockAt s) a
   over a b =
       v .whole all a (omega arith)
-      ∙ ap (λ (f : Disk). f a) (overlay-append q₀ (appendWrites geo N s n h G) (blockAt s))
-      ∙ overlay-agree (appendWrites geo N s n h G) (overlay q₀ (blockAt s)) (blockAt s) a (overlay-other q₀ (blockAt s) a (off-low geo q₀ off a b))
+      ∙ ap (λ (f : Disk). f a) (overlay-append q₀ (appendWrites geo N s n h c G) (blockAt s))
+      ∙ overlay-agree (appendWrites geo N s n h c G) (overlay q₀ (blockAt s)) (blockAt s) a (overlay-other q₀ (blockAt s) a (off-low geo q₀ off a b))
 
   -- the log blocks, under descriptor and header
   abbrev blocks : Disk
   blocks = overlay (slotBlocks geo n G) (blockAt s)
 
   abbrev behind : List Entry
-  behind = descriptors geo s n G ++ (top geo N s n h G ∷ [])
+  behind = descriptors geo s n G ++ (top geo N s n h c G ∷ [])
 
-  slotted : (a : ℕ) → 1 + geo .descriptors ≤ a → overlay (appendWrites geo N s n h G) (blockAt s) a ≡ blocks a
+  slotted : (a : ℕ) → 1 + geo .descriptors ≤ a → overlay (appendWrites geo N s n h c G) (blockAt s) a ≡ blocks a
   slotted a p =
       ap (λ (f : Disk). f a) (overlay-append (slotBlocks geo n G) behind (blockAt s))
       ∙ overlay-other behind blocks a
-      (all-append (λ x. a ≢ x .address) (descriptors geo s n G) (top geo N s n h G ∷ [])
+      (all-append (λ x. a ≢ x .address) (descriptors geo s n G) (top geo N s n h c G ∷ [])
       (all-upTo (λ x. a ≢ x .address) (descriptorEntry s n G) (geo .descriptors) (λ j l z. omega arith)) ((λ z. omega arith), tt))
 
   described : (j : ℕ) → j < geo .descriptors → e (descriptorAt + j) ≡ descriptorEntry s n G j .block
   described j l =
       over (descriptorAt + j) (omega arith)
-      ∙ ap (λ (f : Disk). f (descriptorAt + j)) (overlay-append (slotBlocks geo n G) behind (blockAt s) ∙ overlay-append (descriptors geo s n G) (top geo N s n h G ∷ []) blocks)
-      ∙ overlay-other (top geo N s n h G ∷ []) (overlay (descriptors geo s n G) blocks) (descriptorAt + j) ((λ z. omega arith), tt)
+      ∙ ap (λ (f : Disk). f (descriptorAt + j)) (overlay-append (slotBlocks geo n G) behind (blockAt s) ∙ overlay-append (descriptors geo s n G) (top geo N s n h c G ∷ []) blocks)
+      ∙ overlay-other (top geo N s n h c G ∷ []) (overlay (descriptors geo s n G) blocks) (descriptorAt + j) ((λ z. omega arith), tt)
       ∙ row-laid (descriptorEntry s n G) descriptorAt (λ i. refl) (geo .descriptors) j blocks l
 
   -- the address of a new slot, in the block and at the place that are its
@@ -219,7 +219,7 @@ module _ (geo : Geometry) (N : ℕ) (s : List ℕ) (n h : ℕ) (G : List Entry) 
   found-written =
       upTo-add (slotE geo e) n (length G)
       ∙ ap₂ (λ (a b : List Entry). a ++ b)
-      (same-log geo n e (blockAt s) (log-stands geo N s n h G room big size ms q₀ off e v))
+      (same-log geo n e (blockAt s) (log-stands geo N s n h c G room big size ms q₀ off e v))
       (new G refl)
     where
       new : (H : List Entry) → H ≡ G → upTo (λ i. slotE geo e (n + i)) (length G) ≡ G

@@ -7,7 +7,7 @@ use native.Mathlib.Omega.{arith}
 use lib.ListN.{length, take, length-append}
 use lib.Seq.{take-all}
 use Rattle.cells.specs.Entry.{Entry}
-use Rattle.card.specs.Disk.{Disk, overlay}
+use Rattle.card.specs.Disk.{Disk}
 use Rattle.card.specs.Card.{Card, cut, settle, blockAt, blocksIn}
 use Rattle.card.specs.Marks.{marksFit, keptAt, allKept}
 use Rattle.card.proofs.All.{All, all-append, all-take}
@@ -21,6 +21,7 @@ use Rattle.journal.specs.declared.header.Header.{Header}
 use Rattle.journal.proofs.Headers.{length-encode}
 use Rattle.journal.proofs.OrderLists.{headerEntry, appendWrites}
 use Rattle.crash.specs.Found.{sameLog}
+use Rattle.crash.specs.Laid.{Laid, layOver}
 use Rattle.crash.proofs.Logs.{logD}
 use Rattle.crash.proofs.Cards.{WholeCard, ClosedCard, Appended}
 use Rattle.crash.proofs.Frames.{Besides, KeepOff}
@@ -51,7 +52,7 @@ last-kept q₀ e =
 module _ (geo : Geometry) where
   -- ---- a header behind the queue, cut and settled
 
-  module _ {X Y : ℕ → Type 0} {N : ℕ} {s : List ℕ} {q₀ w : List Entry} {S : Disk} {n : ℕ} {F : Bool} (b : Behind geo X Y N s q₀ w S n F) (h : Header) where
+  module _ {X Y : ℕ → Type 0} {N : ℕ} {s : List ℕ} {q₀ w : List Entry} {S : Laid} {n : ℕ} {F : Bool} (b : Behind geo X Y N s q₀ w S n F) (h : Header) where
     header-whole : All Whole (q₀ ++ (headerEntry h ∷ []))
     header-whole = all-append Whole q₀ (headerEntry h ∷ []) (b .whole) (length-encode h, tt)
 
@@ -64,24 +65,24 @@ module _ (geo : Geometry) where
 
   -- ---- an append
 
-  module _ {X Y : ℕ → Type 0} {N : ℕ} {s : List ℕ} {q₀ : List Entry} {n h : ℕ} {G w : List Entry} {S : Disk} (x : Appending geo X Y N s q₀ n h G w S) where
+  module _ {X Y : ℕ → Type 0} {N : ℕ} {s : List ℕ} {q₀ : List Entry} {n h : ℕ} {G w : List Entry} {S : Laid} (x : Appending geo X Y N s q₀ n h G w S) where
     abbrev W : List Entry
-    W = appendWrites geo N s n h G
+    W = appendWrites geo N s n h (S .groups + 1) G
 
     some : 0 < N
     some = omega (arith, x .behind .big)
 
     whole-writes : All Whole W
-    whole-writes = writes-whole geo N s n h G (x .blocks)
+    whole-writes = writes-whole geo N s n h (S .groups + 1) G (x .blocks)
 
     -- done
     done-leaves : Leaves N (ones (length (q₀ ++ W))) (q₀ ++ W) (blockAt s) (blockAt (settle (q₀ ++ W) s))
     done-leaves = settled-leaves (q₀ ++ W) s N some (x .behind .size) (all-append Whole q₀ W (x .behind .whole) whole-writes)
 
-    pub done-card : WholeCard geo Y N (blockAt (settle (q₀ ++ W) s)) (logD geo (blockAt s) n ++ G) (overlay G S) (n + length G)
+    pub done-card : WholeCard geo Y N (blockAt (settle (q₀ ++ W) s)) (logD geo (blockAt s) n ++ G) (layOver G S) (n + length G)
     done-card = append-all geo x (settle (q₀ ++ W) s) (ones (length (q₀ ++ W))) done-leaves (ones-kept (length (q₀ ++ W)))
 
-    pub done-append : Appended geo Y N (blockAt s) (blockAt (settle (q₀ ++ W) s)) n h G
+    pub done-append : Appended geo Y N (blockAt s) (blockAt (settle (q₀ ++ W) s)) n h (S .groups) G
     done-append =
         on-card geo x (settle (q₀ ++ W) s) (ones (length (q₀ ++ W))) done-leaves
         (kept-top geo x (settle (q₀ ++ W) s) (ones (length (q₀ ++ W))) done-leaves (ones-kept (length (q₀ ++ W))))
@@ -98,7 +99,7 @@ module _ (geo : Geometry) where
       module _ (e : k ≡ length G + geo .descriptors + 1) where
         all-left : Leaves N ms (q₀ ++ W) (blockAt s) (blockAt (cut ms r .settled))
         all-left =
-            let q : length W ≡ length G + geo .descriptors + 1 = length-append-writes geo N s n h G in
+            let q : length W ≡ length G + geo .descriptors + 1 = length-append-writes geo N s n h (S .groups + 1) G in
             rw (take-all k W (omega arith)) at part-left
 
         -- its header lost
@@ -107,7 +108,7 @@ module _ (geo : Geometry) where
 
         -- its header kept, and the log found is the log written
         pub append-cuts-new : keptAt ms (ownPlace geo x) ≡ true → sameLog (foundIn geo (cut ms r .settled)) (logD geo (blockAt s) n ++ G) ≡ true
-            → Leads geo Y N (cut ms r .settled) (logD geo (blockAt s) n ++ G) (overlay G S) (n + length G) false
+            → Leads geo Y N (cut ms r .settled) (logD geo (blockAt s) n ++ G) (layOver G S) (n + length G) false
         append-cuts-new z q = append-new geo x (cut ms r .settled) ms all-left z q
 
         -- its header kept, and another log is found
@@ -124,13 +125,13 @@ module _ (geo : Geometry) where
 
   -- ---- a checkpoint
 
-  module _ {X Y : ℕ → Type 0} {N : ℕ} {s : List ℕ} {q₀ w : List Entry} {S : Disk} {n : ℕ} (b : Behind geo X Y N s q₀ w S n false) where
+  module _ {X Y : ℕ → Type 0} {N : ℕ} {s : List ℕ} {q₀ w : List Entry} {S : Laid} {n : ℕ} (b : Behind geo X Y N s q₀ w S n false) where
     abbrev log : List Entry
     log = logD geo (blockAt s) n
 
     -- its home blocks are settled
     pub homes-settled : All Whole (logD geo (blockAt s) n)
-        → WholeCard geo Y N (blockAt (settle (q₀ ++ logD geo (blockAt s) n) s)) w S n × ((a : ℕ) → isData geo N a ≡ true → Y a → S a ≡ blockAt (settle (q₀ ++ logD geo (blockAt s) n) s) a)
+        → WholeCard geo Y N (blockAt (settle (q₀ ++ logD geo (blockAt s) n) s)) w S n × ((a : ℕ) → isData geo N a ≡ true → Y a → S .disk a ≡ blockAt (settle (q₀ ++ logD geo (blockAt s) n) s) a)
     homes-settled whole =
         homes-done geo b (settle (q₀ ++ log) s) (ones (length (q₀ ++ log))) (settled-leaves (q₀ ++ log) s N (omega (arith, b .big)) (b .size) (all-append Whole q₀ log (b .whole) whole))
         (ones-kept (length (q₀ ++ log)))
@@ -144,38 +145,38 @@ module _ (geo : Geometry) where
           (left-leaves c r s (q₀ ++ take k log) 0 N ms left (omega (arith, b .big)) (b .size) fit (all-append Whole q₀ (take k log) (b .whole) (all-take Whole k log whole)))
 
       -- behind their flush an empty log's header waits
-      pub header-cuts : ((a : ℕ) → isData geo N a ≡ true → X a → S a ≡ blockAt s a) → Left c r s (q₀ ++ (headerEntry (emptyHeader N) ∷ [])) 0 → marksFit ms (length (q₀ ++ (headerEntry (emptyHeader N) ∷ []))) ≡ true
+      pub header-cuts : ((a : ℕ) → isData geo N a ≡ true → X a → S .disk a ≡ blockAt s a) → Left c r s (q₀ ++ (headerEntry (emptyHeader N (S .groups)) ∷ [])) 0 → marksFit ms (length (q₀ ++ (headerEntry (emptyHeader N (S .groups)) ∷ []))) ≡ true
           → (t : Bool) → keptAt ms (length q₀) ≡ t → Leads geo Y N (cut ms r .settled) (cond t [] w) S (cond t 0 n) false
-      header-cuts homes left fit true z = closed-leads geo Y N (cut ms r .settled) [] S 0 false (empty-card geo b (cut ms r .settled) ms homes (header-left b (emptyHeader N) c r ms left fit) z)
-      header-cuts homes left fit false z = lost-leads geo b (cut ms r .settled) ms (emptyHeader N) (header-left b (emptyHeader N) c r ms left fit) z
+      header-cuts homes left fit true z = closed-leads geo Y N (cut ms r .settled) [] S 0 false (empty-card geo b (cut ms r .settled) ms homes (header-left b (emptyHeader N (S .groups)) c r ms left fit) z)
+      header-cuts homes left fit false z = lost-leads geo b (cut ms r .settled) ms (emptyHeader N (S .groups)) (header-left b (emptyHeader N (S .groups)) c r ms left fit) z
 
     -- an empty log's header is settled
-    pub empty-settled : ((a : ℕ) → isData geo N a ≡ true → X a → S a ≡ blockAt s a) → WholeCard geo Y N (blockAt (settle (q₀ ++ (headerEntry (emptyHeader N) ∷ [])) s)) [] S 0
+    pub empty-settled : ((a : ℕ) → isData geo N a ≡ true → X a → S .disk a ≡ blockAt s a) → WholeCard geo Y N (blockAt (settle (q₀ ++ (headerEntry (emptyHeader N (S .groups)) ∷ [])) s)) [] S 0
     empty-settled homes =
-        empty-card geo b (settle (q₀ ++ (headerEntry (emptyHeader N) ∷ [])) s) (ones (length (q₀ ++ (headerEntry (emptyHeader N) ∷ [])))) homes (header-settled b (emptyHeader N)) (last-kept q₀ (headerEntry (emptyHeader N)))
+        empty-card geo b (settle (q₀ ++ (headerEntry (emptyHeader N (S .groups)) ∷ [])) s) (ones (length (q₀ ++ (headerEntry (emptyHeader N (S .groups)) ∷ [])))) homes (header-settled b (emptyHeader N (S .groups))) (last-kept q₀ (headerEntry (emptyHeader N (S .groups))))
 
   -- ---- nothing more waits
 
-  pub still-cuts : {X Y : ℕ → Type 0} {N : ℕ} {s : List ℕ} {q₀ w : List Entry} {S : Disk} {n : ℕ} {F : Bool} → Behind geo X Y N s q₀ w S n F → (c r : Card) (p : ℕ) (ms : List ℕ)
+  pub still-cuts : {X Y : ℕ → Type 0} {N : ℕ} {s : List ℕ} {q₀ w : List Entry} {S : Laid} {n : ℕ} {F : Bool} → Behind geo X Y N s q₀ w S n F → (c r : Card) (p : ℕ) (ms : List ℕ)
       → Left c r s q₀ p → marksFit ms (length q₀) ≡ true → Leads geo Y N (cut ms r .settled) w S n F
   still-cuts {N = N} {s = s} {q₀ = q₀} b c r p ms left fit = still-leads geo b (cut ms r .settled) ms (left-leaves c r s q₀ p N ms left (omega (arith, b .big)) (b .size) fit (b .whole))
 
   -- ---- a fallback
 
-  module _ {X Y : ℕ → Type 0} {N : ℕ} {s : List ℕ} {q₀ w : List Entry} {S : Disk} {n : ℕ} (b : Behind geo X Y N s q₀ w S n true) where
-    pub fall-cuts : (c r : Card) (ms : List ℕ) → Left c r s (q₀ ++ (headerEntry (fallHeader geo N s n) ∷ [])) 0 → marksFit ms (length (q₀ ++ (headerEntry (fallHeader geo N s n) ∷ []))) ≡ true
+  module _ {X Y : ℕ → Type 0} {N : ℕ} {s : List ℕ} {q₀ w : List Entry} {S : Laid} {n : ℕ} (b : Behind geo X Y N s q₀ w S n true) where
+    pub fall-cuts : (c r : Card) (ms : List ℕ) → Left c r s (q₀ ++ (headerEntry (fallHeader geo N s n (S .groups)) ∷ [])) 0 → marksFit ms (length (q₀ ++ (headerEntry (fallHeader geo N s n (S .groups)) ∷ []))) ≡ true
         → (t : Bool) → keptAt ms (length q₀) ≡ t → Leads geo Y N (cut ms r .settled) (cond t (logD geo (blockAt s) n) w) S n (not t)
     fall-cuts c r ms left fit true z =
-        closed-leads geo Y N (cut ms r .settled) (logD geo (blockAt s) n) S n false (fallen-card geo b (cut ms r .settled) ms (header-left b (fallHeader geo N s n) c r ms left fit) z)
-    fall-cuts c r ms left fit false z = lost-leads geo b (cut ms r .settled) ms (fallHeader geo N s n) (header-left b (fallHeader geo N s n) c r ms left fit) z
+        closed-leads geo Y N (cut ms r .settled) (logD geo (blockAt s) n) S n false (fallen-card geo b (cut ms r .settled) ms (header-left b (fallHeader geo N s n (S .groups)) c r ms left fit) z)
+    fall-cuts c r ms left fit false z = lost-leads geo b (cut ms r .settled) ms (fallHeader geo N s n (S .groups)) (header-left b (fallHeader geo N s n (S .groups)) c r ms left fit) z
 
-    pub fall-settled : WholeCard geo Y N (blockAt (settle (q₀ ++ (headerEntry (fallHeader geo N s n) ∷ [])) s)) (logD geo (blockAt s) n) S n
+    pub fall-settled : WholeCard geo Y N (blockAt (settle (q₀ ++ (headerEntry (fallHeader geo N s n (S .groups)) ∷ [])) s)) (logD geo (blockAt s) n) S n
     fall-settled =
-        fallen-card geo b (settle (q₀ ++ (headerEntry (fallHeader geo N s n) ∷ [])) s) (ones (length (q₀ ++ (headerEntry (fallHeader geo N s n) ∷ [])))) (header-settled b (fallHeader geo N s n))
-        (last-kept q₀ (headerEntry (fallHeader geo N s n)))
+        fallen-card geo b (settle (q₀ ++ (headerEntry (fallHeader geo N s n (S .groups)) ∷ [])) s) (ones (length (q₀ ++ (headerEntry (fallHeader geo N s n (S .groups)) ∷ [])))) (header-settled b (fallHeader geo N s n (S .groups)))
+        (last-kept q₀ (headerEntry (fallHeader geo N s n (S .groups))))
 
   -- ---- any queue of whole writes to data blocks will do, and what it does not write to is spared
 
-  pub any-behind : {X : ℕ → Type 0} {N : ℕ} {s : List ℕ} {w : List Entry} {S : Disk} {n : ℕ} {F : Bool} (q₀ : List Entry) → firstData geo < N → N < 2 ^ 32 → N ≡ blocksIn s → KeepOff geo q₀ → All Whole q₀
+  pub any-behind : {X : ℕ → Type 0} {N : ℕ} {s : List ℕ} {w : List Entry} {S : Laid} {n : ℕ} {F : Bool} (q₀ : List Entry) → firstData geo < N → N < 2 ^ 32 → N ≡ blocksIn s → KeepOff geo q₀ → All Whole q₀
       → ClosedCard geo X N (blockAt s) w S n F → Behind geo X (λ a. X a × Besides q₀ a) N s q₀ w S n F
   any-behind q₀ big small size off whole card = record { big = big; small = small; size = size; off = off; whole = whole; spared = λ a y. y; card = card }

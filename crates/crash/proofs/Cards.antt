@@ -20,6 +20,7 @@ use Rattle.journal.specs.Header.{encode, header, emptyHeader}
 use Rattle.journal.specs.Log.{sumOf, allData, good}
 use Rattle.journal.proofs.Logs.{sumOf-nil, sumOf-append, allData-append}
 use Rattle.journal.proofs.Choices.{both}
+use Rattle.crash.specs.Laid.{Laid, layOver}
 use Rattle.crash.proofs.Logs.{sum-lt, slotE, logD, LogStands, same-log, same-agree}
 
 -- all data blocks are in question
@@ -27,44 +28,48 @@ abbrev pub Every : ℕ → Type 0
 Every a = Unit {0}
 
 module _ (geo : Geometry) where
-  -- block 0 is a header of ours
-  pub record HasHeader (d : Disk) (N p ps c ns : ℕ) : Type 0 where
-    pub block : d headerAt ≡ encode (header N p ps c ns)
+  -- block 0 is a header of ours, with the save number k
+  pub record HasHeader (d : Disk) (N p ps c ns k : ℕ) : Type 0 where
+    pub block : d headerAt ≡ encode (header N p ps c ns k)
     pub ordered : p ≤ c
     pub most : c ≤ geo .slots
     pub presum : ps < 2 ^ 64
     pub sum : ns < 2 ^ 64
+    pub save : k < 2 ^ 64
+    pub numbered : k ≡ 0 → (p ≡ c) × (ps ≡ ns)
 
-  -- its first n entries are the log: their list is w, and S is the disk under it, at the data blocks X
-  pub record WholeCard (X : ℕ → Type 0) (N : ℕ) (d : Disk) (w : List Entry) (S : Disk) (n : ℕ) : Type 0 where
+  -- its first n entries are the log: their list is w, and S is the disk under it, at the data blocks X. Its save number is that of the
+  -- groups laid into S
+  pub record WholeCard (X : ℕ → Type 0) (N : ℕ) (d : Disk) (w : List Entry) (S : Laid) (n : ℕ) : Type 0 where
     pub p : ℕ
     pub ps : ℕ
-    pub head : HasHeader d N p ps n (sumOf start (logD geo d n))
+    pub head : HasHeader d N p ps n (sumOf start (logD geo d n)) (S .groups)
     pub all : allData geo N (logD geo d n) ≡ true
     pub same : w ≡ logD geo d n
-    pub disk : (a : ℕ) → isData geo N a ≡ true → X a → S a ≡ overlay (logD geo d n) d a
+    pub disk : (a : ℕ) → isData geo N a ≡ true → X a → S .disk a ≡ overlay (logD geo d n) d a
 
-  -- its first c entries are not good, and its first n are the log: those of the list w from which the header took its sum
-  pub record FallCard (X : ℕ → Type 0) (N : ℕ) (d : Disk) (w : List Entry) (S : Disk) (n : ℕ) : Type 0 where
+  -- its first c entries are not good, and its first n are the log: those of the list w from which the header took its sum. Its save number
+  -- is one more than that of the groups laid into S
+  pub record FallCard (X : ℕ → Type 0) (N : ℕ) (d : Disk) (w : List Entry) (S : Laid) (n : ℕ) : Type 0 where
     pub c : ℕ
     pub ns : ℕ
-    pub head : HasHeader d N n (sumOf start (logD geo d n)) c ns
+    pub head : HasHeader d N n (sumOf start (logD geo d n)) c ns (S .groups + 1)
     pub all : allData geo N (logD geo d n) ≡ true
     pub bad : good geo N (logD geo d c) ns ≡ false
     pub other : w ≢ logD geo d c
     pub size : length w ≡ c
     pub total : sumOf start w ≡ ns
     pub front : take n w ≡ logD geo d n
-    pub disk : (a : ℕ) → isData geo N a ≡ true → X a → S a ≡ overlay (logD geo d n) d a
+    pub disk : (a : ℕ) → isData geo N a ≡ true → X a → S .disk a ≡ overlay (logD geo d n) d a
 
-  abbrev pub ClosedCard : (ℕ → Type 0) → ℕ → Disk → List Entry → Disk → ℕ → Bool → Type 0
+  abbrev pub ClosedCard : (ℕ → Type 0) → ℕ → Disk → List Entry → Laid → ℕ → Bool → Type 0
   ClosedCard X N d w S n false = WholeCard X N d w S n
   ClosedCard X N d w S n true = FallCard X N d w S n
 
   -- a card that some list, as long as v and with its sum, some disk and some count belong to
   pub record SafeCard (X : ℕ → Type 0) (N : ℕ) (d : Disk) (v : List Entry) : Type 0 where
     pub w : List Entry
-    pub S : Disk
+    pub S : Laid
     pub n : ℕ
     pub F : Bool
     pub size : length w ≡ length v
@@ -74,18 +79,20 @@ module _ (geo : Geometry) where
   -- ---- another disk, with the data blocks Y in question
 
   -- the same header and log, and the same disk under it
-  pub whole-frame : (X Y : ℕ → Type 0) (N : ℕ) (d e : Disk) (w : List Entry) (S : Disk) (n : ℕ) → e headerAt ≡ d headerAt → logD geo e n ≡ logD geo d n
+  pub whole-frame : (X Y : ℕ → Type 0) (N : ℕ) (d e : Disk) (w : List Entry) (S : Laid) (n : ℕ) → e headerAt ≡ d headerAt → logD geo e n ≡ logD geo d n
       → ((a : ℕ) → isData geo N a ≡ true → Y a → X a × (overlay (logD geo d n) e a ≡ overlay (logD geo d n) d a))
       → WholeCard X N d w S n → WholeCard Y N e w S n
   whole-frame X Y N d e w S n h l o r = record {
     p = r .p;
     ps = r .ps;
     head = record {
-      block = h ∙ r .head .block ∙ ap (λ (x : List Entry). encode (header N (r .p) (r .ps) n (sumOf start x))) (sym l);
+      block = h ∙ r .head .block ∙ ap (λ (x : List Entry). encode (header N (r .p) (r .ps) n (sumOf start x) (S .groups))) (sym l);
       ordered = r .head .ordered;
       most = r .head .most;
       presum = r .head .presum;
       sum = rw l (r .head .sum);
+      save = r .head .save;
+      numbered = λ z. (r .head .numbered z .0, r .head .numbered z .1 ∙ ap (sumOf start) (sym l));
     };
     all = rw l (r .all);
     same = r .same ∙ sym l;
@@ -93,7 +100,7 @@ module _ (geo : Geometry) where
   }
 
   -- a disk that agrees below the data blocks and at Y
-  module _ (X Y : ℕ → Type 0) (N : ℕ) (d e : Disk) (w : List Entry) (S : Disk) (n : ℕ) (low : (a : ℕ) → a < firstData geo → e a ≡ d a)
+  module _ (X Y : ℕ → Type 0) (N : ℕ) (d e : Disk) (w : List Entry) (S : Laid) (n : ℕ) (low : (a : ℕ) → a < firstData geo → e a ≡ d a)
       (homes : (a : ℕ) → isData geo N a ≡ true → Y a → X a × (e a ≡ d a)) where
     log-agrees : (k : ℕ) → k ≤ geo .slots → logD geo e k ≡ logD geo d k
     log-agrees k h = same-log geo k e d (same-agree geo k e d h low)
@@ -112,11 +119,13 @@ module _ (geo : Geometry) where
           c = r .c;
           ns = r .ns;
           head = record {
-            block = low headerAt (omega arith) ∙ r .head .block ∙ ap (λ (x : List Entry). encode (header N n (sumOf start x) (r .c) (r .ns))) (sym l);
+            block = low headerAt (omega arith) ∙ r .head .block ∙ ap (λ (x : List Entry). encode (header N n (sumOf start x) (r .c) (r .ns) (S .groups + 1))) (sym l);
             ordered = r .head .ordered;
             most = r .head .most;
             presum = rw l (r .head .presum);
             sum = r .head .sum;
+            save = r .head .save;
+            numbered = λ z. absurd (omega arith);
           };
           all = rw l (r .all);
           bad = rw m (r .bad);
@@ -131,27 +140,30 @@ module _ (geo : Geometry) where
     closed-agree false r = whole-agree r
     closed-agree true r = fall-agree r
 
-  -- ---- an append whose header was kept, on the disk e: the first n entries stand, the rest are those found
+  -- ---- an append whose header was kept, on the disk e: the first n entries stand, the rest are those found. k groups were laid before
 
-  pub record Appended (X : ℕ → Type 0) (N : ℕ) (d e : Disk) (n h : ℕ) (G : List Entry) : Type 0 where
-    pub head : e headerAt ≡ encode (header N n h (n + length G) (sumOf h G))
+  pub record Appended (X : ℕ → Type 0) (N : ℕ) (d e : Disk) (n h k : ℕ) (G : List Entry) : Type 0 where
+    pub head : e headerAt ≡ encode (header N n h (n + length G) (sumOf h G) (k + 1))
     pub log : LogStands geo n e d
     pub homes : (a : ℕ) → isData geo N a ≡ true → X a → e a ≡ d a
     pub sum : h ≡ sumOf start (logD geo d n)
     pub room : n + length G ≤ geo .slots
+    pub next : k + 1 < 2 ^ 64
 
-  module _ (Y : ℕ → Type 0) (N : ℕ) (d e : Disk) (n h : ℕ) (G : List Entry) (t : Appended Y N d e n h G) where
+  module _ (Y : ℕ → Type 0) (N : ℕ) (d e : Disk) (n h k : ℕ) (G : List Entry) (t : Appended Y N d e n h k G) where
     -- the list from which that header took its sum
     pub append-sum : sumOf start (logD geo d n ++ G) ≡ sumOf h G
-    append-sum = sumOf-append start (logD geo d n) G ∙ ap (λ (k : ℕ). sumOf k G) (sym (t .sum))
+    append-sum = sumOf-append start (logD geo d n) G ∙ ap (λ (x : ℕ). sumOf x G) (sym (t .sum))
 
-    pub append-head : HasHeader e N n h (n + length G) (sumOf h G)
+    pub append-head : HasHeader e N n h (n + length G) (sumOf h G) (k + 1)
     append-head = record {
       block = t .head;
       ordered = omega arith;
       most = t .room;
       presum = rw (t .sum) (sum-lt (logD geo d n));
       sum = rw (← append-sum) (sum-lt (logD geo d n ++ G));
+      save = t .next;
+      numbered = λ z. absurd (omega arith);
     }
 
     append-log : logD geo e n ≡ logD geo d n
@@ -161,18 +173,18 @@ module _ (geo : Geometry) where
   append-size d n G = lib.ListN.length-append (logD geo d n) G ∙ ap (λ (k : ℕ). k + length G) (length-upTo (slotE geo d) n)
 
   -- from a card whose log is the first n entries
-  module _ (X Y : ℕ → Type 0) (N : ℕ) (d e : Disk) (w : List Entry) (S : Disk) (n h : ℕ) (G : List Entry) (sub : (a : ℕ) → Y a → X a) (r : WholeCard X N d w S n) (t : Appended Y N d e n h G) where
+  module _ (X Y : ℕ → Type 0) (N : ℕ) (d e : Disk) (w : List Entry) (S : Laid) (n h : ℕ) (G : List Entry) (sub : (a : ℕ) → Y a → X a) (r : WholeCard X N d w S n) (t : Appended Y N d e n h (S .groups) G) where
     abbrev sums : sumOf start (logD geo d n ++ G) ≡ sumOf h G
-    sums = append-sum Y N d e n h G t
+    sums = append-sum Y N d e n h (S .groups) G t
 
-    abbrev head : HasHeader e N n h (n + length G) (sumOf h G)
-    head = append-head Y N d e n h G t
+    abbrev head : HasHeader e N n h (n + length G) (sumOf h G) (S .groups + 1)
+    head = append-head Y N d e n h (S .groups) G t
 
     abbrev stands : logD geo e n ≡ logD geo d n
-    stands = append-log Y N d e n h G t
+    stands = append-log Y N d e n h (S .groups) G t
 
     -- the log found is the log written: G is laid over S
-    pub append-found : allData geo N G ≡ true → logD geo e (n + length G) ≡ logD geo d n ++ G → WholeCard Y N e (logD geo d n ++ G) (overlay G S) (n + length G)
+    pub append-found : allData geo N G ≡ true → logD geo e (n + length G) ≡ logD geo d n ++ G → WholeCard Y N e (logD geo d n ++ G) (layOver G S) (n + length G)
     append-found m q = record {
       p = n;
       ps = h;
@@ -181,7 +193,7 @@ module _ (geo : Geometry) where
       same = sym q;
       disk = λ a x y.
           rw q
-          (overlay-agree G S (overlay (logD geo d n) d) a (r .disk a x (sub a y))
+          (overlay-agree G (S .disk) (overlay (logD geo d n) d) a (r .disk a x (sub a y))
           ∙ overlay-agree G (overlay (logD geo d n) d) (overlay (logD geo d n) e) a (sym (overlay-agree (logD geo d n) e d a (t .homes a x y)))
           ∙ ap (λ (f : Disk). f a) (sym (overlay-append (logD geo d n) G e)));
     }
@@ -211,7 +223,7 @@ module _ (geo : Geometry) where
             let q : sumOf start (logD geo e (n + length G)) ≡ sumOf h G = borrow.Author.Tests.eqb-true _ _ (parts .0) in
             record {
               w = logD geo e (n + length G);
-              S = overlay (logD geo e (n + length G)) e;
+              S = record { disk = overlay (logD geo e (n + length G)) e; groups = S .groups + 1 };
               n = n + length G;
               F = false;
               size = length-upTo (slotE geo e) (n + length G) ∙ sym (append-size d n G);
@@ -220,19 +232,21 @@ module _ (geo : Geometry) where
             }
         go false b = record { w = logD geo d n ++ G; S = S; n = n; F = true; size = refl; total = refl; card = append-bad z b }
 
-  -- ---- a checkpoint: an empty log's header over home blocks that are S
+  -- ---- a checkpoint: an empty log's header over home blocks that are S, with the save number that belongs to S
 
-  pub emptied : (X : ℕ → Type 0) (N : ℕ) (e : Disk) (S : Disk) → e headerAt ≡ encode (emptyHeader N) → ((a : ℕ) → isData geo N a ≡ true → X a → S a ≡ e a) → WholeCard X N e [] S 0
+  pub emptied : (X : ℕ → Type 0) (N : ℕ) (e : Disk) (S : Laid) → S .groups < 2 ^ 64 → e headerAt ≡ encode (emptyHeader N (S .groups)) → ((a : ℕ) → isData geo N a ≡ true → X a → S .disk a ≡ e a) → WholeCard X N e [] S 0
   unfolding overlay allData
-  emptied X N e S h s = record {
+  emptied X N e S small h s = record {
     p = 0;
     ps = start;
     head = record {
-      block = h ∙ ap (λ (x : ℕ). encode (header N 0 start 0 x)) (sym (sumOf-nil start));
+      block = h ∙ ap (λ (x : ℕ). encode (header N 0 start 0 x (S .groups))) (sym (sumOf-nil start));
       ordered = omega arith;
       most = omega arith;
       presum = lib.Dec.lit< tt;
       sum = sum-lt [];
+      save = small;
+      numbered = λ z. (refl, sym (sumOf-nil start));
     };
     all = refl;
     same = refl;
@@ -241,8 +255,8 @@ module _ (geo : Geometry) where
 
   -- ---- a fallback's header
 
-  pub fallen : (X Y : ℕ → Type 0) (N : ℕ) (d e : Disk) (w : List Entry) (S : Disk) (n : ℕ)
-      → e headerAt ≡ encode (header N n (sumOf start (logD geo d n)) n (sumOf start (logD geo d n)))
+  pub fallen : (X Y : ℕ → Type 0) (N : ℕ) (d e : Disk) (w : List Entry) (S : Laid) (n : ℕ)
+      → e headerAt ≡ encode (header N n (sumOf start (logD geo d n)) n (sumOf start (logD geo d n)) (S .groups))
       → ((a : ℕ) → a < firstData geo → a ≢ headerAt → e a ≡ d a) → ((a : ℕ) → isData geo N a ≡ true → Y a → X a × (e a ≡ d a)) → FallCard X N d w S n → WholeCard Y N e (logD geo d n) S n
   fallen X Y N d e w S n h low homes r =
       let m : n ≤ geo .slots = omega (arith, r .head .ordered, r .head .most) in
@@ -255,11 +269,13 @@ module _ (geo : Geometry) where
         p = n;
         ps = sumOf start (logD geo d n);
         head = record {
-          block = h ∙ ap (λ (x : List Entry). encode (header N n (sumOf start (logD geo d n)) n (sumOf start x))) (sym l);
+          block = h ∙ ap (λ (x : List Entry). encode (header N n (sumOf start (logD geo d n)) n (sumOf start x) (S .groups))) (sym l);
           ordered = omega arith;
           most = m;
           presum = sum-lt (logD geo d n);
           sum = sum-lt (logD geo e n);
+          save = let next : S .groups + 1 < 2 ^ 64 = r .head .save in omega arith;
+          numbered = λ z. (refl, ap (sumOf start) (sym l));
         };
         all = rw l (r .all);
         same = sym l;

@@ -18,6 +18,7 @@ use Rattle.journal.specs.Geometry.{Geometry}
 use Rattle.journal.specs.Layout.{headerAt, describedIn, describedAt, slotAt, firstData, isData}
 use Rattle.journal.specs.Log.{allData}
 use Rattle.journal.proofs.Logs.{allData-all}
+use Rattle.crash.specs.Laid.{Laid}
 use Rattle.crash.proofs.Logs.{logD, LogStands, same-log, same-agree, data-above, data-below}
 use Rattle.crash.proofs.Cards.{WholeCard, whole-frame}
 
@@ -121,5 +122,5 @@ module _ (geo : Geometry) where
             (allData-all geo N (logD geo d n) good))))
 
   -- the card is whole as before, as far as q₀ writes nothing
-  pub whole-stands : (X Y : ℕ → Type 0) (N : ℕ) (q₀ : List Entry) (d e : Disk) (w : List Entry) (S : Disk) (n : ℕ) → Spared X q₀ Y → Stands N n q₀ d e → WholeCard geo X N d w S n → WholeCard geo Y N e w S n
+  pub whole-stands : (X Y : ℕ → Type 0) (N : ℕ) (q₀ : List Entry) (d e : Disk) (w : List Entry) (S : Laid) (n : ℕ) → Spared X q₀ Y → Stands N n q₀ d e → WholeCard geo X N d w S n → WholeCard geo Y N e w S n
   whole-stands X Y N q₀ d e w S n f s r = whole-frame geo X Y N d e w S n (s .head) (same-log geo n e d (s .log)) (λ a h y. (f a y .0, s .homes a h (f a y .1))) r

@@ -33,6 +33,7 @@ use Rattle.journal.proofs.Headers.{decode-encode}
 use Rattle.journal.proofs.Logs.{both, length-blockAt}
 use Rattle.journal.proofs.OrderLists.{headerEntry, appendWrites}
 use Rattle.crash.specs.Found.{sameLog, collides}
+use Rattle.crash.specs.Laid.{Laid, layOver}
 use Rattle.crash.proofs.Logs.{slotE, logD, entries-disk, data-above, data-below}
 use Rattle.crash.proofs.Cards.{Every, HasHeader, WholeCard, ClosedCard, SafeCard, closed-agree, append-head, append-found, append-bad, append-safe, append-sum, Appended, emptied, fallen}
 use Rattle.crash.proofs.Frames.{Besides, Spared, Sized, KeepOff, off-low, Stands, covered-stands, whole-stands}
@@ -62,28 +63,28 @@ other-sums a b s l h = rw (s, eq-eqb _ _ l) at h
 
 module _ (geo : Geometry) where
   -- a header on the card is read as it was written
-  pub read-head : (s : List ℕ) (N p ps c ns : ℕ) → N < 2 ^ 32 → HasHeader geo (blockAt s) N p ps c ns → headerOf s ≡ header N p ps c ns
-  read-head s N p ps c ns l h =
+  pub read-head : (s : List ℕ) (N p ps c ns k : ℕ) → N < 2 ^ 32 → HasHeader geo (blockAt s) N p ps c ns k → headerOf s ≡ header N p ps c ns k
+  read-head s N p ps c ns k l h =
       ap decode (h .block)
-      ∙ decode-encode (header N p ps c ns)
-      (omega (arith, l, h .ordered, h .most, h .presum, h .sum, geo .addressed))
+      ∙ decode-encode (header N p ps c ns k)
+      (omega (arith, l, h .ordered, h .most, h .presum, h .sum, h .save, geo .addressed))
 
   -- the first n entries, by the header
   abbrev pub foundIn : List ℕ → List Entry
   foundIn s = entries geo s (headerOf s .count)
 
   -- with the data blocks X in question
-  pub record Leads (X : ℕ → Type 0) (N : ℕ) (s : List ℕ) (w : List Entry) (S : Disk) (n : ℕ) (F : Bool) : Type 0 where
+  pub record Leads (X : ℕ → Type 0) (N : ℕ) (s : List ℕ) (w : List Entry) (S : Laid) (n : ℕ) (F : Bool) : Type 0 where
     pub clean : collides (foundIn s) w ≡ false → ClosedCard geo X N (blockAt s) w S n F
     pub safe : SafeCard geo X N (blockAt s) w
 
-  pub closed-leads : (X : ℕ → Type 0) (N : ℕ) (s : List ℕ) (w : List Entry) (S : Disk) (n : ℕ) (F : Bool) → ClosedCard geo X N (blockAt s) w S n F → Leads X N s w S n F
+  pub closed-leads : (X : ℕ → Type 0) (N : ℕ) (s : List ℕ) (w : List Entry) (S : Laid) (n : ℕ) (F : Bool) → ClosedCard geo X N (blockAt s) w S n F → Leads X N s w S n F
   closed-leads X N s w S n F r = record { clean = λ h. r; safe = record { w = w; S = S; n = n; F = F; size = refl; total = refl; card = r } }
 
   -- ---- a card behind whose waiting writes q₀, none to header or log, more are given: X are the data blocks in question, and Y those
   -- of them that q₀ does not write to
 
-  pub record Behind (X Y : ℕ → Type 0) (N : ℕ) (s : List ℕ) (q₀ : List Entry) (w : List Entry) (S : Disk) (n : ℕ) (F : Bool) : Type 0 where
+  pub record Behind (X Y : ℕ → Type 0) (N : ℕ) (s : List ℕ) (q₀ : List Entry) (w : List Entry) (S : Laid) (n : ℕ) (F : Bool) : Type 0 where
     pub big : firstData geo < N
     pub small : N < 2 ^ 32
     pub size : N ≡ blocksIn s
@@ -93,11 +94,11 @@ module _ (geo : Geometry) where
     pub card : ClosedCard geo X N (blockAt s) w S n F
 
   -- nothing waits, and all blocks are in question
-  pub none-behind : {N : ℕ} {s : List ℕ} {w : List Entry} {S : Disk} {n : ℕ} {F : Bool} → firstData geo < N → N < 2 ^ 32 → N ≡ blocksIn s → ClosedCard geo Every N (blockAt s) w S n F
+  pub none-behind : {N : ℕ} {s : List ℕ} {w : List Entry} {S : Laid} {n : ℕ} {F : Bool} → firstData geo < N → N < 2 ^ 32 → N ≡ blocksIn s → ClosedCard geo Every N (blockAt s) w S n F
       → Behind Every Every N s [] w S n F
   none-behind big small size card = record { big = big; small = small; size = size; off = tt; whole = tt; spared = λ a y. (y, tt); card = card }
 
-  module _ {X Y : ℕ → Type 0} {N : ℕ} {s : List ℕ} {q₀ : List Entry} {w : List Entry} {S : Disk} {n : ℕ} {F : Bool} (b : Behind X Y N s q₀ w S n F) (t ms : List ℕ) where
+  module _ {X Y : ℕ → Type 0} {N : ℕ} {s : List ℕ} {q₀ : List Entry} {w : List Entry} {S : Laid} {n : ℕ} {F : Bool} (b : Behind X Y N s q₀ w S n F) (t ms : List ℕ) where
     -- blocks to which no write is addressed
     low-left : (q : List Entry) → Leaves N ms (q₀ ++ q) (blockAt s) (blockAt t) → (a : ℕ) → a < firstData geo → Besides q a → blockAt t a ≡ blockAt s a
     low-left q v a l o = v .untouched a (omega (arith, b .big)) (all-append (λ x. a ≢ x .address) q₀ q (off-low geo q₀ (b .off) a l) o)
@@ -130,27 +131,27 @@ module _ (geo : Geometry) where
       kept-one k = kept-header v q₀ [] (headerEntry h) refl refl tt k
 
   -- an empty log's, over home blocks that are S
-  pub empty-card : {X Y : ℕ → Type 0} {N : ℕ} {s : List ℕ} {q₀ w : List Entry} {S : Disk} {n : ℕ} (b : Behind X Y N s q₀ w S n false) (t ms : List ℕ)
-      → ((a : ℕ) → isData geo N a ≡ true → X a → S a ≡ blockAt s a) → Leaves N ms (q₀ ++ (headerEntry (emptyHeader N) ∷ [])) (blockAt s) (blockAt t) → keptAt ms (length q₀) ≡ true
+  pub empty-card : {X Y : ℕ → Type 0} {N : ℕ} {s : List ℕ} {q₀ w : List Entry} {S : Laid} {n : ℕ} (b : Behind X Y N s q₀ w S n false) (t ms : List ℕ)
+      → ((a : ℕ) → isData geo N a ≡ true → X a → S .disk a ≡ blockAt s a) → Leaves N ms (q₀ ++ (headerEntry (emptyHeader N (S .groups)) ∷ [])) (blockAt s) (blockAt t) → keptAt ms (length q₀) ≡ true
       → WholeCard geo Y N (blockAt t) [] S 0
   empty-card {Y = Y} {N = N} {S = S} b t ms homes v k =
-      emptied geo Y N (blockAt t) S (kept-one b t ms (emptyHeader N) v k)
-      (λ a q y. let stood = home-left b t ms (headerEntry (emptyHeader N) ∷ []) v a q y (not-header b t ms (emptyHeader N) a q) in homes a q (stood .0) ∙ sym (stood .1))
+      emptied geo Y N (blockAt t) S (b .card .head .save) (kept-one b t ms (emptyHeader N (S .groups)) v k)
+      (λ a q y. let stood = home-left b t ms (headerEntry (emptyHeader N (S .groups)) ∷ []) v a q y (not-header b t ms (emptyHeader N (S .groups)) a q) in homes a q (stood .0) ∙ sym (stood .1))
 
   -- a fallback's
-  abbrev pub fallHeader : ℕ → List ℕ → ℕ → Header
-  fallHeader N s n = header N n (sumOf start (logD geo (blockAt s) n)) n (sumOf start (logD geo (blockAt s) n))
+  abbrev pub fallHeader : ℕ → List ℕ → ℕ → ℕ → Header
+  fallHeader N s n k = header N n (sumOf start (logD geo (blockAt s) n)) n (sumOf start (logD geo (blockAt s) n)) k
 
-  pub fallen-card : {X Y : ℕ → Type 0} {N : ℕ} {s : List ℕ} {q₀ w : List Entry} {S : Disk} {n : ℕ} (b : Behind X Y N s q₀ w S n true) (t ms : List ℕ)
-      → Leaves N ms (q₀ ++ (headerEntry (fallHeader N s n) ∷ [])) (blockAt s) (blockAt t) → keptAt ms (length q₀) ≡ true → WholeCard geo Y N (blockAt t) (logD geo (blockAt s) n) S n
+  pub fallen-card : {X Y : ℕ → Type 0} {N : ℕ} {s : List ℕ} {q₀ w : List Entry} {S : Laid} {n : ℕ} (b : Behind X Y N s q₀ w S n true) (t ms : List ℕ)
+      → Leaves N ms (q₀ ++ (headerEntry (fallHeader N s n (S .groups)) ∷ [])) (blockAt s) (blockAt t) → keptAt ms (length q₀) ≡ true → WholeCard geo Y N (blockAt t) (logD geo (blockAt s) n) S n
   fallen-card {X = X} {Y = Y} {N = N} {s = s} {w = w} {S = S} {n = n} b t ms v k =
-      fallen geo X Y N (blockAt s) (blockAt t) w S n (kept-one b t ms (fallHeader N s n) v k)
-      (λ a l z. low-left b t ms (headerEntry (fallHeader N s n) ∷ []) v a l (z, tt))
-      (λ a q y. home-left b t ms (headerEntry (fallHeader N s n) ∷ []) v a q y (not-header b t ms (fallHeader N s n) a q)) (b .card)
+      fallen geo X Y N (blockAt s) (blockAt t) w S n (kept-one b t ms (fallHeader N s n (S .groups)) v k)
+      (λ a l z. low-left b t ms (headerEntry (fallHeader N s n (S .groups)) ∷ []) v a l (z, tt))
+      (λ a q y. home-left b t ms (headerEntry (fallHeader N s n (S .groups)) ∷ []) v a q y (not-header b t ms (fallHeader N s n (S .groups)) a q)) (b .card)
 
   -- ---- a checkpoint
 
-  module _ {X Y : ℕ → Type 0} {N : ℕ} {s : List ℕ} {q₀ w : List Entry} {S : Disk} {n : ℕ} (b : Behind X Y N s q₀ w S n false) (t ms : List ℕ) where
+  module _ {X Y : ℕ → Type 0} {N : ℕ} {s : List ℕ} {q₀ w : List Entry} {S : Laid} {n : ℕ} (b : Behind X Y N s q₀ w S n false) (t ms : List ℕ) where
     covered : (q : List Entry) → ((P : Entry → Type 0) → All P (logD geo (blockAt s) n) → All P q) → Leaves N ms (q₀ ++ q) (blockAt s) (blockAt t) → WholeCard geo Y N (blockAt t) w S n
     covered q sub v =
         whole-stands geo X Y N q₀ (blockAt s) (blockAt t) w S n (b .spared)
@@ -162,7 +163,7 @@ module _ (geo : Geometry) where
 
     -- all of them kept: the log stands, and the home blocks are S
     pub homes-done : Leaves N ms (q₀ ++ logD geo (blockAt s) n) (blockAt s) (blockAt t) → allKept ms ≡ true
-        → WholeCard geo Y N (blockAt t) w S n × ((a : ℕ) → isData geo N a ≡ true → Y a → S a ≡ blockAt t a)
+        → WholeCard geo Y N (blockAt t) w S n × ((a : ℕ) → isData geo N a ≡ true → Y a → S .disk a ≡ blockAt t a)
     homes-done v all = (
       covered (logD geo (blockAt s) n) (λ P h. h) v,
       λ a q y.
@@ -174,17 +175,18 @@ module _ (geo : Geometry) where
 
   -- ---- an append of the group G to the first n entries, whose sum is h
 
-  pub record Appending (X Y : ℕ → Type 0) (N : ℕ) (s : List ℕ) (q₀ : List Entry) (n h : ℕ) (G w : List Entry) (S : Disk) : Type 0 where
+  pub record Appending (X Y : ℕ → Type 0) (N : ℕ) (s : List ℕ) (q₀ : List Entry) (n h : ℕ) (G w : List Entry) (S : Laid) : Type 0 where
     pub behind : Behind X Y N s q₀ w S n false
     pub room : n + length G ≤ geo .slots
     pub sum : h ≡ sumOf start (logD geo (blockAt s) n)
     pub blocks : All Whole G
     pub narrow : All NarrowAddress G
     pub all-data : allData geo N G ≡ true
+    pub next : S .groups + 1 < 2 ^ 64
 
-  module _ {X Y : ℕ → Type 0} {N : ℕ} {s : List ℕ} {q₀ : List Entry} {n h : ℕ} {G w : List Entry} {S : Disk} (x : Appending X Y N s q₀ n h G w S) where
+  module _ {X Y : ℕ → Type 0} {N : ℕ} {s : List ℕ} {q₀ : List Entry} {n h : ℕ} {G w : List Entry} {S : Laid} (x : Appending X Y N s q₀ n h G w S) where
     abbrev W : List Entry
-    W = appendWrites geo N s n h G
+    W = appendWrites geo N s n h (S .groups + 1) G
 
     -- its header's place in the queue
     abbrev pub ownPlace : ℕ
@@ -202,21 +204,22 @@ module _ (geo : Geometry) where
 
       -- before its header
       pub append-front : (k : ℕ) → k ≤ length G + geo .descriptors → Leaves N ms (q₀ ++ take k W) (blockAt s) (blockAt t) → Leads Y N t w S n false
-      append-front k l v = stood (lost-stands geo N s n h G (x .room) big sized ms q₀ (x .behind .off) (blockAt t) k (rw (length-front geo N s n h G) l) v)
+      append-front k l v = stood (lost-stands geo N s n h (S .groups + 1) G (x .room) big sized ms q₀ (x .behind .off) (blockAt t) k (rw (length-front geo N s n h (S .groups + 1) G) l) v)
 
       module _ (v : Leaves N ms (q₀ ++ W) (blockAt s) (blockAt t)) where
         pub append-header-lost : keptAt ms ownPlace ≡ false → Leads Y N t w S n false
-        append-header-lost z = stood (header-lost geo N s n h G (x .room) big sized ms q₀ (x .behind .off) (blockAt t) v z)
+        append-header-lost z = stood (header-lost geo N s n h (S .groups + 1) G (x .room) big sized ms q₀ (x .behind .off) (blockAt t) v z)
 
         -- the header is on the card: what is found decides
         module _ (kept : keptAt ms ownPlace ≡ true) where
-          pub on-card : Appended geo Y N (blockAt s) (blockAt t) n h G
+          pub on-card : Appended geo Y N (blockAt s) (blockAt t) n h (S .groups) G
           on-card = record {
-            head = header-kept geo N s n h G (x .room) big sized ms q₀ (x .behind .off) (blockAt t) v kept;
-            log = log-stands geo N s n h G (x .room) big sized ms q₀ (x .behind .off) (blockAt t) v;
-            homes = λ a l y. homes-stand geo N s n h G (x .room) big sized ms q₀ (x .behind .off) (blockAt t) v a l (x .behind .spared a y .1);
+            head = header-kept geo N s n h (S .groups + 1) G (x .room) big sized ms q₀ (x .behind .off) (blockAt t) v kept;
+            log = log-stands geo N s n h (S .groups + 1) G (x .room) big sized ms q₀ (x .behind .off) (blockAt t) v;
+            homes = λ a l y. homes-stand geo N s n h (S .groups + 1) G (x .room) big sized ms q₀ (x .behind .off) (blockAt t) v a l (x .behind .spared a y .1);
             sum = x .sum;
             room = x .room;
+            next = x .next;
           }
 
           spares : (a : ℕ) → Y a → X a
@@ -225,13 +228,13 @@ module _ (geo : Geometry) where
           -- the count that the header gives
           pub found-log : foundIn t ≡ logD geo (blockAt t) (n + length G)
           found-log =
-              ap (entries geo t) (ap (λ (i : Header). i .count) (read-head t N n h (n + length G) (sumOf h G) (x .behind .small) (append-head geo Y N (blockAt s) (blockAt t) n h G on-card)))
+              ap (entries geo t) (ap (λ (i : Header). i .count) (read-head t N n h (n + length G) (sumOf h G) (S .groups + 1) (x .behind .small) (append-head geo Y N (blockAt s) (blockAt t) n h (S .groups) G on-card)))
               ∙ entries-disk geo t (n + length G)
 
           -- the log found is the log written
-          pub append-new : sameLog (foundIn t) (logD geo (blockAt s) n ++ G) ≡ true → Leads Y N t (logD geo (blockAt s) n ++ G) (overlay G S) (n + length G) false
+          pub append-new : sameLog (foundIn t) (logD geo (blockAt s) n ++ G) ≡ true → Leads Y N t (logD geo (blockAt s) n ++ G) (layOver G S) (n + length G) false
           append-new q =
-              closed-leads Y N t (logD geo (blockAt s) n ++ G) (overlay G S) (n + length G) false
+              closed-leads Y N t (logD geo (blockAt s) n ++ G) (layOver G S) (n + length G) false
               (append-found geo X Y N (blockAt s) (blockAt t) w S n h G spares (x .behind .card) on-card (x .all-data) (sym found-log ∙ same-logs (foundIn t) (logD geo (blockAt s) n ++ G) q))
 
           -- it is another list
@@ -252,20 +255,20 @@ module _ (geo : Geometry) where
               bad : collides (foundIn t) (logD geo (blockAt s) n ++ G) ≡ false → good geo N (logD geo (blockAt t) (n + length G)) (sumOf h G) ≡ false
               bad c =
                   let e : eqb (sumOf start (foundIn t)) (sumOf start (logD geo (blockAt s) n ++ G)) ≡ false = other-sums (foundIn t) (logD geo (blockAt s) n ++ G) q long-as c in
-                  rw (← found-log, ← append-sum geo Y N (blockAt s) (blockAt t) n h G on-card, e)
+                  rw (← found-log, ← append-sum geo Y N (blockAt s) (blockAt t) n h (S .groups) G on-card, e)
 
         -- every write is kept
         module _ (all : allKept ms ≡ true) where
           pub kept-top : keptAt ms ownPlace ≡ true
           kept-top =
-              let e : length W ≡ length G + geo .descriptors + 1 = length-append-writes geo N s n h G in
+              let e : length W ≡ length G + geo .descriptors + 1 = length-append-writes geo N s n h (S .groups + 1) G in
               let m : length (q₀ ++ W) ≡ length q₀ + length W = length-append q₀ W in
               all-kept-at ms (length (q₀ ++ W)) ownPlace (v .fits) (omega arith) all
 
           found : logD geo (blockAt t) (n + length G) ≡ logD geo (blockAt s) n ++ G
-          found = found-written geo N s n h G (x .room) big sized (x .narrow) ms q₀ (x .behind .off) (blockAt t) v all
+          found = found-written geo N s n h (S .groups + 1) G (x .room) big sized (x .narrow) ms q₀ (x .behind .off) (blockAt t) v all
 
-          pub append-all : WholeCard geo Y N (blockAt t) (logD geo (blockAt s) n ++ G) (overlay G S) (n + length G)
+          pub append-all : WholeCard geo Y N (blockAt t) (logD geo (blockAt s) n ++ G) (layOver G S) (n + length G)
           append-all = append-found geo X Y N (blockAt s) (blockAt t) w S n h G (spares kept-top) (x .behind .card) (on-card kept-top) (x .all-data) found
 
           -- so a cut that kept every write finds the log written

@@ -24,12 +24,12 @@ use Rattle.firmware.specs.Face.{recordBytes, encodeRecord, decodeRecord,
 -- "another length is 1"
 pub faced-length : (call : State → Outcome) (r s w k : List ℕ) → length r ≢ recordBytes → faceOf 1 0 r s w k ≡ faced call r s w k
 unfolding faced
-faced-length call r s w k h = rw (ne-eqb (length r) 36 h)
+faced-length call r s w k h = rw (ne-eqb (length r) recordBytes h)
 
 -- a right length: the store's outcome
 pub faced-outcome : (call : State → Outcome) (r s w k : List ℕ) → length r ≡ recordBytes → handed (call (stateOf (decodeRecord r) s w k)) ≡ faced call r s w k
 unfolding faced
-faced-outcome call r s w k h = rw (eq-eqb (length r) 36 h)
+faced-outcome call r s w k h = rw (eq-eqb (length r) recordBytes h)
 
 -- decoded to d, left as q, encoded to r′
 pub faced-done : (call : State → Outcome) (r s w k r′ s′ w′ k′ : List ℕ) (n o : ℕ) (d q : Record)
@@ -47,11 +47,11 @@ module _ (geo : Geometry) where
   -- likewise get
   pub got-length : (a : ℕ) (r s w k : List ℕ) → length r ≢ recordBytes → gotOf 1 0 0 ≡ got geo a r s w k
   unfolding got
-  got-length a r s w k h = rw (ne-eqb (length r) 36 h)
+  got-length a r s w k h = rw (ne-eqb (length r) recordBytes h)
 
   pub got-place : (a : ℕ) (r s w k : List ℕ) → length r ≡ recordBytes → gotIn geo a (stateOf (decodeRecord r) s w k) ≡ got geo a r s w k
   unfolding got
-  got-place a r s w k h = rw (eq-eqb (length r) 36 h)
+  got-place a r s w k h = rw (eq-eqb (length r) recordBytes h)
 
   pub got-done : (a : ℕ) (r s w k : List ℕ) (n b o : ℕ) (d : Record) (p : Place)
       → length r ≡ recordBytes

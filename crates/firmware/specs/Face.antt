@@ -1,5 +1,5 @@
 -- "The firmware is C: it passes the record as 36 lent bytes (seven 4-byte numbers in the order above, then the sum); another
--- length is 1."
+-- length is 1." W-201: the save number "as 8 further bytes of the C face".
 use Prim.Native.Nat.{ℕ}
 use mathlib.Core.Bool.{cond}
 use mathlib.Core.List.{List, [], _∷_}
@@ -18,12 +18,12 @@ use Rattle.inspect.specs.declared.answer.Tally.{Tally}
 use Rattle.inspect.specs.Alike.{alikeOf}
 use Rattle.journal.specs.Geometry.{Geometry}
 
--- "36 lent bytes"
+-- "36 lent bytes" and "8 further bytes"
 abbrev pub recordBytes : ℕ
-recordBytes = 36
+recordBytes = 44
 
 -- "seven 4-byte numbers in the order above, then the sum", the order being "mode (0 closed, 1 open, 2 down), N, open count, group
--- count, log count n, waiting count, power count, the log's sum"
+-- count, log count n, waiting count, power count, the log's sum"; W-201: then the save number
 abbrev pub recordFields : List (Field Record)
 recordFields =
     (4, λ r. r .mode)
@@ -34,6 +34,7 @@ recordFields =
     ∷ (4, λ r. r .waiting)
     ∷ (4, λ r. r .power)
     ∷ (8, λ r. r .sum)
+    ∷ (8, λ r. r .save)
     ∷ []
 
 -- the record of these numbers, in that order
@@ -47,6 +48,7 @@ recordOfValues v = record {
   waiting = getD v 5 0;
   power = getD v 6 0;
   sum = getD v 7 0;
+  save = getD v 8 0;
 }
 
 unfoldable pub encodeRecord : Record → List ℕ

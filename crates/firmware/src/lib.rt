@@ -1,4 +1,4 @@
-// The store for C: the record as 36 lent bytes, a number for each call. include/trapcard.h declares these functions.
+// The store for C: the record as 44 lent bytes, a number for each call. include/trapcard.h declares these functions.
 pub mod calls;
 pub mod orders;
 pub mod reads;

@@ -9,7 +9,7 @@ ghost use lib.ListN.{length};
 ghost use Rattle.firmware.specs.Face.{recordBytes, decodeRecord, encodeRecord};
 
 // Its length, and the number of another one.
-pub(crate) const RECORD: usize = 36;
+pub(crate) const RECORD: usize = 44;
 
 pub(crate) const SIZE: u32 = 1;
 
@@ -27,6 +27,7 @@ pub(crate) fn decode(bytes: &[u8]) -> Record
         waiting: read_u32(bytes, 20),
         power: read_u32(bytes, 24),
         sum: read_u64(bytes, 28),
+        save: read_u64(bytes, 36),
     }
 }
 
@@ -43,4 +44,5 @@ pub(crate) fn encode(bytes: &mut [u8], r: Record)
     write_u32(bytes, 20, r.waiting);
     write_u32(bytes, 24, r.power);
     write_u64(bytes, 28, r.sum);
+    write_u64(bytes, 36, r.save);
 }

@@ -1,15 +1,17 @@
 -- "The plain disk": a machine of its own, from its own section of document 01. Of the store it shares entries, the overlay, the
--- numbers of the causes, the data-block test, the names of the calls, and those of a cut's marks.
+-- numbers of the causes, the data-block test, the largest save number, the names of the calls, and those of a cut's marks.
 use Prim.Native.Nat.{ℕ, _+_, _-_}
 use mathlib.Core.Bool.{Bool, true, false, cond, not, _&&_, _||_}
 use mathlib.Core.List.{List, [], _∷_}
 use lib.Dec.{eqb, leb, ltb}
 use lib.ListN.{length, replicate}
 use Rattle.cells.specs.Entry.{blockBytes, Entry}
-use Rattle.card.specs.Disk.{Disk, overlay}
+use Rattle.card.specs.Disk.{overlay}
 use Rattle.card.specs.Marks.{marksFit, keptAt}
 use Rattle.journal.specs.Geometry.{Geometry}
 use Rattle.journal.specs.Layout.{isData}
+use Rattle.journal.specs.Header.{mostSave}
+use Rattle.crash.specs.Laid.{Laid, layOver}
 use Rattle.store.specs.Local as Local
 use Rattle.store.specs.Local.{Local}
 use Rattle.store.specs.Save as Save
@@ -24,10 +26,10 @@ pub data Short : Type 0 where
   ofRecover : ℕ → Short
 
 -- "State: S (the data blocks), lists G (group) and T (open) of entries, n, mode, power, the number of waiting writes, the call cut
--- short and its orders, and F (1 if the header needs a fallback)."
+-- short and its orders, and F (1 if the header needs a fallback)." W-201: with S, how many nonempty groups were laid into it
 pub record Plain : Type 0 where
   pub N : ℕ
-  pub S : Disk
+  pub S : Laid
   pub G : List Entry
   pub T : List Entry
   pub n : ℕ
@@ -39,7 +41,7 @@ pub record Plain : Type 0 where
 
 -- ---- one field set, or two that go together, the others as they are
 
-abbrev pub withS : Disk → Plain → Plain
+abbrev pub withS : Laid → Plain → Plain
 withS S d = record { N = d .N; S = S; G = d .G; T = d .T; n = d .n; mode = d .mode; power = d .power; waiting = d .waiting; short = d .short; F = d .F }
 
 abbrev pub withLists : List Entry → List Entry → Plain → Plain
@@ -63,9 +65,12 @@ withShort short d = record { N = d .N; S = d .S; G = d .G; T = d .T; n = d .n; m
 abbrev pub withF : Bool → Plain → Plain
 withF F d = record { N = d .N; S = d .S; G = d .G; T = d .T; n = d .n; mode = d .mode; power = d .power; waiting = d .waiting; short = d .short; F = F }
 
--- "Format makes S zero, lists empty, n and F 0." Mode open, power 1,000,000
+-- "Format makes S zero, lists empty, n and F 0." Mode open, power 1,000,000; no group was laid
+abbrev pub blank : Laid
+blank = record { disk = λ a. replicate blockBytes 0; groups = 0 }
+
 abbrev pub blankPlain : ℕ → Plain
-blankPlain N = record { N = N; S = λ a. replicate blockBytes 0; G = []; T = []; n = 0; mode = 1; power = 1000000; waiting = 0; short = none; F = false }
+blankPlain N = record { N = N; S = blank; G = []; T = []; n = 0; mode = 1; power = 1000000; waiting = 0; short = none; F = false }
 
 unfoldable pub fresh : ℕ → Plain
 fresh N = blankPlain N
@@ -93,6 +98,10 @@ merge (e ∷ es) g = merge es (insert e g)
 abbrev pub whenOpen : Plain → ℕ → ℕ
 whenOpen d rest = cond (eqb (d .mode) 0) 3 (cond (eqb (d .mode) 2) 4 rest)
 
+-- W-201: 12, "when a nonempty sync meets the largest save number"
+abbrev pub lastSave : Plain → Bool
+lastSave d = not (eqb (length (d .G)) 0) && eqb (d .S .groups) mostSave
+
 module _ (geo : Geometry) where
   unfoldable pub refusal : Call → Plain → ℕ
   refusal (local (Local.power k)) d = 0
@@ -102,7 +111,7 @@ module _ (geo : Geometry) where
   refusal (local (Local.get a)) d = whenOpen d (cond (not (isData geo (d .N) a)) 6 0)
   refusal (local Local.commit) d = whenOpen d (cond (ltb (geo .slots) (length (merge (d .T) (d .G)))) 7 0)
   refusal (local Local.abandon) d = whenOpen d 0
-  refusal (save Save.sync) d = whenOpen d 0
+  refusal (save Save.sync) d = whenOpen d (cond (lastSave d) 12 0)
   refusal (save Save.apply) d = whenOpen d 0
   refusal (save Save.recover) d = cond (eqb (d .mode) 2) 4 (cond (eqb (d .mode) 1) 5 0)
   refusal (cut ms) d = cond (not (marksFit ms (d .waiting))) 10 0
@@ -187,10 +196,10 @@ abbrev pub cutShort : Short → ℕ → Plain → Done
 cutShort short waits d = record { answer = 4; orders = d .power; plain = inMode 2 (withPower 0 (withWaiting waits (withShort short d))) }
 
 module _ (geo : Geometry) where
-  -- "sync puts G over S, empties G and adds m to n, after n = 0 if it applied"
+  -- "sync puts G over S, empties G and adds m to n, after n = 0 if it applied"; one group more is laid
   abbrev pub synced : Plain → Plain
   synced d =
-      withS (overlay (d .G) (d .S))
+      withS (layOver (d .G) (d .S))
       (withLists [] (d .T)
       (withCount (cond (applies geo (d .n) (length (d .G))) 0 (d .n) + length (d .G))
       (spent (syncTakes geo (d .n) (length (d .G))) d)))
@@ -226,7 +235,7 @@ unfoldable pub headerKept : List ℕ → ℕ → Bool
 headerKept ms waiting = keptAt ms (waiting - 1)
 
 -- "A cut empties G and T, and chooses" S, n and F; the queue is emptied, the record closed, no call cut short since
-abbrev pub closedWith : Disk → ℕ → Bool → Plain → Plain
+abbrev pub closedWith : Laid → ℕ → Bool → Plain → Plain
 closedWith S n F d = withS S (withLists [] [] (withCount n (withF F (inMode 0 (withWaiting 0 (withShort none d))))))
 
 module _ (geo : Geometry) where
@@ -234,7 +243,7 @@ module _ (geo : Geometry) where
   unfoldable pub plainCut : List ℕ → Bool → Plain → Done
   plainCut ms found d =
       let v = verdict geo (d .short) (d .n) (length (d .G)) (d .F) (headerKept ms (d .waiting)) found in
-      still (closedWith (cond (v .laid) (overlay (d .G) (d .S)) (d .S)) (v .n) (v .F) d)
+      still (closedWith (cond (v .laid) (layOver (d .G) (d .S)) (d .S)) (v .n) (v .F) d)
 
 -- a local call: "put, commit, abandon, get […] are as above"
 abbrev pub locally : Local → Plain → Plain
@@ -262,4 +271,4 @@ module _ (geo : Geometry) where
 
 -- "get reading T, then G, then S"
 unfoldable pub plainGet : ℕ → Plain → List ℕ
-plainGet a d = overlay (d .T) (overlay (d .G) (d .S)) a
+plainGet a d = overlay (d .T) (overlay (d .G) (d .S .disk)) a

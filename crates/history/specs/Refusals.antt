@@ -34,8 +34,8 @@ use Rattle.history.specs.Scripts.{ByCall}
 module _ (geo : Geometry) where
   -- the orders of a save
   abbrev pub saveOrders : Save → State → List Order
-  saveOrders Save.sync st = syncOrders geo (st .rec .blocks) (st .settled) (st .rec .logged) (st .rec .sum) (groupOf geo st)
-  saveOrders Save.apply st = applyOrders geo (st .rec .blocks) (st .settled) (st .rec .logged)
+  saveOrders Save.sync st = syncOrders geo (st .rec .blocks) (st .settled) (st .rec .logged) (st .rec .sum) (st .rec .save) (groupOf geo st)
+  saveOrders Save.apply st = applyOrders geo (st .rec .blocks) (st .settled) (st .rec .logged) (st .rec .save)
   saveOrders Save.recover st = recoverOrders (st .rec .blocks) (choose geo (st .rec .blocks) (st .settled))
 
   -- the orders of a call
@@ -57,7 +57,8 @@ module _ (geo : Geometry) where
   innerDone st = applies geo st && leb (st .rec .logged + 3) (st .rec .power)
 
   -- "power gone in the call": 4, the power there was as orders. "the record is down, its n and sum as before the call, or as a sync's
-  -- apply left them if all that apply's orders happened"; N stays, and the power is gone. The card is what the orders carried out made of
+  -- apply left them if all that apply's orders happened"; N stays, the save number too ("a call cut short leaves it"), and the power is
+  -- gone. The card is what the orders carried out made of
   -- it. Left are "group, open, and each block no order touched", of these: with no power every lent byte, and the record but for its mode
   pub record Gone (q : Request.Request) (st : State) : Type 0 where
     pub answer : called geo q st .answer ≡ 4
@@ -67,6 +68,7 @@ module _ (geo : Geometry) where
     pub emptied : q ≡ Request.sync → innerDone st ≡ true → (called geo q st .state .rec .logged ≡ 0) × (called geo q st .state .rec .sum ≡ start)
     pub kept : (q ≡ Request.sync → innerDone st ≡ false)
         → (called geo q st .state .rec .logged ≡ st .rec .logged) × (called geo q st .state .rec .sum ≡ st .rec .sum)
+    pub save : called geo q st .state .rec .save ≡ st .rec .save
     pub power : called geo q st .state .rec .power ≡ 0
     pub work : called geo q st .state .work ≡ st .work
     pub open-count : called geo q st .state .rec .opened ≡ st .rec .opened

@@ -3,7 +3,7 @@
 use Prim.Native.Nat.{ℕ, _+_, _≤_}
 use mathlib.Core.Path.{_≡_}
 use mathlib.Core.Logic.{_≢_, _⊎_}
-use mathlib.Core.Bool.{Bool, true, false, cond, not, _&&_}
+use mathlib.Core.Bool.{Bool, true, false, cond, not, _&&_, _||_}
 use mathlib.Core.List.{List, [], _∷_, _++_}
 use lib.Dec.{eqb}
 use lib.ListN.{length, take}
@@ -44,7 +44,8 @@ module _ (geo : Geometry) where
 
   -- ---- Refinement (demand 2)
 
-  -- "At each call of a list the store gives the plain disk's answer, orders handed back […], block from a get and, when open, n"
+  -- "At each call of a list the store gives the plain disk's answer, orders handed back […], block from a get and, when open, n". W-201:
+  -- when open, the record's save number is the number of nonempty groups laid into S
   pub record Agrees (c : Call) (w : World) : Type 0 where
     pub answer : dispatch geo c (w .store) .answer ≡ plainStep geo c (foundWritten geo c w) (w .plain) .answer
     pub orders : dispatch geo c (w .store) .orders ≡ plainStep geo c (foundWritten geo c w) (w .plain) .orders
@@ -53,6 +54,7 @@ module _ (geo : Geometry) where
     pub power : storeNext geo c w .rec .power ≡ plainStep geo c (foundWritten geo c w) (w .plain) .plain .power
     pub waiting : storeNext geo c w .rec .waiting ≡ plainStep geo c (foundWritten geo c w) (w .plain) .plain .waiting
     pub n : storeNext geo c w .rec .mode ≡ openMode → storeNext geo c w .rec .logged ≡ plainStep geo c (foundWritten geo c w) (w .plain) .plain .n
+    pub save : storeNext geo c w .rec .mode ≡ openMode → storeNext geo c w .rec .save ≡ plainStep geo c (foundWritten geo c w) (w .plain) .plain .S .groups
 
   -- "the exception of demand 3 apart": at every call with no exception at a cut before it
   abbrev pub Refinement : Type 0
@@ -95,10 +97,11 @@ module _ (geo : Geometry) where
       → Summed (next geo (cut ms) (after geo cs (begun geo st)))
 
   -- what a finished sync of a nonempty group leaves on the card is the checksummed log: block 0 is the encoding of p and its sum, n and its
-  -- sum, zeros included, and the entries are the log before it (empty after an inner apply), then the group
+  -- sum, and one more than the record's save number, zeros included, and the entries are the log before it (empty after an inner apply),
+  -- then the group
   pub record Logged (s t : State) : Type 0 where
     pub head : blockAt (t .settled) headerAt
-        ≡ encode (header (s .rec .blocks) (length (standing geo s)) (sumOf start (standing geo s)) (length (standing geo s ++ groupOf geo s)) (sumOf start (standing geo s ++ groupOf geo s)))
+        ≡ encode (header (s .rec .blocks) (length (standing geo s)) (sumOf start (standing geo s)) (length (standing geo s ++ groupOf geo s)) (sumOf start (standing geo s ++ groupOf geo s)) (s .rec .save + 1))
     pub list : entries geo (t .settled) (length (standing geo s ++ groupOf geo s)) ≡ standing geo s ++ groupOf geo s
 
   abbrev pub Written : Type 0
@@ -174,6 +177,35 @@ module _ (geo : Geometry) where
   fate [] w f = f
   fate (c ∷ cs) w f = fate cs (next geo c w) (observe c w f)
 
+-- ---- the groups laid, counted along a list
+
+-- a sync cut short that is not decided yet is watched on, and a decided one no longer
+abbrev pub stillOpen : Progress → Progress
+stillOpen (known f) = known quiet
+stillOpen (undecided G place made) = undecided G place made
+
+-- decided, and new
+abbrev pub madeNew : Progress → Bool
+madeNew (known quiet) = false
+madeNew (known (decided G laid all)) = laid
+madeNew (undecided G place made) = false
+
+module _ (geo : Geometry) where
+  -- a finished sync of a nonempty group
+  unfoldable pub saved : Call → World → Bool
+  saved (local c) w = false
+  saved (save Save.sync) w = finished geo sync w && not (eqb (w .store .rec .grouped) 0)
+  saved (save Save.apply) w = false
+  saved (save Save.recover) w = false
+  saved (cut ms) w = false
+
+  -- from the calls: every finished sync of a nonempty group, and every sync cut short that its next accepted cut made new
+  unfoldable pub groupsLaid : List Call → World → Progress → ℕ
+  groupsLaid [] w f = 0
+  groupsLaid (c ∷ cs) w f =
+      let g = observe geo c w (stillOpen f) in
+      cond (saved c w || madeNew g) 1 0 + groupsLaid cs (next geo c w) g
+
 -- old, or new: old with the group over it
 abbrev pub outcome : Fate → Disk → Disk
 outcome quiet old = old
@@ -191,7 +223,8 @@ module _ (geo : Geometry) where
 
   -- A recover behind the list cs. The list is a, then b: a is empty or ends in a finished sync or recovery, and b holds none. b holds at
   -- most one sync cut short, and what became of it is known. The disk found is old, the plain disk's S after a, or new, old with that
-  -- sync's group over it: new exactly if the next accepted cut kept that sync's own header and the log found there is the log written
+  -- sync's group over it: new exactly if the next accepted cut kept that sync's own header and the log found there is the log written.
+  -- W-201: the save number found is the number of nonempty groups laid along all of cs
   pub record Atomic (st : State) (cs : List Call) : Type 0 where
     pub a : List Call
     pub b : List Call
@@ -201,8 +234,9 @@ module _ (geo : Geometry) where
     pub one : countShort geo b (after geo a (begun geo st)) ≤ 1
     pub end : Fate
     pub fated : fate geo b (after geo a (begun geo st)) (known quiet) ≡ known end
-    pub found : FoundIs (blocksIn (st .settled)) (storeNext geo recover (after geo cs (begun geo st))) (outcome end (after geo a (begun geo st) .plain .S))
+    pub found : FoundIs (blocksIn (st .settled)) (storeNext geo recover (after geo cs (begun geo st))) (outcome end (after geo a (begun geo st) .plain .S .disk))
     pub whole : WholeIsNew end
+    pub number : storeNext geo recover (after geo cs (begun geo st)) .rec .save ≡ groupsLaid geo cs (begun geo st) (known quiet)
 
   -- At every place of every list at which a recover answers 0 with no exception at a cut before it; cs is the list before that place,
   -- and what follows plays no part

@@ -58,8 +58,8 @@ pub(crate) fn inspect(settled: &[u8]) -> Reading
     }
     let blocks = blocks_in(settled) as u32;
     match choose(settled, blocks) {
-        Choice::Whole(n, _) => accepted(blocks, n),
-        Choice::Fallback(n, _) => accepted(blocks, n),
+        Choice::Whole(n, _, _) => accepted(blocks, n),
+        Choice::Fallback(n, _, _) => accepted(blocks, n),
         Choice::Foreign => refused(8),
         Choice::Neither => refused(9),
     }

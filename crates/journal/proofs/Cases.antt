@@ -31,8 +31,8 @@ claim : (c : Case) → T (right c) → Claim c
 unfolding step
 claim (emptySum v) t = sum-nil ∙ eqb→eq start v t
 claim (sumStep h b v) t = eqb→eq (bitXor h b * prime % 2 ^ 64) v t
-claim (syncTakes n m v) t = λ N h s es e. length-sync trap N s n h es ∙ ap (syncCount trap n) e ∙ eqb→eq (syncCount trap n m) v t
-claim (applyTakes n v) t = λ N s. length-apply trap N s n ∙ eqb→eq (applyCount n) v t
+claim (syncTakes n m v) t = λ N h c s es e. length-sync trap N s n h c es ∙ ap (syncCount trap n) e ∙ eqb→eq (syncCount trap n m) v t
+claim (applyTakes n v) t = λ N c s. length-apply trap N s n c ∙ eqb→eq (applyCount n) v t
 claim (slotStarts i v) t = eqb→eq (placeOf (slotAt trap i)) v t
 claim (blockStarts a v) t = eqb→eq (placeOf a) v t
 claim (addressIs N a v) t = same (isData trap N a) v t

@@ -1,18 +1,20 @@
 -- The laws of the choice of recovery.
-use Prim.Native.Nat.{ℕ, _≤_}
-use mathlib.Core.Path.{_≡_, refl, sym}
-use mathlib.Core.Bool.{Bool, true, false, cond, not}
+use Prim.Native.Nat.{ℕ, _-_, _≤_}
+use mathlib.Core.Path.{_≡_, refl, ap, ap₂, sym, _∙_}
+use mathlib.Core.Logic.{_≢_}
+use mathlib.Core.Bool.{Bool, true, false, true≢false, cond, not, _&&_}
 use mathlib.Core.List.{List}
 use native.Mathlib.Omega.{arith}
-use borrow.Author.Tests.{le-ltb, lt-ltb, eqb-true, leb-true, leb-false, not-false}
-use lib.Dec.{leb, ltb}
+use borrow.Author.Tests.{le-ltb, lt-ltb, eq-eqb, eqb-true, leb-true, leb-false, not-false}
+use lib.Dec.{eqb, leb, ltb}
 use Rattle.journal.specs.Geometry.{Geometry}
 use Rattle.journal.specs.declared.header.Header.{Header}
 use Rattle.journal.specs.declared.choice.Choice.the-variants.{Whole, Fallback, Foreign, Neither}
 use Rattle.journal.specs.Header.{formatNumber}
 use Rattle.journal.specs.Log.{headerOf, entries, good}
-use Rattle.journal.specs.Choice.{foreign, choose, takenCount}
+use Rattle.journal.specs.Choice.{unnumbered, foreign, choose, takenCount}
 pub use Rattle.journal.proofs.Logs.{both}
+use Rattle.journal.proofs.Logs.{neither}
 
 -- ---- tests
 
@@ -32,10 +34,12 @@ module _ (geo : Geometry) where
     pub blocks : h .blocks ≡ N
     pub count : h .count ≤ geo .slots
     pub previous : h .previous ≤ h .count
+    pub numbered : unnumbered h ≡ false
 
   pub ours : (N : ℕ) (h : Header) → foreign geo N h ≡ false → Ours N h
   ours N h e =
-      let p = both _ _ (not-false _ e) in
+      let n = neither _ _ e in
+      let p = both _ _ (not-false _ (n .0)) in
       let q = both _ _ (p .0) in
       let r = both _ _ (q .0) in
       record {
@@ -43,7 +47,23 @@ module _ (geo : Geometry) where
         blocks = eqb-true _ _ (r .1);
         count = leb-true _ _ (q .1);
         previous = leb-true _ _ (p .1);
+        numbered = n .1;
       }
+
+-- save number 0: counts and sums are alike
+pub alike-zero : (h : Header) → unnumbered h ≡ false → h .save ≡ 0 → (h .previous ≡ h .count) × (h .presum ≡ h .sum)
+alike-zero h e z =
+    let same : not (eqb (h .previous) (h .count) && eqb (h .presum) (h .sum)) ≡ false = ap (λ (t : Bool). t && not (eqb (h .previous) (h .count) && eqb (h .presum) (h .sum))) (sym (eq-eqb _ _ z)) ∙ e in
+    let p = both _ _ (not-false _ same) in
+    (eqb-true _ _ (p .0), eqb-true _ _ (p .1))
+
+module _ (geo : Geometry) where
+  -- a fallback never meets save number 0, on any card whatever: with it both lists and both sums would be the same
+  pub fallback-numbered : (N : ℕ) (s : List ℕ) (h : Header) → foreign geo N h ≡ false → good geo N (entries geo s (h .count)) (h .sum) ≡ false → good geo N (entries geo s (h .previous)) (h .presum) ≡ true
+      → h .save ≢ 0
+  fallback-numbered N s h f n p z =
+      let same = alike-zero h (ours geo N h f .numbered) z in
+      true≢false (sym p ∙ ap₂ (λ (k x : ℕ). good geo N (entries geo s k) x) (same .0) (same .1) ∙ n)
 
   -- ---- the choice, case by case
 
@@ -52,12 +72,12 @@ module _ (geo : Geometry) where
     unfolding choose
     choose-foreign f = rw (← read, f)
 
-    pub choose-whole : foreign geo N h ≡ false → good geo N (entries geo s (h .count)) (h .sum) ≡ true → choose geo N s ≡ Whole (h .count) (h .sum)
+    pub choose-whole : foreign geo N h ≡ false → good geo N (entries geo s (h .count)) (h .sum) ≡ true → choose geo N s ≡ Whole (h .count) (h .sum) (h .save)
     unfolding choose
     choose-whole f n = rw (← read, f, n)
 
     pub choose-fallback : foreign geo N h ≡ false → good geo N (entries geo s (h .count)) (h .sum) ≡ false → good geo N (entries geo s (h .previous)) (h .presum) ≡ true
-        → choose geo N s ≡ Fallback (h .previous) (h .presum)
+        → choose geo N s ≡ Fallback (h .previous) (h .presum) (h .save - 1)
     unfolding choose
     choose-fallback f n p = rw (← read, f, n, p)
 
@@ -72,8 +92,8 @@ module _ (geo : Geometry) where
   taken-count N s = go (foreign geo N (headerOf s)) refl (good geo N (entries geo s (headerOf s .count)) (headerOf s .sum)) (good geo N (entries geo s (headerOf s .previous)) (headerOf s .presum))
     where
       go : (f : Bool) → foreign geo N (headerOf s) ≡ f → (n p : Bool)
-          → takenCount (cond f Foreign (cond n (Whole (headerOf s .count) (headerOf s .sum)) (cond p (Fallback (headerOf s .previous) (headerOf s .presum)) Neither))) ≤ geo .slots
+          → takenCount (cond f Foreign (cond n (Whole (headerOf s .count) (headerOf s .sum) (headerOf s .save)) (cond p (Fallback (headerOf s .previous) (headerOf s .presum) (headerOf s .save - 1)) Neither))) ≤ geo .slots
       go true e n p = omega arith
-      go false e true p = ours N (headerOf s) e .count
-      go false e false true = let o = ours N (headerOf s) e in omega (arith, o .count, o .previous)
+      go false e true p = ours geo N (headerOf s) e .count
+      go false e false true = let o = ours geo N (headerOf s) e in omega (arith, o .count, o .previous)
       go false e false false = omega arith

@@ -100,21 +100,21 @@ one-descriptor s n es =
 
 module _ (geo : Geometry) where
   -- what an append writes before its flush
-  abbrev pub appendWrites : ℕ → List ℕ → ℕ → ℕ → List Entry → List Entry
-  appendWrites N s n h es = slotBlocks geo n es ++ (descriptors geo s n es ++ (headerEntry (header N n h (n + length es) (sumOf h es)) ∷ []))
+  abbrev pub appendWrites : ℕ → List ℕ → ℕ → ℕ → ℕ → List Entry → List Entry
+  appendWrites N s n h c es = slotBlocks geo n es ++ (descriptors geo s n es ++ (headerEntry (header N n h (n + length es) (sumOf h es) c) ∷ []))
 
-  pub append-writes : (N : ℕ) (s : List ℕ) (n h : ℕ) (es : List Entry) → appendOrders geo N s n h es ≡ map write (appendWrites N s n h es) ++ (flush ∷ [])
+  pub append-writes : (N : ℕ) (s : List ℕ) (n h c : ℕ) (es : List Entry) → appendOrders geo N s n h c es ≡ map write (appendWrites N s n h c es) ++ (flush ∷ [])
   unfolding appendOrders
-  append-writes N s n h es =
-      let top : List Entry = headerEntry (header N n h (n + length es) (sumOf h es)) ∷ [] in
+  append-writes N s n h c es =
+      let top : List Entry = headerEntry (header N n h (n + length es) (sumOf h es) c) ∷ [] in
       rw (map-append write (slotBlocks geo n es) (descriptors geo s n es ++ top), map-append write (descriptors geo s n es) top, append-assoc, append-assoc, ← slotWrites-blocks geo n es)
 
   -- in the two phases in which it is given: log blocks and descriptor, then header and flush
-  pub append-split : (N : ℕ) (s : List ℕ) (n h : ℕ) (es : List Entry)
-      → appendOrders geo N s n h es ≡ (slotWrites geo n es ++ map write (descriptors geo s n es)) ++ (headerWrite (header N n h (n + length es) (sumOf h es)) ∷ flush ∷ [])
+  pub append-split : (N : ℕ) (s : List ℕ) (n h c : ℕ) (es : List Entry)
+      → appendOrders geo N s n h c es ≡ (slotWrites geo n es ++ map write (descriptors geo s n es)) ++ (headerWrite (header N n h (n + length es) (sumOf h es) c) ∷ flush ∷ [])
   unfolding appendOrders
-  append-split N s n h es =
-      sym (append-assoc (slotWrites geo n es) (map write (descriptors geo s n es)) (headerWrite (header N n h (n + length es) (sumOf h es)) ∷ flush ∷ []))
+  append-split N s n h c es =
+      sym (append-assoc (slotWrites geo n es) (map write (descriptors geo s n es)) (headerWrite (header N n h (n + length es) (sumOf h es) c) ∷ flush ∷ []))
 
   -- what waits after log blocks and further writes below the slots
   pub list-below : (X : ℕ) (s w : List ℕ) (q : Queue) (w′ : List ℕ) (q′ : Queue) (n : ℕ) (es ds : List Entry)
@@ -130,21 +130,21 @@ module _ (geo : Geometry) where
       (all-append (λ e. e .address < X) (slotBlocks geo n es) ds (slots-below geo X n es (omega arith)) (all-map (λ d. d .address < slotAt geo 0) (λ d. d .address < X) (λ d l. omega arith) ds d-low))
       old)
 
-pub checkpoint-writes : (N : ℕ) (es : List Entry)
-    → checkpointOrders N es ≡ (map write es ++ (flush ∷ [])) ++ (map write (headerEntry (emptyHeader N) ∷ []) ++ (flush ∷ []))
+pub checkpoint-writes : (N c : ℕ) (es : List Entry)
+    → checkpointOrders N c es ≡ (map write es ++ (flush ∷ [])) ++ (map write (headerEntry (emptyHeader N c) ∷ []) ++ (flush ∷ []))
 unfolding checkpointOrders
-checkpoint-writes N es = sym (append-assoc (map write es) (flush ∷ []) (headerWrite (emptyHeader N) ∷ flush ∷ []))
+checkpoint-writes N c es = sym (append-assoc (map write es) (flush ∷ []) (headerWrite (emptyHeader N c) ∷ flush ∷ []))
 
-pub fallback-writes : (N p h : ℕ) → fallbackOrders N p h ≡ map write (headerEntry (header N p h p h) ∷ []) ++ (flush ∷ [])
+pub fallback-writes : (N p h c : ℕ) → fallbackOrders N p h c ≡ map write (headerEntry (header N p h p h c) ∷ []) ++ (flush ∷ [])
 unfolding fallbackOrders
-fallback-writes N p h = refl
+fallback-writes N p h c = refl
 
 module _ (geo : Geometry) where
   -- at n = 0 the descriptor that stands on the card plays no part
-  pub append-afresh : (N : ℕ) (s t : List ℕ) (h : ℕ) (es : List Entry) → appendOrders geo N s 0 h es ≡ appendOrders geo N t 0 h es
+  pub append-afresh : (N : ℕ) (s t : List ℕ) (h c : ℕ) (es : List Entry) → appendOrders geo N s 0 h c es ≡ appendOrders geo N t 0 h c es
   unfolding appendOrders
-  append-afresh N s t h es =
-      ap (λ (l : List Entry). slotWrites geo 0 es ++ (map write l ++ (headerWrite (header N 0 h (0 + length es) (sumOf h es)) ∷ flush ∷ [])))
+  append-afresh N s t h c es =
+      ap (λ (l : List Entry). slotWrites geo 0 es ++ (map write l ++ (headerWrite (header N 0 h (0 + length es) (sumOf h es) c) ∷ flush ∷ [])))
       (ext-upTo (descriptorEntry s 0 es) (descriptorEntry t 0 es) (geo .descriptors)
       (λ j l. entry-eq refl (describe-afresh (blockAt s (descriptorAt + j)) (blockAt t (descriptorAt + j)) (0 - perDescriptor * j) (drop (perDescriptor * j - 0) es) (omega arith))))
 
@@ -153,43 +153,43 @@ module _ (geo : Geometry) where
   pub length-slotWrites : (n : ℕ) (es : List Entry) → length (slotWrites geo n es) ≡ length es
   length-slotWrites n es = rw (slotWrites-blocks geo, length-map) (length-slotBlocks geo n es)
 
-  pub length-append-orders : (N : ℕ) (s : List ℕ) (n h : ℕ) (es : List Entry) → length (appendOrders geo N s n h es) ≡ length es + geo .descriptors + 2
+  pub length-append-orders : (N : ℕ) (s : List ℕ) (n h c : ℕ) (es : List Entry) → length (appendOrders geo N s n h c es) ≡ length es + geo .descriptors + 2
   unfolding appendOrders
-  length-append-orders N s n h es =
+  length-append-orders N s n h c es =
       rw (length-append, length-slotWrites, length-append, length-map, length-upTo (descriptorEntry s n es) (geo .descriptors)) (omega arith)
 
-pub length-checkpoint : (N : ℕ) (es : List Entry) → length (checkpointOrders N es) ≡ length es + 3
+pub length-checkpoint : (N c : ℕ) (es : List Entry) → length (checkpointOrders N c es) ≡ length es + 3
 unfolding checkpointOrders
-length-checkpoint N es = simp (length-append, length-map)
+length-checkpoint N c es = simp (length-append, length-map)
 
-pub length-fallback : (N p h : ℕ) → length (fallbackOrders N p h) ≡ 2
+pub length-fallback : (N p h c : ℕ) → length (fallbackOrders N p h c) ≡ 2
 unfolding fallbackOrders
-length-fallback N p h = refl
+length-fallback N p h c = refl
 
 -- "n = 0: done, no orders […] n+3 orders"
 abbrev pub applyCount : ℕ → ℕ
 applyCount n = cond (eqb n 0) 0 (n + 3)
 
 module _ (geo : Geometry) where
-  pub length-apply : (N : ℕ) (s : List ℕ) (n : ℕ) → length (applyOrders geo N s n) ≡ applyCount n
+  pub length-apply : (N : ℕ) (s : List ℕ) (n c : ℕ) → length (applyOrders geo N s n c) ≡ applyCount n
   unfolding applyOrders
-  length-apply N s n = go (eqb n 0)
+  length-apply N s n c = go (eqb n 0)
     where
-      go : (t : Bool) → length (cond t [] (checkpointOrders N (entries geo s n))) ≡ cond t 0 (n + 3)
+      go : (t : Bool) → length (cond t [] (checkpointOrders N c (entries geo s n))) ≡ cond t 0 (n + 3)
       go true = refl
-      go false = length-checkpoint N (entries geo s n) ∙ ap (λ (k : ℕ). k + 3) (length-upTo (slotEntry geo s) n)
+      go false = length-checkpoint N c (entries geo s n) ∙ ap (λ (k : ℕ). k + 3) (length-upTo (slotEntry geo s) n)
 
   -- "m = 0: done, no orders. If n+m > 32, apply runs first and n is then 0 […] m+3 orders"
   abbrev pub syncCount : ℕ → ℕ → ℕ
   syncCount n m = cond (eqb m 0) 0 (cond (leb (n + m) (geo .slots)) (m + geo .descriptors + 2) (n + 3 + (m + geo .descriptors + 2)))
 
-  pub length-sync : (N : ℕ) (s : List ℕ) (n h : ℕ) (es : List Entry) → length (syncOrders geo N s n h es) ≡ syncCount n (length es)
+  pub length-sync : (N : ℕ) (s : List ℕ) (n h c : ℕ) (es : List Entry) → length (syncOrders geo N s n h c es) ≡ syncCount n (length es)
   unfolding syncOrders
-  length-sync N s n h es = go (eqb (length es) 0) (leb (n + length es) (geo .slots))
+  length-sync N s n h c es = go (eqb (length es) 0) (leb (n + length es) (geo .slots))
     where
       go : (t u : Bool)
-          → length (cond t [] (cond u (appendOrders geo N s n h es) (checkpointOrders N (entries geo s n) ++ appendOrders geo N s 0 start es)))
+          → length (cond t [] (cond u (appendOrders geo N s n h (c + 1) es) (checkpointOrders N c (entries geo s n) ++ appendOrders geo N s 0 start (c + 1) es)))
           ≡ cond t 0 (cond u (length es + geo .descriptors + 2) (n + 3 + (length es + geo .descriptors + 2)))
       go true u = refl
-      go false true = length-append-orders geo N s n h es
+      go false true = length-append-orders geo N s n h (c + 1) es
       go false false = rw (length-append, length-checkpoint, length-upTo, length-append-orders geo)

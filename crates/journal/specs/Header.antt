@@ -1,5 +1,5 @@
 -- "Block 0 is the header"
-use Prim.Native.Nat.{ℕ, _-_}
+use Prim.Native.Nat.{ℕ, _-_, _^_}
 use mathlib.Core.List.{List, [], _∷_, _++_}
 use lib.ListN.{getD, replicate}
 use Rattle.cells.specs.Entry.{blockBytes}
@@ -7,11 +7,16 @@ use Rattle.cells.specs.Row.{Field, total, row, valuesFrom}
 use Rattle.fnv.specs.Fnv.{start}
 use Rattle.journal.specs.declared.header.Header.{Header}
 
+-- W-201: "The header's format number is 2; 1 is now foreign."
 abbrev pub formatNumber : ℕ
-formatNumber = 1
+formatNumber = 2
 
--- "bytes 0–3 format number 1; 4–7 N; 8–11 previous count p; 12–15 count n; 16–23 sum of the first p entries; 24–31 sum of the
--- first n"
+-- the largest save number
+abbrev pub mostSave : ℕ
+mostSave = 2 ^ 64 - 1
+
+-- "bytes 0–3 format number […]; 4–7 N; 8–11 previous count p; 12–15 count n; 16–23 sum of the first p entries; 24–31 sum of the
+-- first n"; W-201: "Header bytes 32–39 now carry a save number"
 abbrev pub headerFields : List (Field Header)
 headerFields =
     (4, λ h. h .format)
@@ -20,6 +25,7 @@ headerFields =
     ∷ (4, λ h. h .count)
     ∷ (8, λ h. h .presum)
     ∷ (8, λ h. h .sum)
+    ∷ (8, λ h. h .save)
     ∷ []
 
 -- the header of these numbers, in that order
@@ -31,19 +37,20 @@ headerOfValues v = record {
   count = getD v 3 0;
   presum = getD v 4 0;
   sum = getD v 5 0;
+  save = getD v 6 0;
 }
 
--- "32–511 written as zero, not read"
+-- behind it "written as zero, not read": from W-201 on, bytes 40–511
 unfoldable pub encode : Header → List ℕ
 encode h = row headerFields h ++ replicate (blockBytes - total headerFields) 0
 
 unfoldable pub decode : List ℕ → Header
 decode b = headerOfValues (valuesFrom headerFields 0 b)
 
--- a header of this format: N, p and its sum, n and its sum
-abbrev pub header : ℕ → ℕ → ℕ → ℕ → ℕ → Header
-header N p ps n ns = headerOfValues (formatNumber ∷ N ∷ p ∷ n ∷ ps ∷ ns ∷ [])
+-- a header of this format: N, p and its sum, n and its sum, the save number c
+abbrev pub header : ℕ → ℕ → ℕ → ℕ → ℕ → ℕ → Header
+header N p ps n ns c = headerOfValues (formatNumber ∷ N ∷ p ∷ n ∷ ps ∷ ns ∷ c ∷ [])
 
 -- the header of an empty log
-abbrev pub emptyHeader : ℕ → Header
-emptyHeader N = header N 0 start 0 start
+abbrev pub emptyHeader : ℕ → ℕ → Header
+emptyHeader N c = header N 0 start 0 start c

@@ -33,13 +33,13 @@ abbrev pub descriptorEntry : List ℕ → ℕ → List Entry → ℕ → Entry
 descriptorEntry s n es j =
     record { address = descriptorAt + j; block = describe (blockAt s (descriptorAt + j)) (n - perDescriptor * j) (drop (perDescriptor * j - n) es) }
 
--- "n home blocks in slot order, flush, an empty log's header, flush: n+3 orders"
-unfoldable pub checkpointOrders : ℕ → List Entry → List Order
-checkpointOrders N es = map write es ++ (flush ∷ headerWrite (emptyHeader N) ∷ flush ∷ [])
+-- "n home blocks in slot order, flush, an empty log's header, flush: n+3 orders". The header's save number is c
+unfoldable pub checkpointOrders : ℕ → ℕ → List Entry → List Order
+checkpointOrders N c es = map write es ++ (flush ∷ headerWrite (emptyHeader N c) ∷ flush ∷ [])
 
--- "a header with both counts p and both sums p's, then flush"
-unfoldable pub fallbackOrders : ℕ → ℕ → ℕ → List Order
-fallbackOrders N p sum = headerWrite (header N p sum p sum) ∷ flush ∷ []
+-- "a header with both counts p and both sums p's, then flush". Its save number is c
+unfoldable pub fallbackOrders : ℕ → ℕ → ℕ → ℕ → List Order
+fallbackOrders N p sum c = headerWrite (header N p sum p sum c) ∷ flush ∷ []
 
 module _ (geo : Geometry) where
   -- "the descriptor": its blocks in turn, one at the trap
@@ -52,24 +52,25 @@ module _ (geo : Geometry) where
   slotWrites n (e ∷ es) = write (record { address = slotAt geo n; block = e .block }) ∷ slotWrites (suc n) es
 
   -- "m log blocks in slot order, the descriptor, a header with p = n and count n+m, one flush: m+3 orders. […] Sums continue from
-  -- the record's." The list es is appended to n entries whose sum is h
-  unfoldable pub appendOrders : ℕ → List ℕ → ℕ → ℕ → List Entry → List Order
-  appendOrders N s n h es =
+  -- the record's." The list es is appended to n entries whose sum is h; the header's save number is c
+  unfoldable pub appendOrders : ℕ → List ℕ → ℕ → ℕ → ℕ → List Entry → List Order
+  appendOrders N s n h c es =
       slotWrites n es
       ++ (map write (descriptors s n es)
-      ++ (headerWrite (header N n h (n + length es) (sumOf h es))
+      ++ (headerWrite (header N n h (n + length es) (sumOf h es) c)
       ∷ flush
       ∷ []))
 
-  -- apply: "n = 0: done, no orders"
-  unfoldable pub applyOrders : ℕ → List ℕ → ℕ → List Order
-  applyOrders N s n = cond (eqb n 0) [] (checkpointOrders N (entries geo s n))
+  -- apply: "n = 0: done, no orders". Its header has the record's save number c: "apply keeps it"
+  unfoldable pub applyOrders : ℕ → List ℕ → ℕ → ℕ → List Order
+  applyOrders N s n c = cond (eqb n 0) [] (checkpointOrders N c (entries geo s n))
 
   -- sync of the group es: "m = 0: done, no orders. If n+m > 32, apply runs first and n is then 0." The slots that a checkpoint
-  -- leaves in the descriptor play no part at n = 0
-  unfoldable pub syncOrders : ℕ → List ℕ → ℕ → ℕ → List Entry → List Order
-  syncOrders N s n h es =
+  -- leaves in the descriptor play no part at n = 0. c is the record's save number: W-201: "one more with each sync that writes its own
+  -- header; apply keeps it"
+  unfoldable pub syncOrders : ℕ → List ℕ → ℕ → ℕ → ℕ → List Entry → List Order
+  syncOrders N s n h c es =
       cond (eqb (length es) 0) []
       (cond (leb (n + length es) (geo .slots))
-      (appendOrders N s n h es)
-      (checkpointOrders N (entries geo s n) ++ appendOrders N s 0 start es))
+      (appendOrders N s n h (c + 1) es)
+      (checkpointOrders N c (entries geo s n) ++ appendOrders N s 0 start (c + 1) es))

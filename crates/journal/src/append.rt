@@ -27,11 +27,12 @@ ghost use Rattle.journal.specs.Log.{entriesFrom, sumOf};
 ghost use Rattle.journal.specs.Orders as Orders;
 ghost use Rattle.journal.specs.Orders.{slotWrites, addressBytes, appendOrders};
 
-// The log as it stands: the card's blocks, how many entries, their sum.
+// The log as it stands: the card's blocks, how many entries, their sum, and the save number of the header to come.
 pub struct Log {
     pub blocks: u32,
     pub count: u32,
     pub sum: u64,
+    pub save: u64,
 }
 
 // Entries in work memory: count of them, from place `from` on.
@@ -167,7 +168,7 @@ pub fn append(
     requires { ⌜ Below (blocksIn (now settled)) (now waiting) (queue .waiting) ⌝ }
     requires { ⌜ entryBytes * (group .from + group .count) ≤ length (now work) ⌝ }
     ensures { λ r. ⌜ r .done ≡ leb (group .count + 3) (queue .power) ⌝ }
-    ensures { λ r. ⌜ cardOf (now (settled .exit)) (now (waiting .exit)) (r .queue) ≡ run (appendOrders trap (log .blocks) (now (settled .entry)) (log .count) (log .sum) (entriesFrom (now (work .entry)) (group .from) (group .count))) (cardOf (now (settled .entry)) (now (waiting .entry)) queue) ⌝ }
+    ensures { λ r. ⌜ cardOf (now (settled .exit)) (now (waiting .exit)) (r .queue) ≡ run (appendOrders trap (log .blocks) (now (settled .entry)) (log .count) (log .sum) (log .save) (entriesFrom (now (work .entry)) (group .from) (group .count))) (cardOf (now (settled .entry)) (now (waiting .entry)) queue) ⌝ }
     ensures { λ r. ⌜ r .sum ≡ sumOf (log .sum) (entriesFrom (now (work .entry)) (group .from) (group .count)) ⌝ }
 {
     let sum = sum_group(log.sum, work, group);
@@ -180,7 +181,14 @@ pub fn append(
             sum,
         };
     }
-    let h = Header::new(log.blocks, log.count, log.sum, log.count + group.count, sum);
+    let h = Header::new(
+        log.blocks,
+        log.count,
+        log.sum,
+        log.count + group.count,
+        sum,
+        log.save,
+    );
     let o = h.order(q, settled, waiting);
     let after = o.queue;
     Appended {

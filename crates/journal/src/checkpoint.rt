@@ -43,13 +43,14 @@ fn write_homes(queue: Queue, settled: &[u8], waiting: &mut [u8], n: u32) -> Orde
     }
 }
 
-// Writes the first n entries home: their blocks in slot order, a flush, an empty log's header, a flush.
+// Writes the first n entries home: their blocks in slot order, a flush, an empty log's header with a save number, a flush.
 pub fn checkpoint(
     queue: Queue,
     settled: &mut [u8],
     waiting: &mut [u8],
     blocks: u32,
     n: u32,
+    save: u64,
 ) -> Ordered
     requires { ⌜ firstData trap < blocksIn (now settled) ⌝ }
     requires { ⌜ n ≤ trap .slots ⌝ }
@@ -59,7 +60,7 @@ pub fn checkpoint(
     requires { ⌜ entryBytes ≤ length (now waiting) ⌝ }
     requires { ⌜ Below (blocksIn (now settled)) (now waiting) (queue .waiting) ⌝ }
     ensures { λ r. ⌜ r .happened ≡ leb (n + 3) (queue .power) ⌝ }
-    ensures { λ r. ⌜ cardOf (now (settled .exit)) (now (waiting .exit)) (r .queue) ≡ run (checkpointOrders blocks (entries trap (now (settled .entry)) n)) (cardOf (now (settled .entry)) (now (waiting .entry)) queue) ⌝ }
+    ensures { λ r. ⌜ cardOf (now (settled .exit)) (now (waiting .exit)) (r .queue) ≡ run (checkpointOrders blocks save (entries trap (now (settled .entry)) n)) (cardOf (now (settled .entry)) (now (waiting .entry)) queue) ⌝ }
 {
     let w = write_homes(queue, settled, waiting, n);
     if !w.happened {
@@ -69,5 +70,5 @@ pub fn checkpoint(
     if !f.happened {
         return f;
     }
-    Header::empty(blocks).order(f.queue, settled, waiting)
+    Header::empty(blocks, save).order(f.queue, settled, waiting)
 }

@@ -12,15 +12,15 @@ ghost use Rattle.journal.specs.Geometry.{trap};
 ghost use Rattle.journal.specs.Layout.{firstData};
 ghost use Rattle.journal.specs.Choice as Spec;
 
-// The list that a recovery takes: its count and its sum.
+// The list that a recovery takes: its count, its sum and its save number.
 pub enum Choice {
-    Whole(u32, u64),
-    Fallback(u32, u64),
+    Whole(u32, u64, u64),
+    Fallback(u32, u64, u64),
     Foreign,
     Neither,
 }
 
-// Whether a header is of another format or another card, or its counts are out of bounds.
+// Whether a header is of another format or another card, its counts are out of bounds, or it lacks the save number of a save.
 pub fn is_foreign(h: Header, blocks: u32) -> bool
     ensures { λ r. ⌜ r ≡ Spec.foreign trap blocks h ⌝ }
 {
@@ -33,10 +33,26 @@ pub fn is_foreign(h: Header, blocks: u32) -> bool
     if SLOTS < h.count {
         return true;
     }
-    h.count < h.previous
+    if h.count < h.previous {
+        return true;
+    }
+    unnumbered(h)
 }
 
-// The first n entries if they are good, else the first p if they are. Each list is checked whole before it is taken.
+// Whether a header has save number 0 and unlike counts or sums.
+fn unnumbered(h: Header) -> bool
+    ensures { λ r. ⌜ r ≡ Spec.unnumbered h ⌝ }
+{
+    if h.save != 0 {
+        return false;
+    }
+    if h.previous != h.count {
+        return true;
+    }
+    h.presum != h.sum
+}
+
+// The first n entries if they are good, else the first p if they are, one save before. Each list is checked whole before it is taken.
 pub fn choose(settled: &[u8], blocks: u32) -> Choice
     requires { ⌜ firstData trap < blocksIn (now settled) ⌝ }
     ensures { λ r. ⌜ r ≡ Spec.choose trap blocks (now (settled .entry)) ⌝ }
@@ -46,10 +62,11 @@ pub fn choose(settled: &[u8], blocks: u32) -> Choice
         return Choice::Foreign;
     }
     if good(settled, blocks, h.count, h.sum) {
-        return Choice::Whole(h.count, h.sum);
+        return Choice::Whole(h.count, h.sum, h.save);
     }
     if good(settled, blocks, h.previous, h.presum) {
-        return Choice::Fallback(h.previous, h.presum);
+        let save = h.save - 1;
+        return Choice::Fallback(h.previous, h.presum, save);
     }
     Choice::Neither
 }

@@ -11,7 +11,7 @@ ghost use Rattle.card.specs.Card.{mostPlaces, blocksIn, run};
 ghost use Rattle.card.specs.CodeQueue.{cardOf, Below};
 ghost use Rattle.journal.specs.Orders.{fallbackOrders};
 
-// Makes the log its first p entries, whose sum is given: a header with both counts p and both sums p's, a flush.
+// Makes the log its first p entries, whose sum and save number are given: a header with both counts p and both sums p's, a flush.
 pub fn fallback(
     queue: Queue,
     settled: &mut [u8],
@@ -19,13 +19,14 @@ pub fn fallback(
     blocks: u32,
     p: u32,
     sum: u64,
+    save: u64,
 ) -> Ordered
     requires { ⌜ 0 < blocksIn (now settled) ⌝ }
     requires { ⌜ queue .waiting < mostPlaces ⌝ }
     requires { ⌜ entryBytes * queue .waiting + entryBytes ≤ length (now waiting) ⌝ }
     requires { ⌜ Below (blocksIn (now settled)) (now waiting) (queue .waiting) ⌝ }
     ensures { λ r. ⌜ r .happened ≡ leb 2 (queue .power) ⌝ }
-    ensures { λ r. ⌜ cardOf (now (settled .exit)) (now (waiting .exit)) (r .queue) ≡ run (fallbackOrders blocks p sum) (cardOf (now (settled .entry)) (now (waiting .entry)) queue) ⌝ }
+    ensures { λ r. ⌜ cardOf (now (settled .exit)) (now (waiting .exit)) (r .queue) ≡ run (fallbackOrders blocks p sum save) (cardOf (now (settled .entry)) (now (waiting .entry)) queue) ⌝ }
 {
-    Header::new(blocks, p, sum, p, sum).order(queue, settled, waiting)
+    Header::new(blocks, p, sum, p, sum, save).order(queue, settled, waiting)
 }

@@ -1,4 +1,4 @@
-// Block 0: format number, N, the previous count p and the count n, the sums of the first p and the first n entries.
+// Block 0: format number, N, the previous count p and the count n, the sums of the first p and the first n entries, the save number.
 use crate::HEADER_AT;
 use card::queue::Ordered;
 use card::queue::Queue;
@@ -20,7 +20,10 @@ ghost use Rattle.journal.specs.Header.{encode, decode, header, emptyHead
 ghost use Rattle.journal.specs.Orders.{headerWrite};
 
 // The number of this format.
-pub const FORMAT: u32 = 1;
+pub const FORMAT: u32 = 2;
+
+// The largest save number.
+pub const LAST_SAVE: u64 = 18446744073709551615;
 
 pub struct Header {
     pub format: u32,
@@ -29,12 +32,13 @@ pub struct Header {
     pub count: u32,
     pub presum: u64,
     pub sum: u64,
+    pub save: u64,
 }
 
 impl Header {
-    // A header of this format: N, p and its sum, n and its sum.
-    pub fn new(blocks: u32, previous: u32, presum: u64, count: u32, sum: u64) -> Header
-        ensures { λ r. ⌜ r ≡ header blocks previous presum count sum ⌝ }
+    // A header of this format: N, p and its sum, n and its sum, the save number.
+    pub fn new(blocks: u32, previous: u32, presum: u64, count: u32, sum: u64, save: u64) -> Header
+        ensures { λ r. ⌜ r ≡ header blocks previous presum count sum save ⌝ }
     {
         Header {
             format: FORMAT,
@@ -43,14 +47,15 @@ impl Header {
             count,
             presum,
             sum,
+            save,
         }
     }
 
     // The header of an empty log.
-    pub fn empty(blocks: u32) -> Header
-        ensures { λ r. ⌜ r ≡ emptyHeader blocks ⌝ }
+    pub fn empty(blocks: u32, save: u64) -> Header
+        ensures { λ r. ⌜ r ≡ emptyHeader blocks save ⌝ }
     {
-        Header::new(blocks, 0, fnv::START, 0, fnv::START)
+        Header::new(blocks, 0, fnv::START, 0, fnv::START, save)
     }
 
     // The header that a block holds.
@@ -65,6 +70,7 @@ impl Header {
             count: read_u32(block, 12),
             presum: read_u64(block, 16),
             sum: read_u64(block, 24),
+            save: read_u64(block, 32),
         }
     }
 
@@ -80,6 +86,7 @@ impl Header {
         write_u32(block, 12, self.count);
         write_u64(block, 16, self.presum);
         write_u64(block, 24, self.sum);
+        write_u64(block, 32, self.save);
     }
 
     // The orders that make this the card's header: one write of block 0, then a flush.

@@ -1,7 +1,7 @@
 -- The laws of calls that give orders.
 use Prim.Native.Nat.{ℕ, _+_, _-_, _≤_, _<_, min}
 use mathlib.Core.Path.{_≡_, refl, ap, ap₂, sym, _∙_}
-use mathlib.Core.Bool.{Bool, true, false, cond}
+use mathlib.Core.Bool.{Bool, true, false, cond, not}
 use mathlib.Core.Logic.{_≢_}
 use mathlib.Core.List.{List, [], _∷_, _++_, map, append-assoc}
 use native.Mathlib.Decide.{ℕ-discrete}
@@ -22,7 +22,7 @@ use Rattle.card.proofs.Runs.{run-nil, run-one, run-append, run-power}
 use Rattle.journal.specs.Geometry.{Geometry}
 use Rattle.journal.specs.declared.choice.Choice.{Choice}
 use Rattle.journal.specs.declared.choice.Choice.the-variants.{Whole, Fallback, Foreign, Neither}
-use Rattle.journal.specs.Header.{emptyHeader}
+use Rattle.journal.specs.Header.{mostSave, emptyHeader}
 use Rattle.journal.specs.Log.{slotAddress, entries, sumOf}
 use Rattle.journal.specs.Orders.{checkpointOrders, appendOrders, applyOrders, syncOrders}
 use Rattle.journal.specs.Choice.{choiceNumber, choose}
@@ -30,14 +30,14 @@ use Rattle.journal.proofs.Logs.{sumOf-nil}
 use Rattle.journal.proofs.OrderLists.{headerEntry, checkpoint-writes, append-afresh}
 use Rattle.journal.proofs.Phases.{stopped, resumed}
 use Rattle.store.specs.declared.record.Record.{Record}
-use Rattle.store.specs.State.{State, Outcome, closed, openMode, down, withMode, withGrouped, withLog, withQueue, withRecord, cardIn, withCard}
+use Rattle.store.specs.State.{State, Outcome, closed, openMode, down, withMode, withGrouped, withLog, withSave, withQueue, withRecord, cardIn, withCard}
 use Rattle.store.specs.CodeState.{stateOf, outcomeOf}
 use Rattle.store.specs.Lists.{groupFrom, listed}
-use Rattle.store.specs.Request.{power, abandon, recover}
+use Rattle.store.specs.Request.{Request, power, sync, recover}
 use Rattle.store.specs.Causes.{cause}
 use Rattle.store.specs.Outcomes.{completed, unless}
-use Rattle.store.specs.Saves.{carried, emptying, groupOf, appending, recovering, applies, syncing, recoverCall}
-use Rattle.store.proofs.Causes.{Checked, ownRows, cause-passes, passes-sound, cause-2}
+use Rattle.store.specs.Saves.{carried, emptying, groupOf, appending, recovering, applies, savedAs, syncing, recoverCall}
+use Rattle.store.proofs.Causes.{Checked, readsRecord, needsOpen, ownRows, other, cause-passes, passes-sound, cause-2}
 use Rattle.store.proofs.Places.{data-lt}
 
 -- ---- orders that the card carried out
@@ -143,31 +143,31 @@ module _ (geo : Geometry) where
 
   -- with a log or without, its orders are carried out
   pub apply-carried : (st : State) → cond (eqb (st .rec .logged) 0) (completed st) (emptying geo st)
-      ≡ carried (applyOrders geo (st .rec .blocks) (st .settled) (st .rec .logged)) (cond (eqb (st .rec .logged) 0) (st .rec) (withLog 0 start (st .rec))) (st .rec) st
+      ≡ carried (applyOrders geo (st .rec .blocks) (st .settled) (st .rec .logged) (st .rec .save)) (cond (eqb (st .rec .logged) 0) (st .rec) (withLog 0 start (st .rec))) (st .rec) st
   unfolding applyOrders
   apply-carried st = go (eqb (st .rec .logged) 0)
     where
       go : (t : Bool) → cond t (completed st) (emptying geo st)
-          ≡ carried (cond t [] (checkpointOrders (st .rec .blocks) (entries geo (st .settled) (st .rec .logged)))) (cond t (st .rec) (withLog 0 start (st .rec))) (st .rec) st
+          ≡ carried (cond t [] (checkpointOrders (st .rec .blocks) (st .rec .save) (entries geo (st .settled) (st .rec .logged)))) (cond t (st .rec) (withLog 0 start (st .rec))) (st .rec) st
       go true = sym (carried-none (st .rec) (st .rec) st)
       go false = refl
 
 -- ---- sync
 
 -- with power for all of it, a checkpoint leaves nothing waiting
-checkpoint-idle : (N : ℕ) (es : List Entry) (c : Card) → length (checkpointOrders N es) ≤ c .power → run (checkpointOrders N es) c .count ≡ 0
+checkpoint-idle : (N k : ℕ) (es : List Entry) (c : Card) → length (checkpointOrders N k es) ≤ c .power → run (checkpointOrders N k es) c .count ≡ 0
 unfolding order
-checkpoint-idle N es c h =
-    let front = (map write es ++ (flush ∷ [])) ++ (write (headerEntry (emptyHeader N)) ∷ []) in
-    let ends : checkpointOrders N es ≡ front ++ (flush ∷ []) = checkpoint-writes N es ∙ sym (append-assoc (map write es ++ (flush ∷ [])) (write (headerEntry (emptyHeader N)) ∷ []) (flush ∷ [])) in
-    let size : length (checkpointOrders N es) ≡ length front + 1 = ap length ends ∙ length-append front (flush ∷ []) in
+checkpoint-idle N k es c h =
+    let front = (map write es ++ (flush ∷ [])) ++ (write (headerEntry (emptyHeader N k)) ∷ []) in
+    let ends : checkpointOrders N k es ≡ front ++ (flush ∷ []) = checkpoint-writes N k es ∙ sym (append-assoc (map write es ++ (flush ∷ [])) (write (headerEntry (emptyHeader N k)) ∷ []) (flush ∷ [])) in
+    let size : length (checkpointOrders N k es) ≡ length front + 1 = ap length ends ∙ length-append front (flush ∷ []) in
     let live : 0 < run front c .power = rw (run-power) (omega arith) in
     ap (λ (os : List Order). run os c .count) ends ∙ ap (λ (x : Card). x .count) (run-append front (flush ∷ []) c ∙ run-one flush (run front c) live)
 
 module _ (geo : Geometry) where
   -- the orders of an apply
   abbrev checkpoint : State → List Order
-  checkpoint st = checkpointOrders (st .rec .blocks) (entries geo (st .settled) (st .rec .logged))
+  checkpoint st = checkpointOrders (st .rec .blocks) (st .rec .save) (entries geo (st .settled) (st .rec .logged))
 
   -- what they leave when all of them happened
   abbrev checkpointed : State → State
@@ -183,7 +183,7 @@ module _ (geo : Geometry) where
     sync-none none =
         rw (group-size, eq-eqb _ _ none)
         ((λ j. withRecord (withQueue (st .rec .waiting) (st .rec .power) (withGrouped (none j) (withLog (more j) (sum j) (st .rec)))) st)
-        ∙ ap (λ (o : Outcome). o .state) (sym (carried-none (withGrouped 0 (withLog (st .rec .logged + st .rec .grouped) (sumOf (st .rec .sum) (groupOf geo st)) (st .rec))) _ st)))
+        ∙ ap (λ (o : Outcome). o .state) (sym (carried-none (withGrouped 0 (withLog (st .rec .logged + st .rec .grouped) (sumOf (st .rec .sum) (groupOf geo st)) (withSave (st .rec .save) (st .rec)))) _ st)))
       where
         more : st .rec .logged ≡ st .rec .logged + st .rec .grouped
         more = omega arith
@@ -215,12 +215,13 @@ module _ (geo : Geometry) where
             rw (group-size, ne-eqb _ _ some, lt-leb _ _ over, lt-leb _ _ (end .0)) (end .1 ∙ step-dead _ _ st _ (st .rec) (end .0))
 
         -- it does not, and the group meets an empty log
-        pub sync-on : x .rec .mode ≢ down → (x .rec .logged ≡ 0) × (x .rec .grouped ≡ st .rec .grouped) × (x .rec .waiting ≡ 0)
+        pub sync-on : x .rec .mode ≢ down → (x .rec .logged ≡ 0) × (x .rec .grouped ≡ st .rec .grouped) × (x .rec .save ≡ st .rec .save) × (x .rec .waiting ≡ 0)
         sync-on on =
             let end = carried-live (checkpoint st) (withLog 0 start (st .rec)) (st .rec) st x first on in (
               ap (λ (y : State). y .rec .logged) (end .1),
               ap (λ (y : State). y .rec .grouped) (end .1),
-              ap (λ (y : State). y .rec .waiting) (end .1) ∙ checkpoint-idle (st .rec .blocks) (entries geo (st .settled) (st .rec .logged)) (cardIn st) (end .0),
+              ap (λ (y : State). y .rec .save) (end .1),
+              ap (λ (y : State). y .rec .waiting) (end .1) ∙ checkpoint-idle (st .rec .blocks) (st .rec .save) (entries geo (st .settled) (st .rec .logged)) (cardIn st) (end .0),
             )
 
         pub sync-live : x .rec .mode ≢ down → (y : State) → y ≡ appending geo x .state → y ≡ syncing geo st .state
@@ -228,12 +229,12 @@ module _ (geo : Geometry) where
         sync-live on y next =
             let end = carried-live (checkpoint st) (withLog 0 start (st .rec)) (st .rec) st x first on in
             let q = run (checkpoint st) (cardIn st) in
-            let own = appendOrders geo (st .rec .blocks) (st .settled) 0 start (groupOf geo st) in
-            let done = withGrouped 0 (withLog (0 + st .rec .grouped) (sumOf start (groupOf geo st)) (st .rec)) in
+            let own = appendOrders geo (st .rec .blocks) (st .settled) 0 start (st .rec .save + 1) (groupOf geo st) in
+            let done = withGrouped 0 (withLog (0 + st .rec .grouped) (sumOf start (groupOf geo st)) (withSave (st .rec .save + 1) (st .rec))) in
             rw (group-size, ne-eqb _ _ some, lt-leb _ _ over, le-leb _ _ (end .0))
             (next
             ∙ ap (λ (z : State). appending geo z .state) (end .1)
-            ∙ ap (λ (os : List Order). carried os (withQueue (q .count) (q .power) done) (checkpointed st .rec) (checkpointed st) .state) (append-afresh geo (st .rec .blocks) (q .settled) (st .settled) start (groupOf geo st))
+            ∙ ap (λ (os : List Order). carried os (withQueue (q .count) (q .power) done) (checkpointed st .rec) (checkpointed st) .state) (append-afresh geo (st .rec .blocks) (q .settled) (st .settled) start (st .rec .save + 1) (groupOf geo st))
             ∙ step-live (checkpoint st) own st (withQueue (q .count) (q .power) done) (checkpointed st .rec) (end .0) (withLog 0 start (st .rec))
             ∙ same-counts (checkpoint st ++ own) st done (withLog 0 start (st .rec)) (q .count) (q .power))
 
@@ -246,8 +247,8 @@ module _ (geo : Geometry) where
       cause-2 geo st n (ownRows geo recover) e ∙ rw (eq-eqb _ _ z, ne-eqb _ _ d, ne-eqb _ _ o) (go (choose geo (st .rec .blocks) (st .settled)))
     where
       go : (c : Choice) → cond (eqb (choiceNumber c) 8) 8 (cond (eqb (choiceNumber c) 9) 9 0) ≡ choiceNumber c
-      go (Whole k h) = refl
-      go (Fallback k h) = refl
+      go (Whole k h c) = refl
+      go (Fallback k h c) = refl
       go Foreign = refl
       go Neither = refl
 
@@ -278,7 +279,7 @@ module _ (geo : Geometry) where
       go (yes e) = e
       go (no e) = absurd (live (s .counts .waiting-down e))
 
-  -- what sync and apply may count on: they have the rows of abandon
+  -- what sync and apply may count on
   pub record Ready (st : State) : Type 0 where
     pub sound : Checked geo st
     pub mode : st .rec .mode ≡ openMode
@@ -286,12 +287,12 @@ module _ (geo : Geometry) where
     pub waiting : st .rec .waiting ≡ 0
     pub homes : (i : ℕ) → i < st .rec .logged → slotAddress (st .settled) i < blocksIn (st .settled)
 
-  pub ready : (st : State) (n : ℕ) → n ≡ cause geo abandon st → n ≡ 0 → Ready st
-  ready st n e z =
-      let p = cause-passes geo abandon st n e z in
-      let s = passes-sound geo abandon st n refl e z in
-      let live : st .rec .mode ≢ down = eqb-false _ _ (p .not-down) in
-      let mode : st .rec .mode ≡ openMode = only (st .rec .mode) (s .counts .mode) (eqb-false _ _ (p .not-closed)) live in
+  pub ready : (q : Request) (st : State) (n : ℕ) → readsRecord geo q ≡ true → needsOpen geo q ≡ true → n ≡ cause geo q st → n ≡ 0 → Ready st
+  ready q st n reads needs e z =
+      let p = cause-passes geo q st n e z in
+      let s = passes-sound geo q st n reads e z in
+      let live : st .rec .mode ≢ down = eqb-false _ _ (other _ _ (p .not-down) needs) in
+      let mode : st .rec .mode ≡ openMode = only (st .rec .mode) (s .counts .mode) (eqb-false _ _ (other _ _ (p .not-closed) needs)) live in
       record {
         sound = s;
         mode = mode;
@@ -302,3 +303,7 @@ module _ (geo : Geometry) where
     where
       only : (m : ℕ) → m ≤ down → m ≢ closed → m ≢ down → m ≡ openMode
       only m l c d = omega arith
+
+  -- a sync of a nonempty group that passes row 12 has a number to give
+  pub next-save : (st : State) (n : ℕ) → n ≡ cause geo sync st → n ≡ 0 → st .rec .grouped ≢ 0 → st .rec .save ≢ mostSave
+  next-save st n e z some = eqb-false _ _ (other _ _ (cause-passes geo sync st n e z .own .0) (ap not (ne-eqb _ _ some)))

@@ -12,6 +12,7 @@ use Rattle.journal.specs.Geometry.{Geometry}
 use Rattle.journal.specs.declared.lookup.Found.{Found}
 use Rattle.journal.specs.declared.lookup.Found.the-variants.{At, Absent}
 use Rattle.journal.specs.Layout.{isData, wrongSize}
+use Rattle.journal.specs.Header.{mostSave}
 use Rattle.journal.specs.Log.{entries, allData}
 use Rattle.journal.specs.Choice.{choose, choiceNumber}
 use Rattle.store.specs.State.{State, closed, openMode, down}
@@ -138,7 +139,7 @@ module _ (geo : Geometry) where
   abbrev pub groupFullRow : Row
   groupFullRow = record { number = 7; behind = lib.Dec.lit< tt; test = λ st. ltb (geo .slots) (st .rec .grouped + newcomers (st .work) (st .rec .grouped) (st .rec .opened)) }
 
-  -- ---- 8: "recover: format not 1, other N, n over 32 or p over n"
+  -- ---- 8: "recover: format not [the format number], other N, n over 32 or p over n"; W-201: "save number 0 and unlike counts or sums"
 
   abbrev pub foreignRow : Row
   foreignRow = record { number = 8; behind = lib.Dec.lit< tt; test = λ st. eqb (choiceNumber (choose geo (st .rec .blocks) (st .settled))) 8 }
@@ -152,6 +153,11 @@ module _ (geo : Geometry) where
 
 abbrev pub marksRow : List ℕ → Row
 marksRow ms = record { number = 10; behind = lib.Dec.lit< tt; test = λ st. not (marksFit ms (st .rec .waiting)) }
+
+-- ---- 12: W-201: "when a nonempty sync meets the largest save number, checked after 4 and before any order"
+
+abbrev pub lastSaveRow : Row
+lastSaveRow = record { number = 12; behind = lib.Dec.lit< tt; test = λ st. not (eqb (st .rec .grouped) 0) && eqb (st .rec .save) mostSave }
 
 -- ---- the rows of a call
 
@@ -170,7 +176,7 @@ module _ (geo : Geometry) where
   rules (local (Local.get a)) = ofOpen false (addressRow geo a ∷ [])
   rules (local Local.commit) = ofOpen false (groupFullRow geo ∷ [])
   rules (local Local.abandon) = ofOpen false []
-  rules (save Save.sync) = ofOpen false []
+  rules (save Save.sync) = ofOpen false (lastSaveRow ∷ [])
   rules (save Save.apply) = ofOpen false []
   rules (save Save.recover) = ofRecord false (downRow ∷ openRow ∷ foreignRow geo ∷ unsoundRow geo ∷ [])
   rules (cut ms) = ofRecord false (marksRow ms ∷ [])

@@ -15,9 +15,9 @@ use Rattle.store.specs.State.{State, Outcome, openMode}
 abbrev pub stateOf : Record → List ℕ → List ℕ → List ℕ → State
 stateOf r settled waiting work = record { rec = r; settled = settled; waiting = waiting; work = work }
 
--- the record that a format leaves
+-- the record that a format leaves; its save number is "0 at format"
 abbrev pub fresh : ℕ → Record
-fresh N = record { mode = openMode; blocks = N; opened = 0; grouped = 0; logged = 0; waiting = 0; power = 1000000; sum = start }
+fresh N = record { mode = openMode; blocks = N; opened = 0; grouped = 0; logged = 0; waiting = 0; power = 1000000; sum = start; save = 0 }
 
 -- the number, the orders carried out, the record and the buffers after the call
 abbrev pub outcomeOf : ℕ → ℕ → Record → List ℕ → List ℕ → List ℕ → Outcome

@@ -1,5 +1,5 @@
 -- "format: settles zeros everywhere and an empty log's header without orders; mode open, counts 0, the empty list's sum, power
--- 1,000,000. Work and waiting bytes become zero."
+-- 1,000,000. Work and waiting bytes become zero." W-201: the save number is "0 at format", in header and record.
 use lib.ListN.{length, replicate}
 use Rattle.cells.specs.Cell.{setCell}
 use Rattle.cells.specs.Entry.{blockBytes}
@@ -17,7 +17,7 @@ unfoldable pub formatted : State → State
 formatted st =
     let N = blocksIn (st .settled) in
     stateOf (fresh N)
-    (setCell blockBytes (replicate (length (st .settled)) 0) headerAt (encode (emptyHeader N)))
+    (setCell blockBytes (replicate (length (st .settled)) 0) headerAt (encode (emptyHeader N 0)))
     (replicate (length (st .waiting)) 0)
     (replicate (length (st .work)) 0)
 

@@ -11,9 +11,9 @@ use Rattle.journal.specs.Geometry.{Geometry}
 use Rattle.journal.specs.declared.choice.Choice.{Choice}
 use Rattle.journal.specs.Log.{entries, sumOf}
 use Rattle.journal.specs.Orders.{checkpointOrders, appendOrders, syncOrders}
-use Rattle.journal.specs.Choice.{choose, takenCount, takenSum, recoverOrders}
+use Rattle.journal.specs.Choice.{choose, takenCount, takenSum, takenSave, recoverOrders}
 use Rattle.store.specs.declared.record.Record.{Record}
-use Rattle.store.specs.State.{State, Outcome, openMode, down, withMode, withOpened, withGrouped, withLog, withRecord, cardIn, withCard}
+use Rattle.store.specs.State.{State, Outcome, openMode, down, withMode, withOpened, withGrouped, withLog, withSave, withRecord, cardIn, withCard}
 use Rattle.store.specs.Lists.{groupFrom, listOf}
 use Rattle.store.specs.Request.{sync, apply, recover}
 use Rattle.store.specs.Causes.{cause}
@@ -32,10 +32,11 @@ carried os done gone st =
 -- ---- the steps, each as it goes on from the state that it is given
 
 module _ (geo : Geometry) where
-  -- "n home blocks in slot order, flush, an empty log's header, flush": the log is empty then
+  -- "n home blocks in slot order, flush, an empty log's header, flush": the log is empty then. W-201: "apply keeps" the save number, in
+  -- header and record
   abbrev pub emptying : State → Outcome
   emptying st =
-      carried (checkpointOrders (st .rec .blocks) (entries geo (st .settled) (st .rec .logged)))
+      carried (checkpointOrders (st .rec .blocks) (st .rec .save) (entries geo (st .settled) (st .rec .logged)))
       (withLog 0 start (st .rec))
       (st .rec)
       st
@@ -43,23 +44,28 @@ module _ (geo : Geometry) where
   abbrev pub groupOf : State → List Entry
   groupOf st = listOf (st .work) (groupFrom geo) (st .rec .grouped)
 
-  -- the group is appended to the log: "The group becomes empty; open stays. Sums continue from the record's."
+  -- the group is appended to the log: "The group becomes empty; open stays. Sums continue from the record's." W-201: the save number is
+  -- "one more with each sync that writes its own header"
   abbrev pub appending : State → Outcome
   appending st =
-      carried (appendOrders geo (st .rec .blocks) (st .settled) (st .rec .logged) (st .rec .sum) (groupOf st))
-      (withGrouped 0 (withLog (st .rec .logged + st .rec .grouped) (sumOf (st .rec .sum) (groupOf st)) (st .rec)))
+      carried (appendOrders geo (st .rec .blocks) (st .settled) (st .rec .logged) (st .rec .sum) (st .rec .save + 1) (groupOf st))
+      (withGrouped 0 (withLog (st .rec .logged + st .rec .grouped) (sumOf (st .rec .sum) (groupOf st)) (withSave (st .rec .save + 1) (st .rec))))
       (st .rec)
       st
 
--- "Done, the mode is open, open and group are empty, n and sum those of the list taken."
-abbrev pub reopened : ℕ → ℕ → Record → Record
-reopened n sum r = withMode openMode (withOpened 0 (withGrouped 0 (withLog n sum r)))
+-- "Done, the mode is open, open and group are empty, n and sum those of the list taken." W-201: "recover hands back in it the number found"
+abbrev pub reopened : ℕ → ℕ → ℕ → Record → Record
+reopened n sum c r = withMode openMode (withOpened 0 (withGrouped 0 (withLog n sum (withSave c r))))
 
 -- the list of a choice is taken
 abbrev pub recovering : Choice → State → Outcome
-recovering c st = carried (recoverOrders (st .rec .blocks) c) (reopened (takenCount c) (takenSum c) (st .rec)) (st .rec) st
+recovering c st = carried (recoverOrders (st .rec .blocks) c) (reopened (takenCount c) (takenSum c) (takenSave c) (st .rec)) (st .rec) st
 
 -- ---- sync
+
+-- the record's save number when it is done: one more, if it wrote its own header
+abbrev pub savedAs : State → ℕ
+savedAs st = cond (eqb (st .rec .grouped) 0) (st .rec .save) (st .rec .save + 1)
 
 module _ (geo : Geometry) where
   -- "If n+m > 32, apply runs first"
@@ -72,15 +78,15 @@ module _ (geo : Geometry) where
 
   -- the orders of the apply inside
   abbrev pub innerOrders : State → List Order
-  innerOrders st = cond (applies st) (checkpointOrders (st .rec .blocks) (entries geo (st .settled) (st .rec .logged))) []
+  innerOrders st = cond (applies st) (checkpointOrders (st .rec .blocks) (st .rec .save) (entries geo (st .settled) (st .rec .logged))) []
 
   -- "The group becomes empty; open stays. Sums continue from the record's." Cut short, the record keeps n and sum "as before the
-  -- call, or as a sync's apply left them if all that apply's orders happened"
+  -- call, or as a sync's apply left them if all that apply's orders happened"; its save number stays: "a call cut short leaves it"
   abbrev pub syncing : State → Outcome
   syncing st =
       let r = metByAppend st in
-      carried (syncOrders geo (st .rec .blocks) (st .settled) (st .rec .logged) (st .rec .sum) (groupOf geo st))
-      (withGrouped 0 (withLog (r .logged + st .rec .grouped) (sumOf (r .sum) (groupOf geo st)) r))
+      carried (syncOrders geo (st .rec .blocks) (st .settled) (st .rec .logged) (st .rec .sum) (st .rec .save) (groupOf geo st))
+      (withGrouped 0 (withLog (r .logged + st .rec .grouped) (sumOf (r .sum) (groupOf geo st)) (withSave (savedAs st) r)))
       (cond (leb (length (innerOrders st)) (st .rec .power)) r (st .rec))
       st
 

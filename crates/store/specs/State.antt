@@ -1,5 +1,5 @@
 -- "The record: mode (0 closed, 1 open, 2 down), N, open count, group count, log count n, waiting count, power count, the log's
--- sum. Work memory is 33,024 bytes: 32 open entries, then 32 group entries, 516 bytes each."
+-- sum. Work memory is 33,024 bytes: 32 open entries, then 32 group entries, 516 bytes each." W-201: the save number too.
 use Prim.Native.Nat.{ℕ}
 use mathlib.Core.List.{List}
 use Rattle.card.specs.Card.{Card}
@@ -30,19 +30,23 @@ pub record Outcome : Type 0 where
 -- ---- one or two fields set, the others as they are
 
 abbrev pub withMode : ℕ → Record → Record
-withMode m r = record { mode = m; blocks = r .blocks; opened = r .opened; grouped = r .grouped; logged = r .logged; waiting = r .waiting; power = r .power; sum = r .sum }
+withMode m r = record { mode = m; blocks = r .blocks; opened = r .opened; grouped = r .grouped; logged = r .logged; waiting = r .waiting; power = r .power; sum = r .sum; save = r .save }
 
 abbrev pub withOpened : ℕ → Record → Record
-withOpened k r = record { mode = r .mode; blocks = r .blocks; opened = k; grouped = r .grouped; logged = r .logged; waiting = r .waiting; power = r .power; sum = r .sum }
+withOpened k r = record { mode = r .mode; blocks = r .blocks; opened = k; grouped = r .grouped; logged = r .logged; waiting = r .waiting; power = r .power; sum = r .sum; save = r .save }
 
 abbrev pub withGrouped : ℕ → Record → Record
-withGrouped k r = record { mode = r .mode; blocks = r .blocks; opened = r .opened; grouped = k; logged = r .logged; waiting = r .waiting; power = r .power; sum = r .sum }
+withGrouped k r = record { mode = r .mode; blocks = r .blocks; opened = r .opened; grouped = k; logged = r .logged; waiting = r .waiting; power = r .power; sum = r .sum; save = r .save }
 
 abbrev pub withLog : ℕ → ℕ → Record → Record
-withLog n h r = record { mode = r .mode; blocks = r .blocks; opened = r .opened; grouped = r .grouped; logged = n; waiting = r .waiting; power = r .power; sum = h }
+withLog n h r = record { mode = r .mode; blocks = r .blocks; opened = r .opened; grouped = r .grouped; logged = n; waiting = r .waiting; power = r .power; sum = h; save = r .save }
+
+-- W-201: "The record carries it too"
+abbrev pub withSave : ℕ → Record → Record
+withSave c r = record { mode = r .mode; blocks = r .blocks; opened = r .opened; grouped = r .grouped; logged = r .logged; waiting = r .waiting; power = r .power; sum = r .sum; save = c }
 
 abbrev pub withQueue : ℕ → ℕ → Record → Record
-withQueue w p r = record { mode = r .mode; blocks = r .blocks; opened = r .opened; grouped = r .grouped; logged = r .logged; waiting = w; power = p; sum = r .sum }
+withQueue w p r = record { mode = r .mode; blocks = r .blocks; opened = r .opened; grouped = r .grouped; logged = r .logged; waiting = w; power = p; sum = r .sum; save = r .save }
 
 abbrev pub withRecord : Record → State → State
 withRecord r st = record { rec = r; settled = st .settled; waiting = st .waiting; work = st .work }

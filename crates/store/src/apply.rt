@@ -37,7 +37,14 @@ impl Record {
         requires { ⌜ waitingBytes trap ≤ length (now waiting) ⌝ }
         ensures { λ r. ⌜ ((k : List ℕ) → stateOf r (now (settled .exit)) (now (waiting .exit)) k ≡ emptying trap (stateOf self (now (settled .entry)) (now (waiting .entry)) k) .state) ⌝ }
     {
-        let ordered = checkpoint(self.queue(), settled, waiting, self.blocks, self.logged);
+        let ordered = checkpoint(
+            self.queue(),
+            settled,
+            waiting,
+            self.blocks,
+            self.logged,
+            self.save,
+        );
         self.after(ordered, self.with_log(0, fnv::START))
     }
 }

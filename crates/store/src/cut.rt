@@ -20,11 +20,12 @@ impl Record {
         self.shut().with_queue(queue).answer(0)
     }
 
-    // The record that it leaves, but for the queue: closed, with no entries and the empty list's sum.
+    // The record that it leaves, but for the queue: closed, with no entries, the empty list's sum and no save number.
     fn shut(self) -> Record
         ensures { λ r. ⌜ r ≡ Cut.shut self ⌝ }
     {
-        self.with_log(0, fnv::START)
+        self.with_save(0)
+            .with_log(0, fnv::START)
             .with_grouped(0)
             .with_opened(0)
             .with_mode(CLOSED)

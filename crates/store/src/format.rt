@@ -36,12 +36,12 @@ impl Record {
     }
 }
 
-// Settles the header of an empty log.
+// Settles the header of an empty log before any save.
 fn settle_header(settled: &mut [u8], blocks: u32)
     requires { ⌜ headerAt < blocksIn (now settled) ⌝ }
-    ensures { λ _. ⌜ now (settled .exit) ≡ setCell blockBytes (now (settled .entry)) headerAt (encode (emptyHeader blocks)) ⌝ }
+    ensures { λ _. ⌜ now (settled .exit) ≡ setCell blockBytes (now (settled .entry)) headerAt (encode (emptyHeader blocks 0)) ⌝ }
 {
     let mut block = [0u8; BLOCK];
-    Header::empty(blocks).fill(&mut block);
+    Header::empty(blocks, 0).fill(&mut block);
     settle(settled, HEADER_AT, &block);
 }

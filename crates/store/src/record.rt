@@ -1,7 +1,7 @@
 // The record: what the store keeps outside the card and work memory.
 use card::queue::Queue;
 ghost use mathlib.Core.Path.{_≡_};
-ghost use Rattle.store.specs.State.{withMode, withOpened, withGrouped, withLog, withQueue};
+ghost use Rattle.store.specs.State.{withMode, withOpened, withGrouped, withLog, withSave, withQueue};
 ghost use Rattle.store.specs.CodeState.{fresh};
 
 // The modes.
@@ -23,6 +23,7 @@ pub struct Record {
     pub waiting: u32,
     pub power: u32,
     pub sum: u64,
+    pub save: u64,
 }
 
 // What a call hands back: its number, 0 for done, and the record.
@@ -32,7 +33,7 @@ pub struct Answer {
 }
 
 impl Record {
-    // The record of a fresh card: open, with power for 1,000,000 orders.
+    // The record of a fresh card: open, with power for 1,000,000 orders, no save yet.
     pub fn fresh(blocks: u32) -> Record
         ensures { λ r. ⌜ r ≡ fresh blocks ⌝ }
     {
@@ -45,6 +46,7 @@ impl Record {
             waiting: 0,
             power: POWER,
             sum: fnv::START,
+            save: 0,
         }
     }
 
@@ -75,6 +77,14 @@ impl Record {
     {
         self.logged = logged;
         self.sum = sum;
+        self
+    }
+
+    // The number of the last save.
+    pub fn with_save(mut self, save: u64) -> Record
+        ensures { λ r. ⌜ r ≡ withSave save self ⌝ }
+    {
+        self.save = save;
         self
     }
 

@@ -46,21 +46,22 @@ impl Record {
         ensures { λ r. ⌜ ((k : List ℕ) → outcomeOf (r .number) (r .orders) (r .rec) (now (settled .exit)) (now (waiting .exit)) k ≡ unless (choiceNumber choice) (stateOf self (now (settled .entry)) (now (waiting .entry)) k) (recovering choice (stateOf self (now (settled .entry)) (now (waiting .entry)) k))) ⌝ }
     {
         match choice {
-            Choice::Whole(n, sum) => self.saved(self.reopened(n, sum)),
-            Choice::Fallback(p, sum) => {
-                let ordered = fallback(self.queue(), settled, waiting, self.blocks, p, sum);
-                self.saved(self.after(ordered, self.reopened(p, sum)))
+            Choice::Whole(n, sum, save) => self.saved(self.reopened(n, sum, save)),
+            Choice::Fallback(p, sum, save) => {
+                let ordered = fallback(self.queue(), settled, waiting, self.blocks, p, sum, save);
+                self.saved(self.after(ordered, self.reopened(p, sum, save)))
             }
             Choice::Foreign => self.refused(8),
             Choice::Neither => self.refused(9),
         }
     }
 
-    // The record of a recovery that took a list.
-    fn reopened(self, n: u32, sum: u64) -> Record
-        ensures { λ r. ⌜ r ≡ Saves.reopened n sum self ⌝ }
+    // The record of a recovery that took a list, with the number of its save.
+    fn reopened(self, n: u32, sum: u64, save: u64) -> Record
+        ensures { λ r. ⌜ r ≡ Saves.reopened n sum save self ⌝ }
     {
-        self.with_log(n, sum)
+        self.with_save(save)
+            .with_log(n, sum)
             .with_grouped(0)
             .with_opened(0)
             .with_mode(OPEN_MODE)

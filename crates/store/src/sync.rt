@@ -9,11 +9,13 @@ use journal::append::Group;
 use journal::append::Log;
 use journal::append::append;
 ghost use mathlib.Core.Path.{_≡_};
+ghost use mathlib.Core.Logic.{_≢_};
 ghost use Prim.Native.Nat.{ℕ, _+_, _≤_, _<_};
 ghost use lib.ListN.{length};
 ghost use Rattle.card.specs.Card.{blocksIn};
 ghost use Rattle.journal.specs.Geometry.{trap};
 ghost use Rattle.journal.specs.Layout.{firstData};
+ghost use Rattle.journal.specs.Header.{mostSave};
 ghost use Rattle.journal.specs.Log.{slotAddress};
 ghost use Rattle.store.specs.State.{openMode};
 ghost use Rattle.store.specs.CodeState.{stateOf, outcomeOf};
@@ -24,7 +26,7 @@ impl Record {
     pub fn sync(self, settled: &mut [u8], waiting: &mut [u8], work: &[u8]) -> Saved
         ensures { λ r. ⌜ outcomeOf (r .number) (r .orders) (r .rec) (now (settled .exit)) (now (waiting .exit)) (now (work .entry)) ≡ syncCall trap (stateOf self (now (settled .entry)) (now (waiting .entry)) (now (work .entry))) ⌝ }
     {
-        let number = self.not_open(settled, waiting, work);
+        let number = self.sync_number(settled, waiting, work);
         if number != 0 {
             return self.refused(number);
         }
@@ -38,6 +40,7 @@ impl Record {
         requires { ⌜ (self .grouped ≤ trap .slots) × (self .logged ≤ trap .slots) ⌝ }
         requires { ⌜ ((i : ℕ) → i < self .logged → slotAddress (now settled) i < blocksIn (now settled)) ⌝ }
         requires { ⌜ (waitingBytes trap ≤ length (now waiting)) × (workBytes trap ≤ length (now work)) ⌝ }
+        requires { ⌜ (self .grouped ≢ 0 → self .save ≢ mostSave) ⌝ }
         ensures { λ r. ⌜ stateOf r (now (settled .exit)) (now (waiting .exit)) (now (work .entry)) ≡ syncing trap (stateOf self (now (settled .entry)) (now (waiting .entry)) (now (work .entry))) .state ⌝ }
     {
         if self.grouped == 0 {
@@ -53,19 +56,22 @@ impl Record {
         emptied.appended(settled, waiting, work)
     }
 
-    // Its own part: the group behind the record's log.
+    // Its own part: the group behind the record's log, and the next save number.
     fn appended(self, settled: &mut [u8], waiting: &mut [u8], work: &[u8]) -> Record
         requires { ⌜ firstData trap < blocksIn (now settled) ⌝ }
         requires { ⌜ self .logged + self .grouped ≤ trap .slots ⌝ }
         requires { ⌜ self .waiting ≡ 0 ⌝ }
         requires { ⌜ waitingBytes trap ≤ length (now waiting) ⌝ }
         requires { ⌜ workBytes trap ≤ length (now work) ⌝ }
+        requires { ⌜ self .save ≢ mostSave ⌝ }
         ensures { λ r. ⌜ stateOf r (now (settled .exit)) (now (waiting .exit)) (now (work .entry)) ≡ appending trap (stateOf self (now (settled .entry)) (now (waiting .entry)) (now (work .entry))) .state ⌝ }
     {
+        let save = self.save + 1;
         let log = Log {
             blocks: self.blocks,
             count: self.logged,
             sum: self.sum,
+            save,
         };
         let group = Group {
             from: GROUP as u32,
@@ -77,7 +83,9 @@ impl Record {
             happened: a.done,
             queue,
         };
-        let done = self.with_log(self.logged + self.grouped, a.sum);
-        self.after(ordered, done.with_grouped(0))
+        let done = self.with_save(save)
+            .with_log(self.logged + self.grouped, a.sum)
+            .with_grouped(0);
+        self.after(ordered, done)
     }
 }

@@ -25,7 +25,7 @@ use Rattle.store.specs.Save as Save
 use Rattle.store.specs.Request as Request
 use Rattle.store.specs.Request.{Request}
 use Rattle.store.specs.Causes as Causes
-use Rattle.store.specs.Causes.{wrongSizes, wrongCounts, wrongWaiting, wrongLists, wrongRecord, Row, closedRow, downRow, addressRow, openFullRow, groupFullRow, Rules, ofBytes, ofRecord, ofOpen, rules, ownSize, wrongBlock, some, first, causeBy, cause}
+use Rattle.store.specs.Causes.{wrongSizes, wrongCounts, wrongWaiting, wrongLists, wrongRecord, Row, closedRow, downRow, addressRow, openFullRow, groupFullRow, lastSaveRow, Rules, ofBytes, ofRecord, ofOpen, rules, ownSize, wrongBlock, some, first, causeBy, cause}
 use Rattle.store.proofs.Causes.{readsRecord, needsOpen, other, SizeFacts, sizes-facts, counts-facts, waiting-facts, Passes, cause-passes as Causes·cause-passes}
 use Rattle.history.specs.Call.{Call, requestOf, local, save, cut, recover}
 use Rattle.history.specs.Plain.{Plain, whenOpen, refusal}
@@ -152,6 +152,7 @@ module _ (geo : Geometry) where
     pub waiting : d .waiting ≡ st .rec .waiting
     pub T : st .rec .mode ≡ openMode → d .T ≡ listOf (st .work) openFrom (st .rec .opened)
     pub G : st .rec .mode ≡ openMode → d .G ≡ listOf (st .work) (groupFrom geo) (st .rec .grouped)
+    pub save : st .rec .mode ≡ openMode → d .S .groups ≡ st .rec .save
 
 -- tests behind the modes count when open
 when-open : (m x y : ℕ) → m ≤ down → (m ≡ openMode → x ≡ y) → cond (eqb m closed) 3 (cond (eqb m down) 4 x) ≡ cond (eqb m closed) 3 (cond (eqb m down) 4 y)
@@ -184,7 +185,9 @@ module _ (geo : Geometry) where
         open-refusal false (groupFullRow geo ∷ []) _
         (λ o. rw (newcomers-merge geo (st .work) (st .rec .grouped) (st .rec .opened) (record-facts geo st counts .lists o .open-distinct), m .T o, m .G o))
     cause-refusal (local Local.abandon) h = open-refusal false [] 0 (λ o. refl)
-    cause-refusal (save Save.sync) h = open-refusal false [] 0 (λ o. refl)
+    cause-refusal (save Save.sync) h =
+        open-refusal false (lastSaveRow ∷ []) _
+        (λ o. rw (m .save o, m .G o, length-upTo (listed (st .work) (groupFrom geo)) (st .rec .grouped)))
     cause-refusal (save Save.apply) h = open-refusal false [] 0 (λ o. refl)
     cause-refusal (save Save.recover) h = rw (sizes, counts, m .mode) (go (eqb (st .rec .mode) down) (eqb (st .rec .mode) openMode) refl refl)
       where

@@ -11,7 +11,9 @@ use lib.Dec.{eqb, ltb}
 use lib.ListN.{length}
 use Rattle.card.specs.Marks.{keptAt}
 use Rattle.journal.specs.Geometry.{Geometry}
-use Rattle.history.specs.Plain.{Plain, none, ofSync, ofApply, ofRecover, applies, syncTakes, applyWaits, syncWaits, unchanged, Verdict, applyVerdict, ownVerdict, verdict, cutShort, plainSync, plainApply, plainRecover, headerKept, done, still, synced, cleared, recovered}
+use Rattle.journal.specs.Header.{mostSave}
+use Rattle.history.specs.Call.{sync}
+use Rattle.history.specs.Plain.{Plain, none, ofSync, ofApply, ofRecover, applies, syncTakes, applyWaits, syncWaits, unchanged, Verdict, applyVerdict, ownVerdict, verdict, cutShort, plainSync, plainApply, plainRecover, headerKept, refusal, lastSave, done, still, synced, cleared, recovered}
 use Rattle.history.specs.Ledger.{Ledger}
 
 -- ---- equal field by field
@@ -33,6 +35,21 @@ plain-eq N S G T n mode power waiting short F = λ i. record {
 
 pub ledger-eq : {l m : Ledger} → l .written ≡ m .written → l .pending ≡ m .pending → l ≡ m
 ledger-eq written pending = λ i. record { written = written i; pending = pending i }
+
+-- ---- row 12
+
+module _ (geo : Geometry) where
+  -- a sync of a nonempty group that is not refused has a number to come
+  pub not-last : (d : Plain) → refusal geo sync d ≡ 0 → length (d .G) ≢ 0 → d .S .groups ≢ mostSave
+  unfolding refusal
+  not-last d h some e =
+      let row : lastSave d ≡ true = rw (ne-eqb _ 0 some, eq-eqb _ _ e) in
+      go (eqb (d .mode) 0) (eqb (d .mode) 2) (rw row at h)
+    where
+      go : (s t : Bool) → _≡_ {A = ℕ} (cond s 3 (cond t 4 12)) 0 → ⊥
+      go true t q = omega arith
+      go false true q = omega arith
+      go false false q = omega arith
 
 -- ---- orders and waiting writes
 

@@ -7,7 +7,7 @@ use mathlib.Core.List.{List, []}
 use lib.ListN.{length}
 use Rattle.cells.specs.Entry.{Entry}
 use Rattle.fnv.specs.Fnv.{start}
-use Rattle.card.specs.Disk.{Disk, overlay}
+use Rattle.crash.specs.Laid.{Laid, layOver}
 use Rattle.card.specs.Card as Card
 use Rattle.card.specs.Card.{blockAt}
 use Rattle.card.specs.Marks.{marksFit}
@@ -63,16 +63,16 @@ module _ (geo : Geometry) where
 
   abbrev pub CutLeads : List ℕ → State → Ledger → Plain → Type 0
   CutLeads ms st l d =
-      Leads geo Every (st .rec .blocks) (cutSettled ms st) (cutWritten ms l) (cond (cutVerdict ms st l d .laid) (overlay (d .G) (d .S)) (d .S)) (cutVerdict ms st l d .n)
+      Leads geo Every (st .rec .blocks) (cutSettled ms st) (cutWritten ms l) (cond (cutVerdict ms st l d .laid) (layOver (d .G) (d .S)) (d .S)) (cutVerdict ms st l d .n)
       (cutVerdict ms st l d .F)
 
   -- a choice that lays nothing, by another name
-  pub leads-still : {N : ℕ} {s : List ℕ} {w : List Entry} {S : Disk} (X : Disk) (v v′ : Verdict) → v ≡ v′ → v′ .laid ≡ false → Leads geo Every N s w S (v′ .n) (v′ .F)
+  pub leads-still : {N : ℕ} {s : List ℕ} {w : List Entry} {S : Laid} (X : Laid) (v v′ : Verdict) → v ≡ v′ → v′ .laid ≡ false → Leads geo Every N s w S (v′ .n) (v′ .F)
       → Leads geo Every N s w (cond (v .laid) X S) (v .n) (v .F)
   leads-still X v v′ e f l = rw (e, f) l
 
   -- one that lays X
-  pub leads-laid : {N : ℕ} {s : List ℕ} {w : List Entry} (S X : Disk) (v v′ : Verdict) → v ≡ v′ → Leads geo Every N s w (cond (v′ .laid) X S) (v′ .n) (v′ .F)
+  pub leads-laid : {N : ℕ} {s : List ℕ} {w : List Entry} (S X : Laid) (v v′ : Verdict) → v ≡ v′ → Leads geo Every N s w (cond (v′ .laid) X S) (v′ .n) (v′ .F)
       → Leads geo Every N s w (cond (v .laid) X S) (v .n) (v .F)
   leads-laid S X v v′ e l = rw e l
 

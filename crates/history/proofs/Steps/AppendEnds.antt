@@ -9,7 +9,7 @@ use lib.ListN.{length, take, length-append}
 use Rattle.cells.specs.Upto.Laws.{length-upTo}
 use Rattle.cells.specs.Entry.{Entry}
 use Rattle.fnv.specs.Fnv.{start}
-use Rattle.card.specs.Disk.{Disk, overlay}
+use Rattle.crash.specs.Laid.{Laid, layOver}
 use Rattle.card.specs.Card.{Card, cut, settle, blockAt}
 use Rattle.card.specs.Marks.{marksFit, keptAt, allKept}
 use Rattle.journal.specs.Geometry.{Geometry}
@@ -32,18 +32,18 @@ use Rattle.crash.proofs.Plans.{Fits}
 
 module _ (geo : Geometry) where
   -- the group G is appended to n entries with the sum h on s, where nothing waits; v is their list, S the disk
-  abbrev pub Appends : ℕ → List ℕ → ℕ → ℕ → List Entry → List Entry → Disk → Type 0
+  abbrev pub Appends : ℕ → List ℕ → ℕ → ℕ → List Entry → List Entry → Laid → Type 0
   Appends N s n h G v S = Appending geo Every Every N s [] n h G v S
 
-  module _ {N : ℕ} {s : List ℕ} {n h : ℕ} {G v : List Entry} {S : Disk} (x : Appends N s n h G v S) where
+  module _ {N : ℕ} {s : List ℕ} {n h : ℕ} {G v : List Entry} {S : Laid} (x : Appends N s n h G v S) where
     abbrev W : List Entry
-    W = appendWrites geo N s n h G
+    W = appendWrites geo N s n h (S .groups + 1) G
 
     pub writes-fit : Fits geo N 0 W
     writes-fit = record {
-      few = let e : length W ≡ length G + geo .descriptors + 1 = length-append-writes geo N s n h G in omega (arith, x .room, geo .queued);
-      whole = writes-whole geo N s n h G (x .blocks);
-      low = writes-below geo N s n h G N (x .room) (omega (arith, x .behind .big));
+      few = let e : length W ≡ length G + geo .descriptors + 1 = length-append-writes geo N s n h (S .groups + 1) G in omega (arith, x .room, geo .queued);
+      whole = writes-whole geo N s n h (S .groups + 1) G (x .blocks);
+      low = writes-below geo N s n h (S .groups + 1) G N (x .room) (omega (arith, x .behind .big));
     }
 
     -- its header's place
@@ -57,7 +57,7 @@ module _ (geo : Geometry) where
 
     pub short-top : (c r : Card) (j : ℕ) → Left c r s (take j W) 0 → j ≡ length G + geo .descriptors + 1 → (ms : List ℕ) → marksFit ms (length (take j W)) ≡ true
         → (t u : Bool) → keptAt ms (length G + geo .descriptors) ≡ t → sameLog (foundIn geo (cut ms r .settled)) (cond t (logD geo (blockAt s) n ++ G) v) ≡ u
-        → Leads geo Every N (cut ms r .settled) (cond t (logD geo (blockAt s) n ++ G) v) (cond (ownVerdict n (length G) t u .laid) (overlay G S) S) (ownVerdict n (length G) t u .n) (ownVerdict n (length G) t u .F)
+        → Leads geo Every N (cut ms r .settled) (cond t (logD geo (blockAt s) n ++ G) v) (cond (ownVerdict n (length G) t u .laid) (layOver G S) S) (ownVerdict n (length G) t u .n) (ownVerdict n (length G) t u .F)
     short-top c r j f e ms m false u p q =
         rw (own-lost n (length G) u)
         (append-cuts-lost geo x c r j f ms m e (ap (keptAt ms) place ∙ p))
@@ -78,16 +78,16 @@ module _ (geo : Geometry) where
 
     -- ---- done
 
-    pub done-card : WholeCard geo Every N (blockAt (settle W s)) (logD geo (blockAt s) n ++ G) (overlay G S) (n + length G)
+    pub done-card : WholeCard geo Every N (blockAt (settle W s)) (logD geo (blockAt s) n ++ G) (layOver G S) (n + length G)
     done-card = CallCuts.done-card geo x
 
     pub done-sum : sumOf h G ≡ sumOf start (logD geo (blockAt (settle W s)) (n + length G))
     done-sum = ap (λ (k : ℕ). sumOf k G) (x .sum) ∙ sym (sumOf-append start (logD geo (blockAt s) n) G) ∙ ap (sumOf start) (done-card .same)
 
     -- block 0 then
-    done-head : blockAt (settle W s) headerAt ≡ encode (header N n h (n + length G) (sumOf h G))
+    done-head : blockAt (settle W s) headerAt ≡ encode (header N n h (n + length G) (sumOf h G) (S .groups + 1))
     done-head =
-        append-head geo Every N (blockAt s) (blockAt (settle W s)) n h G (CallCuts.done-append geo x) .block
+        append-head geo Every N (blockAt s) (blockAt (settle W s)) n h (S .groups) G (CallCuts.done-append geo x) .block
 
     size-log : length (logD geo (blockAt s) n) ≡ n
     size-log = length-upTo (slotE geo (blockAt s)) n
@@ -97,10 +97,10 @@ module _ (geo : Geometry) where
 
     -- by the list L before it: p and n are the lengths, the sums those of L and of L and G
     pub done-logged : (L : List Entry) → L ≡ logD geo (blockAt s) n
-        → (blockAt (settle W s) headerAt ≡ encode (header N (length L) (sumOf start L) (length (L ++ G)) (sumOf start (L ++ G)))) × (entries geo (settle W s) (length (L ++ G)) ≡ L ++ G)
+        → (blockAt (settle W s) headerAt ≡ encode (header N (length L) (sumOf start L) (length (L ++ G)) (sumOf start (L ++ G)) (S .groups + 1))) × (entries geo (settle W s) (length (L ++ G)) ≡ L ++ G)
     done-logged L e =
         rw e (
           done-head
-              ∙ (λ i. encode (header N (sym size-log i) (x .sum i) (sym size-list i) ((ap (λ (k : ℕ). sumOf k G) (x .sum) ∙ sym (sumOf-append start (logD geo (blockAt s) n) G)) i))),
+              ∙ (λ i. encode (header N (sym size-log i) (x .sum i) (sym size-list i) ((ap (λ (k : ℕ). sumOf k G) (x .sum) ∙ sym (sumOf-append start (logD geo (blockAt s) n) G)) i) (S .groups + 1))),
           ap (entries geo (settle W s)) size-list ∙ entries-disk geo (settle W s) (n + length G) ∙ sym (done-card .same),
         )

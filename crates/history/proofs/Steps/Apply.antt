@@ -10,7 +10,7 @@ use borrow.Author.Tests.{eq-eqb, ne-eqb}
 use lib.ListN.{length}
 use Rattle.cells.specs.Entry.{Entry}
 use Rattle.fnv.specs.Fnv.{start}
-use Rattle.card.specs.Disk.{Disk}
+use Rattle.crash.specs.Laid.{Laid}
 use Rattle.card.specs.Card.{Order}
 use Rattle.journal.specs.Geometry.{Geometry}
 use Rattle.journal.proofs.Logs.{sumOf-nil}
@@ -51,7 +51,7 @@ apply-no-get : (a : ℕ) → apply ≡ get a → ⊥
 apply-no-get a e = let z : _≡_ {A = ℕ} 0 1 = cc in omega arith
 
 module _ (geo : Geometry) where
-  module _ (st : State) (v : List Entry) (S : Disk) (x : Bool) (f : Opened geo st v S) where
+  module _ (st : State) (v : List Entry) (S : Laid) (x : Bool) (f : Opened geo st v S) where
     abbrev w : World
     w = openWorld geo st v S x
 
@@ -128,6 +128,7 @@ module _ (geo : Geometry) where
         blocks = refl;
         opened = open-listed geo st rc (o .mode);
         grouped = group-listed geo st rc (o .mode);
+        save = b .mirrors .save (o .mode);
         sum = sym (sumOf-nil start);
         card = emptied-card geo st (settledLedger v) (plainNow geo st S) b o;
         no-get = apply-no-get;
@@ -141,4 +142,4 @@ module _ (geo : Geometry) where
         go (no z) = gives-step geo apply w (plan z) b (gives z)
 
   pub apply-step : (w : World) → WorldSim geo w → StepOK geo apply w
-  apply-step = open-step geo apply refl apply-open
+  apply-step = open-step geo apply refl (λ st v S x f h. apply-open st v S x f)

@@ -1,6 +1,6 @@
 -- A checkpoint from an open state as a plan: what it leaves, and what every cut of it leads to, alone or first in a sync.
 use Prim.Native.Nat.{ℕ, _+_, _/_, _≤_, _<_}
-use mathlib.Core.Path.{_≡_, refl, ap, sym, _∙_}
+use mathlib.Core.Path.{_≡_, refl, ap, ap₂, sym, _∙_}
 use mathlib.Core.Bool.{true, false}
 use mathlib.Core.List.{List, [], _∷_}
 use native.Mathlib.Omega.{arith}
@@ -47,17 +47,17 @@ module _ (geo : Geometry) where
     length-log = Facts.length-log geo st l d b o
 
     abbrev top : Entry
-    top = headerEntry (emptyHeader (st .rec .blocks))
+    top = headerEntry (emptyHeader (st .rec .blocks) (d .S .groups))
 
     top-whole : Whole top
-    top-whole = length-encode (emptyHeader (st .rec .blocks))
+    top-whole = length-encode (emptyHeader (st .rec .blocks) (d .S .groups))
 
     -- the home blocks; an empty log's header
     abbrev pub checkpoint : Plan
     checkpoint = log ∷ (top ∷ []) ∷ []
 
-    pub checkpoint-orders : checkpointOrders N (entries geo (st .settled) n) ≡ planned checkpoint
-    checkpoint-orders = ap (checkpointOrders N) (Facts.entries-log geo st l d b o) ∙ checkpoint-writes N log
+    pub checkpoint-orders : checkpointOrders N (st .rec .save) (entries geo (st .settled) n) ≡ planned checkpoint
+    checkpoint-orders = ap₂ (checkpointOrders N) (sym (b .mirrors .save (o .mode))) (Facts.entries-log geo st l d b o) ∙ checkpoint-writes N (d .S .groups) log
 
     pub checkpoint-takes : takes checkpoint ≡ n + 3
     checkpoint-takes = omega (arith, length-log)
@@ -89,7 +89,7 @@ module _ (geo : Geometry) where
     begins : Behind geo Every Every N (st .settled) [] (l .written) (d .S) n false
     begins = none-behind geo (Facts.big geo st l d b o) (Facts.small geo st l d b o) (Facts.size geo st l d b o) (o .card)
 
-    homes : WholeCard geo Every N (blockAt homed) (l .written) (d .S) n × ((a : ℕ) → isData geo N a ≡ true → Every a → d .S a ≡ blockAt homed a)
+    homes : WholeCard geo Every N (blockAt homed) (l .written) (d .S) n × ((a : ℕ) → isData geo N a ≡ true → Every a → d .S .disk a ≡ blockAt homed a)
     homes = homes-settled geo begins (Facts.log-whole geo st l d b o)
 
     flushed-behind : Behind geo Every Every N homed [] (l .written) (d .S) n false

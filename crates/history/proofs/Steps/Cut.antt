@@ -10,7 +10,7 @@ use borrow.Author.Tests.{eq-eqb}
 use lib.Dec.{eqb}
 use lib.ListN.{length}
 use Rattle.cells.specs.Entry.{Entry}
-use Rattle.card.specs.Disk.{Disk, overlay}
+use Rattle.crash.specs.Laid.{Laid, layOver}
 use Rattle.card.specs.Card as Card
 use Rattle.card.specs.Card.{blockAt}
 use Rattle.card.proofs.Cuts.{cut-length}
@@ -79,11 +79,11 @@ module _ (geo : Geometry) where
   cut-entered ms st l h = rw (cut-served geo ms st h)
 
 -- the plain disk after it
-abbrev pub plainAt : State → Plain → Disk → ℕ → Bool → Plain
+abbrev pub plainAt : State → Plain → Laid → ℕ → Bool → Plain
 plainAt st d S n F = closedWith S n F d
 
 module _ (geo : Geometry) where
-  pub cut-basics : (ms : List ℕ) (st : State) (d : Plain) (S : Disk) (n : ℕ) (F : Bool) → Basics geo st d → Basics geo (afterCut ms st) (plainAt st d S n F)
+  pub cut-basics : (ms : List ℕ) (st : State) (d : Plain) (S : Laid) (n : ℕ) (F : Bool) → Basics geo st d → Basics geo (afterCut ms st) (plainAt st d S n F)
   unfolding Card.cut
   cut-basics ms st d S n F b =
       let s = sizes-facts geo st (b .sizes) in
@@ -103,11 +103,11 @@ module _ (geo : Geometry) where
               waiting-below = λ i z. absurd (omega arith);
               lists = λ z. absurd (omega arith);
             });
-        mirrors = record { mode = refl; N = b .mirrors .N; waiting = refl; T = λ z. absurd (omega arith); G = λ z. absurd (omega arith) };
+        mirrors = record { mode = refl; N = b .mirrors .N; waiting = refl; T = λ z. absurd (omega arith); G = λ z. absurd (omega arith); save = λ z. absurd (omega arith) };
         power = b .power;
       }
 
-  pub cut-sim : (ms : List ℕ) (st : State) (d : Plain) (w : List Entry) (S : Disk) (n : ℕ) (F : Bool) → Basics geo st d
+  pub cut-sim : (ms : List ℕ) (st : State) (d : Plain) (w : List Entry) (S : Laid) (n : ℕ) (F : Bool) → Basics geo st d
       → ClosedCard geo Every (st .rec .blocks) (blockAt (cutSettled ms st)) w S n F
       → Sim geo (afterCut ms st) (settledBy w) (plainAt st d S n F)
   cut-sim ms st d w S n F b r = record {
@@ -159,7 +159,7 @@ module _ (geo : Geometry) where
     verdict-cut = cutVerdict geo ms (w .store) (w .ledger) (w .plain)
 
     pub plain-cut : plainStep geo (cut ms) (foundWritten geo (cut ms) w) (w .plain)
-        ≡ still (plainAt (w .store) (w .plain) (cond (verdict-cut .laid) (overlay (w .plain .G) (w .plain .S)) (w .plain .S)) (verdict-cut .n) (verdict-cut .F))
+        ≡ still (plainAt (w .store) (w .plain) (cond (verdict-cut .laid) (layOver (w .plain .G) (w .plain .S)) (w .plain .S)) (verdict-cut .n) (verdict-cut .F))
     unfolding plainCut
     plain-cut = plain-served geo (cut ms) (foundWritten geo (cut ms) w) (w .plain) h ∙ ap (λ (t : Bool). plainCut geo ms t (w .plain)) found-cut
 
@@ -179,6 +179,7 @@ module _ (geo : Geometry) where
             power = ap (λ (s : State). s .rec .power) store-cut ∙ sym (b .power) ∙ sym (ap (λ (o : Done). o .plain .power) plain-cut);
             waiting = ap (λ (s : State). s .rec .waiting) store-cut ∙ sym (ap (λ (o : Done). o .plain .waiting) plain-cut);
             n = λ z. absurd (omega (arith, sym (ap (λ (s : State). s .rec .mode) store-cut) ∙ z));
+            save = λ z. absurd (omega (arith, sym (ap (λ (s : State). s .rec .mode) store-cut) ∙ z));
           };
           sim = λ e. sim-at geo store-cut ledger-cut (ap (λ (o : Done). o .plain) plain-cut) (cut-sim geo ms (w .store) (w .plain) _ _ _ _ b (leads-cut .clean (sym exception-cut ∙ e)));
           safe =

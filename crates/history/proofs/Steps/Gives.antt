@@ -9,7 +9,7 @@ use native.Mathlib.Decide.{decLe}
 use lib.ListN.{length}
 use Rattle.cells.specs.Entry.{blockBytes, Entry}
 use Rattle.fnv.specs.Fnv.{start}
-use Rattle.card.specs.Disk.{Disk}
+use Rattle.crash.specs.Laid.{Laid}
 use Rattle.card.specs.Card.{Card, run, blockAt}
 use Rattle.card.specs.CodeQueue.{Below}
 use Rattle.card.proofs.All.{All}
@@ -79,7 +79,7 @@ module _ (geo : Geometry) where
     group-listed e = record { count = rc .group-count; homes = rc .lists e .group-data; distinct = rc .lists e .group-distinct }
 
   -- the plain disk of an open record, with the data blocks S and the power p
-  abbrev pub openPlain : State → Record → Disk → ℕ → Plain
+  abbrev pub openPlain : State → Record → Laid → ℕ → Plain
   openPlain st r S p =
       withLists (listOf (st .work) (groupFrom geo) (r .grouped)) (listOf (st .work) openFrom (r .opened)) (withCount (r .logged) (withPower p (withS S (blankPlain (st .rec .blocks)))))
 
@@ -110,7 +110,7 @@ module _ (geo : Geometry) where
     -- the plain disk
     pub short : ℕ → Short
     pub waits : ℕ → ℕ
-    pub S : Disk
+    pub S : Laid
     pub plain-done : takes plan ≤ w .plain .power
         → plainStep geo c (foundWritten geo c w) (w .plain) ≡ record { answer = 0; orders = takes plan; plain = openPlain geo (w .store) done S (w .plain .power - takes plan) }
     pub plain-short : w .plain .power < takes plan → plainStep geo c (foundWritten geo c w) (w .plain) ≡ cutShort (short (w .plain .power)) (waits (w .plain .power)) (w .plain)
@@ -123,6 +123,7 @@ module _ (geo : Geometry) where
     pub blocks : done .blocks ≡ w .store .rec .blocks
     pub opened : Listed geo (w .store .rec .blocks) (w .store .work) openFrom (done .opened)
     pub grouped : Listed geo (w .store .rec .blocks) (w .store .work) (groupFrom geo) (done .grouped)
+    pub save : S .groups ≡ done .save
     pub sum : done .sum ≡ sumOf start (logD geo (blockAt (settles [] plan (w .store .settled))) (done .logged))
     pub card : WholeCard geo Every (w .store .rec .blocks) (blockAt (settles [] plan (w .store .settled))) list S (done .logged)
     pub no-get : (a : ℕ) → c ≡ get a → ⊥
@@ -217,7 +218,7 @@ module _ (geo : Geometry) where
                     group-distinct = f .grouped .distinct;
                   };
                 });
-            mirrors = record { mode = sym (f .mode); N = sym (f .blocks); waiting = sym (left .count); T = λ z. refl; G = λ z. refl };
+            mirrors = record { mode = sym (f .mode); N = sym (f .blocks); waiting = sym (left .count); T = λ z. refl; G = λ z. refl; save = λ z. f .save };
             power = sym (left .power);
           };
           phase = _⊎_.inl (record {
@@ -261,7 +262,7 @@ module _ (geo : Geometry) where
                   waiting-below = rw (f .counts .blocks) below;
                   lists = λ z. absurd (omega arith);
                 });
-            mirrors = record { mode = refl; N = b .mirrors .N ∙ sym (f .counts .blocks); waiting = x .met .waiting ∙ sym (x .left .count); T = λ z. absurd (omega arith); G = λ z. absurd (omega arith) };
+            mirrors = record { mode = refl; N = b .mirrors .N ∙ sym (f .counts .blocks); waiting = x .met .waiting ∙ sym (x .left .count); T = λ z. absurd (omega arith); G = λ z. absurd (omega arith); save = λ z. absurd (omega arith) };
             power = sym (x .left .power);
           };
           phase = _⊎_.inr (_⊎_.inr (record { mode = refl; cuts = λ ms h. rw (f .counts .blocks) (x .met .leads _ (x .left) ms (ap (marksFit ms) (sym (x .left .count)) ∙ h)) }));

@@ -76,7 +76,7 @@ module _ (geo : Geometry) where
         basics = record {
           sizes = b .sizes;
           counts = b .counts;
-          mirrors = record { mode = r .mode; N = r .N; waiting = r .waiting; T = r .T; G = r .G };
+          mirrors = record { mode = r .mode; N = r .N; waiting = r .waiting; T = r .T; G = r .G; save = r .save };
           power = refl;
         };
         phase = go (m .phase);
@@ -175,7 +175,7 @@ module _ (geo : Geometry) where
                 group-distinct = rw (g .list) (g .distinct);
               };
             });
-            mirrors = record { mode = b .mode; N = b .N; waiting = b .waiting; T = λ h. sym (t .list); G = λ h. sym (g .list) };
+            mirrors = record { mode = b .mode; N = b .N; waiting = b .waiting; T = λ h. sym (t .list); G = λ h. sym (g .list); save = b .save };
             power = m .basics .power;
           };
           phase = _⊎_.inl (record { mode = o .mode; n = o .n; F = o .F; short = o .short; pending = o .pending; sum = o .sum; card = o .card });

@@ -9,7 +9,7 @@ use native.Mathlib.Decide.{ℕ-discrete}
 use borrow.Author.Tests.{eq-eqb}
 use Rattle.cells.specs.Entry.{Entry}
 use Rattle.fnv.specs.Fnv.{start}
-use Rattle.card.specs.Disk.{Disk}
+use Rattle.crash.specs.Laid.{Laid}
 use Rattle.card.specs.Card.{settle, blockAt}
 use Rattle.card.proofs.Runs.{Whole}
 use Rattle.card.specs.Marks.{keptAt}
@@ -56,7 +56,7 @@ module _ (geo : Geometry) where
       go (_⊎_.inr (_⊎_.inl o)) = o
       go (_⊎_.inr (_⊎_.inr o)) = absurd (true≢false (rw (eq-eqb _ _ (o .mode)) at (p .own .0)))
 
-  module _ (st : State) (v : List Entry) (S : Disk) (n : ℕ) (F x : Bool) (f : Closed geo st v S n F) where
+  module _ (st : State) (v : List Entry) (S : Laid) (n : ℕ) (F x : Bool) (f : Closed geo st v S n F) where
     abbrev w : World
     w = closedWorld st v S n F x
 
@@ -102,7 +102,7 @@ module _ (geo : Geometry) where
     whole : F ≡ false → WholeCard geo Every N (blockAt s) v S n → Gives geo recover w []
     unfolding entered
     whole e r = record {
-      done = reopened n sum (st .rec);
+      done = reopened n sum (S .groups) (st .rec);
       gone = st .rec;
       call = call _ (choose-whole geo N s small v S n r);
       none-waits = idle;
@@ -122,6 +122,7 @@ module _ (geo : Geometry) where
       blocks = refl;
       opened = none-listed geo _ _ _;
       grouped = none-listed geo _ _ _;
+      save = refl;
       sum = ap (sumOf start) (entries-disk geo s n);
       card = r;
       no-get = recover-no-get;
@@ -130,7 +131,7 @@ module _ (geo : Geometry) where
     -- one is: the fallback's
     module _ (e : F ≡ true) (r : FallCard geo Every N (blockAt s) v S n) where
       abbrev top : Entry
-      top = headerEntry (fallHeader geo N s n)
+      top = headerEntry (fallHeader geo N s n (S .groups))
 
       abbrev plan : Plan
       plan = (top ∷ []) ∷ []
@@ -145,7 +146,7 @@ module _ (geo : Geometry) where
       list = ap (λ (c : Choice). entries geo s (takenCount c)) chosen ∙ log-is
 
       top-whole : Whole top
-      top-whole = length-encode (fallHeader geo N s n)
+      top-whole = length-encode (fallHeader geo N s n (S .groups))
 
       begins : Behind geo Every Every N s [] v S n true
       begins = none-behind geo big small (rc .blocks) r
@@ -186,9 +187,9 @@ module _ (geo : Geometry) where
       fallback : Gives geo recover w plan
       unfolding entered recoverHeaders noted
       fallback = record {
-        done = reopened n (sumOf start (logD geo (blockAt s) n)) (st .rec);
+        done = reopened n (sumOf start (logD geo (blockAt s) n)) (S .groups) (st .rec);
         gone = st .rec;
-        call = call _ chosen ∙ rw (fallback-writes N n (sumOf start (logD geo (blockAt s) n)));
+        call = call _ chosen ∙ rw (fallback-writes N n (sumOf start (logD geo (blockAt s) n)) (S .groups));
         none-waits = idle;
         fits = (record { few = omega arith; whole = (top-whole, tt); low = (omega (arith, big), tt) }, tt);
         counts = countable geo st rc (st .rec .logged) (st .rec .sum) (rc .log-count);
@@ -206,12 +207,13 @@ module _ (geo : Geometry) where
         blocks = refl;
         opened = none-listed geo _ _ _;
         grouped = none-listed geo _ _ _;
+        save = refl;
         sum = ap (sumOf start) (fallen .same);
         card = fallen;
         no-get = recover-no-get;
       }
 
-  recover-closed : (st : State) (v : List Entry) (S : Disk) (n : ℕ) (F x : Bool) → Closed geo st v S n F → StepOK geo recover (closedWorld st v S n F x)
+  recover-closed : (st : State) (v : List Entry) (S : Laid) (n : ℕ) (F x : Bool) → Closed geo st v S n F → StepOK geo recover (closedWorld st v S n F x)
   recover-closed st v S n false x f = gives-step geo recover _ _ (f .basics) (whole st v S n false x f refl (f .sim .card))
   recover-closed st v S n true x f = gives-step geo recover _ _ (f .basics) (fallback st v S n true x f refl (f .sim .card))
 

@@ -1,11 +1,12 @@
 -- What a step of a history has to show, and the steps that change nothing: refused calls.
-use Prim.Native.Nat.{ℕ, _^_, _≤_, _<_}
+use Prim.Native.Nat.{ℕ, _+_, _-_, _^_, _≤_, _<_}
 use mathlib.Core.Path.{_≡_, refl, ap, sym, _∙_}
 use mathlib.Core.Logic.{_≢_, _⊎_}
-use mathlib.Core.Bool.{Bool, true, false}
+use mathlib.Core.Bool.{Bool, true, false, not, _&&_}
 use mathlib.Core.List.{List, [], _∷_}
 use native.Mathlib.Omega.{arith}
-use borrow.Author.Tests.{eq-eqb, ne-eqb, le-leb}
+use borrow.Author.Tests.{eq-eqb, ne-eqb, eqb-true, le-leb}
+use lib.Dec.{eqb}
 use Rattle.cells.specs.Entry.{Entry}
 use Rattle.fnv.specs.Fnv.{start}
 use Rattle.card.specs.Card.{blockAt}
@@ -15,6 +16,7 @@ use Rattle.journal.specs.Layout.{firstData}
 use Rattle.journal.specs.Header.{header}
 use Rattle.journal.specs.Log.{headerOf, entries, sumOf}
 use Rattle.journal.specs.Choice.{foreign, choose, choiceNumber}
+use Rattle.crash.specs.Laid.{Laid}
 use Rattle.crash.proofs.Cards.{Every, WholeCard, FallCard, ClosedCard}
 use Rattle.crash.proofs.Leads.{read-head}
 use Rattle.crash.proofs.Logs.{logD, entries-disk}
@@ -48,7 +50,7 @@ module _ (geo : Geometry) where
     pub sim : exception geo c w ≡ false → Sim geo (storeNext geo c w) (ledgerNext geo c w) (plainNext c w)
     pub safe : Safe geo (storeNext geo c w) (ledgerNext geo c w)
 
-  -- n, when open
+  -- n and the save number, when open
   pub sim-n : (st : State) (l : Ledger) (d : Plain) → Sim geo st l d → st .rec .mode ≡ openMode → st .rec .logged ≡ d .n
   sim-n st l d m h = go (m .phase)
     where
@@ -76,6 +78,7 @@ module _ (geo : Geometry) where
           power = sym (s .sim .basics .power);
           waiting = sym (m .waiting);
           n = sim-n (storeNext geo c w) (ledgerNext geo c w) (plainNext c w) (s .sim);
+          save = λ h. sym (m .save h);
         };
         sim = λ e. s .sim;
         safe = record { ledger = ledgerNext geo c w; plain = plainNext c w; sim = s .sim; even = even-refl (ledgerNext geo c w) };
@@ -94,27 +97,31 @@ module _ (geo : Geometry) where
   pub big-N : (st : State) (d : Plain) → Basics geo st d → firstData geo < st .rec .blocks
   big-N st d b = let s = sizes-facts geo st (b .sizes) in let r = record-facts geo st (b .counts) in omega (arith, s .least, r .blocks)
 
-  ours : (N p ps c ns : ℕ) → p ≤ c → c ≤ geo .slots → foreign geo N (header N p ps c ns) ≡ false
-  ours N p ps c ns h k = rw (eq-eqb N N refl, le-leb c (geo .slots) k, le-leb p c h)
+  ours : (N p ps c ns k : ℕ) → p ≤ c → c ≤ geo .slots → (k ≡ 0 → (p ≡ c) × (ps ≡ ns)) → foreign geo N (header N p ps c ns k) ≡ false
+  ours N p ps c ns k h l z = rw (eq-eqb N N refl, le-leb c (geo .slots) l, le-leb p c h) (go (eqb k 0) refl)
+    where
+      go : (t : Bool) → eqb k 0 ≡ t → t && not (eqb p c && eqb ps ns) ≡ false
+      go true e = let same = z (eqb-true _ _ e) in rw (eq-eqb _ _ (same .0), eq-eqb _ _ (same .1))
+      go false e = refl
 
   -- the head of an opened card gives no foreign header
   module _ (N : ℕ) (s : List ℕ) (small : N < 2 ^ 32) where
-    pub choose-whole : (w : List Entry) (S : Rattle.card.specs.Disk.Disk) (n : ℕ) → WholeCard geo Every N (blockAt s) w S n → choose geo N s ≡ Whole n (sumOf start (entries geo s n))
+    pub choose-whole : (w : List Entry) (S : Laid) (n : ℕ) → WholeCard geo Every N (blockAt s) w S n → choose geo N s ≡ Whole n (sumOf start (entries geo s n)) (S .groups)
     unfolding choose
     choose-whole w S n r =
-        let h : headerOf s ≡ header N (r .p) (r .ps) n (sumOf start (logD geo (blockAt s) n)) = read-head geo s N (r .p) (r .ps) n (sumOf start (logD geo (blockAt s) n)) small (r .head) in
+        let h : headerOf s ≡ header N (r .p) (r .ps) n (sumOf start (logD geo (blockAt s) n)) (S .groups) = read-head geo s N (r .p) (r .ps) n (sumOf start (logD geo (blockAt s) n)) (S .groups) small (r .head) in
         let e : entries geo s n ≡ logD geo (blockAt s) n = entries-disk geo s n in
-        rw (h, ours N (r .p) (r .ps) n (sumOf start (logD geo (blockAt s) n)) (r .head .ordered) (r .head .most), e, eq-eqb (sumOf start (logD geo (blockAt s) n)) (sumOf start (logD geo (blockAt s) n)) refl, r .all)
+        rw (h, ours N (r .p) (r .ps) n (sumOf start (logD geo (blockAt s) n)) (S .groups) (r .head .ordered) (r .head .most) (r .head .numbered), e, eq-eqb (sumOf start (logD geo (blockAt s) n)) (sumOf start (logD geo (blockAt s) n)) refl, r .all)
 
-    pub choose-fallback : (w : List Entry) (S : Rattle.card.specs.Disk.Disk) (n : ℕ) → FallCard geo Every N (blockAt s) w S n → choose geo N s ≡ Fallback n (sumOf start (entries geo s n))
+    pub choose-fallback : (w : List Entry) (S : Laid) (n : ℕ) → FallCard geo Every N (blockAt s) w S n → choose geo N s ≡ Fallback n (sumOf start (entries geo s n)) (S .groups)
     unfolding choose
     choose-fallback w S n r =
-        let h : headerOf s ≡ header N n (sumOf start (logD geo (blockAt s) n)) (r .c) (r .ns) = read-head geo s N n (sumOf start (logD geo (blockAt s) n)) (r .c) (r .ns) small (r .head) in
+        let h : headerOf s ≡ header N n (sumOf start (logD geo (blockAt s) n)) (r .c) (r .ns) (S .groups + 1) = read-head geo s N n (sumOf start (logD geo (blockAt s) n)) (r .c) (r .ns) (S .groups + 1) small (r .head) in
         let e : entries geo s n ≡ logD geo (blockAt s) n = entries-disk geo s n in
         let f : entries geo s (r .c) ≡ logD geo (blockAt s) (r .c) = entries-disk geo s (r .c) in
-        rw (h, ours N n (sumOf start (logD geo (blockAt s) n)) (r .c) (r .ns) (r .head .ordered) (r .head .most), f, r .bad, e, eq-eqb (sumOf start (logD geo (blockAt s) n)) (sumOf start (logD geo (blockAt s) n)) refl, r .all)
+        rw (h, ours N n (sumOf start (logD geo (blockAt s) n)) (r .c) (r .ns) (S .groups + 1) (r .head .ordered) (r .head .most) (r .head .numbered), f, r .bad, e, eq-eqb (sumOf start (logD geo (blockAt s) n)) (sumOf start (logD geo (blockAt s) n)) refl, r .all)
 
-  pub closed-choice : (N : ℕ) (s : List ℕ) (w : List Entry) (S : Rattle.card.specs.Disk.Disk) (n : ℕ) (F : Bool) → N < 2 ^ 32 → ClosedCard geo Every N (blockAt s) w S n F → choiceNumber (choose geo N s) ≡ 0
+  pub closed-choice : (N : ℕ) (s : List ℕ) (w : List Entry) (S : Laid) (n : ℕ) (F : Bool) → N < 2 ^ 32 → ClosedCard geo Every N (blockAt s) w S n F → choiceNumber (choose geo N s) ≡ 0
   closed-choice N s w S n false l r = ap choiceNumber (choose-whole N s l w S n r)
   closed-choice N s w S n true l r = ap choiceNumber (choose-fallback N s l w S n r)
 

@@ -1,5 +1,5 @@
 -- The step of a sync: an append behind the batches of the apply inside, if there is one.
-use Prim.Native.Nat.{ℕ, suc, _+_, _-_, _≤_, _<_}
+use Prim.Native.Nat.{ℕ, suc, _+_, _-_, _^_, _≤_, _<_}
 use mathlib.Core.Path.{_≡_, refl, ap, ap₂, sym, subst, _∙_}
 use mathlib.Core.Logic.{_≢_}
 use mathlib.Core.Bool.{Bool, true, false, cond}
@@ -7,18 +7,19 @@ use mathlib.Core.List.{List, [], _∷_, _++_}
 use native.Mathlib.Omega.{arith}
 use native.Mathlib.Decide.{ℕ-discrete, decLe}
 use native.Mathlib.Nat.{add-zero}
-use borrow.Author.Tests.{eq-eqb}
+use borrow.Author.Tests.{eq-eqb, ne-eqb}
 use lib.Dec.{leb}
 use lib.ListN.{length, take, length-take}
 use Rattle.cells.specs.Entry.{Entry}
 use Rattle.fnv.specs.Fnv.{start}
-use Rattle.card.specs.Disk.{Disk, overlay}
+use Rattle.crash.specs.Laid.{Laid, layOver}
 use Rattle.card.specs.Card.{Card, Order, run, cut, settle, blockAt}
 use Rattle.card.proofs.All.{all-append}
 use Rattle.card.proofs.Runs.{run-nil}
 use Rattle.card.specs.Marks.{marksFit, keptAt, allKept}
 use Rattle.journal.specs.Geometry.{Geometry}
 use Rattle.journal.specs.Layout.{headerAt}
+use Rattle.journal.specs.Header.{mostSave, encode, header}
 use Rattle.journal.specs.Log.{entries, sumOf}
 use Rattle.journal.specs.Orders.{syncOrders}
 use Rattle.journal.proofs.Logs.{sumOf-nil}
@@ -30,10 +31,10 @@ use Rattle.crash.proofs.Logs.{logD}
 use Rattle.crash.proofs.Appends.{length-append-writes}
 use Rattle.store.specs.Request as Request
 use Rattle.store.specs.declared.record.Record.{Record}
-use Rattle.store.specs.State.{State, Outcome, withGrouped, withLog, cardIn}
+use Rattle.store.specs.State.{State, Outcome, withGrouped, withLog, withSave, cardIn}
 use Rattle.store.specs.Lists.{groupFrom, listOf}
 use Rattle.store.specs.Causes.{cause}
-use Rattle.store.specs.Saves.{carried, groupOf, applies, metByAppend, innerOrders}
+use Rattle.store.specs.Saves.{carried, groupOf, applies, metByAppend, savedAs, innerOrders}
 use Rattle.history.specs.Call.{get, sync}
 use Rattle.history.specs.Plain.{Plain, ofSync, refusal, plainStep, plainSync, syncTakes, syncWaits, ownVerdict, unchanged}
 use Rattle.history.specs.Dispatch.{called, dispatch}
@@ -44,13 +45,13 @@ use Rattle.crash.proofs.Plans.{Plan, planned, takes, settles, Fits, Asked, Thro
 use Rattle.history.proofs.Steps.AppendEnds.{writes-fit, short-before, short-top, whole-found, done-card, done-sum, done-logged}
 use Rattle.history.proofs.Relation.CauseLaws.{RecordFacts, record-facts}
 use Rattle.history.proofs.Relation.Sim.{OpenSim, cutWritten, cutSettled, leads-still, leads-laid}
-use Rattle.history.proofs.Relation.PlainLaws.{sync-takes, sync-waits-own, choose-sync-own, choose-sync-before, sync-nothing, sync-finished, sync-short, kept-mark}
+use Rattle.history.proofs.Relation.PlainLaws.{sync-takes, sync-waits-own, choose-sync-own, choose-sync-before, not-last, sync-nothing, sync-finished, sync-short, kept-mark}
 use Rattle.history.proofs.Steps.Shown.{WorldSim, StepOK, same-cause, plain-served, noted-none}
 use Rattle.history.proofs.Steps.Notes.{note-before, note-at, note-past, noted-end}
 use Rattle.history.proofs.Steps.CallEnds.{carried-done}
 use Rattle.history.proofs.Steps.Gives.{openPlain, Countable, none-listed, countable, open-listed, CutsAt, Gives, gives-step, gives-enough, gives-less, gives-settled, short-call, stopped}
 use Rattle.history.proofs.Relation.OpenFacts as Facts
-use Rattle.history.proofs.Steps.Worlds.{settledLedger, plainNow, openWorld, Opened, opened-sim, open-world, opened, open-step}
+use Rattle.history.proofs.Steps.Worlds.{settledLedger, plainNow, openWorld, Opened, opened-sim, open-world, opened, opened-refusal, open-step}
 use Rattle.history.proofs.Steps.Apply.{nothing-step}
 use Rattle.history.proofs.Steps.SyncMeets.{Met, met}
 
@@ -58,7 +59,7 @@ sync-no-get : (a : ℕ) → sync ≡ get a → ⊥
 sync-no-get a e = let z : _≡_ {A = ℕ} 0 1 = cc in omega arith
 
 module _ (geo : Geometry) where
-  module _ (st : State) (v : List Entry) (S : Disk) (x : Bool) (f : Opened geo st v S) where
+  module _ (st : State) (v : List Entry) (S : Laid) (x : Bool) (f : Opened geo st v S) (h : refusal geo sync (plainNow geo st S) ≡ 0) where
     abbrev w : World
     w = openWorld geo st v S x
 
@@ -80,23 +81,26 @@ module _ (geo : Geometry) where
     none : st .rec .waiting ≡ 0
     none = Facts.none-waits geo st (settledLedger v) d (f .basics) (f .sim)
 
-    served : refusal geo sync d ≡ 0
-    unfolding refusal
-    served = refl
-
     accepted : cause geo Request.sync st ≡ 0
-    accepted = same-cause geo st (settledLedger v) d (opened-sim geo f) sync ∙ served
+    accepted = same-cause geo st (settledLedger v) d (opened-sim geo f) sync ∙ h
 
-    abbrev saving : List Order → Record → Outcome
-    saving os r =
-        carried os (withGrouped 0 (withLog (r .logged + st .rec .grouped) (sumOf (r .sum) (groupOf geo st)) r)) (cond (leb (length (innerOrders geo st)) (st .rec .power)) r (st .rec)) st
+    -- row 12 has passed: a group that is not empty has a number to come
+    next-number : st .rec .grouped ≢ 0 → S .groups + 1 < 2 ^ 64
+    next-number z =
+        let free : S .groups ≢ mostSave = not-last d h (λ e. z (sym length-G ∙ e)) in
+        let most : S .groups < 2 ^ 64 = f .sim .card .head .save in
+        omega arith
 
-    call : dispatch geo sync st ≡ saving (syncOrders geo N (st .settled) (st .rec .logged) (st .rec .sum) G) (metByAppend geo st)
+    abbrev saving : List Order → Record → ℕ → Outcome
+    saving os r c =
+        carried os (withGrouped 0 (withLog (r .logged + st .rec .grouped) (sumOf (r .sum) (groupOf geo st)) (withSave c r))) (cond (leb (length (innerOrders geo st)) (st .rec .power)) r (st .rec)) st
+
+    call : dispatch geo sync st ≡ saving (syncOrders geo N (st .settled) (st .rec .logged) (st .rec .sum) (st .rec .save) G) (metByAppend geo st) (savedAs st)
     unfolding called
     call = rw (eq-eqb _ 0 accepted)
 
     plain : plainStep geo sync (foundWritten geo sync w) d ≡ plainSync geo d
-    plain = plain-served geo sync (foundWritten geo sync w) d served
+    plain = plain-served geo sync (foundWritten geo sync w) d h
 
     -- ---- an empty group
 
@@ -106,8 +110,8 @@ module _ (geo : Geometry) where
         let zero-G : length G ≡ 0 = length-G ∙ z in
         let nil : G ≡ [] = ap (λ (k : ℕ). listOf (st .work) (groupFrom geo) k) z in
         let single : applies geo st ≡ false = rw (eq-eqb _ 0 z) in
-        let same : withGrouped 0 (withLog (metByAppend geo st .logged + st .rec .grouped) (sumOf (metByAppend geo st .sum) G) (metByAppend geo st)) ≡ st .rec =
-        rw single
+        let same : withGrouped 0 (withLog (metByAppend geo st .logged + st .rec .grouped) (sumOf (metByAppend geo st .sum) G) (withSave (savedAs st) (metByAppend geo st))) ≡ st .rec =
+        rw (single, eq-eqb _ 0 z)
         (λ i. withGrouped (sym z i)
         (withLog ((ap (λ (k : ℕ). st .rec .logged + k) z ∙ add-zero (st .rec .logged)) i) ((ap (λ (g : List Entry). sumOf (st .rec .sum) g) nil ∙ sumOf-nil (st .rec .sum)) i) (st .rec))) in
         let D : dispatch geo sync st ≡ record { answer = 0; orders = 0; state = st } =
@@ -132,13 +136,13 @@ module _ (geo : Geometry) where
       log = logD geo (blockAt (settles [] (y .front) (st .settled))) (y .n)
 
       abbrev W : List Entry
-      W = appendWrites geo N (settles [] (y .front) (st .settled)) (y .n) (y .sum) G
+      W = appendWrites geo N (settles [] (y .front) (st .settled)) (y .n) (y .sum) (S .groups + 1) G
 
       abbrev plan : Plan
       plan = y .front ++ (W ∷ [])
 
       length-W : length W ≡ length G + geo .descriptors + 1
-      length-W = length-append-writes geo N s (y .n) (y .sum) G
+      length-W = length-append-writes geo N s (y .n) (y .sum) (S .groups + 1) G
 
       count : takes plan ≡ takes (y .front) + (length G + geo .descriptors + 2)
       count = takes-append (y .front) (W ∷ []) ∙ (omega (arith, length-W))
@@ -219,17 +223,20 @@ module _ (geo : Geometry) where
       sum-is : sumOf (y .sum) G ≡ sumOf start (logD geo (blockAt (settles [] plan (st .settled))) (y .n + st .rec .grouped))
       sum-is = done-sum geo (y .meets) ∙ (λ i. sumOf start (logD geo (blockAt (sym settled-plan i)) (y .n + length-G i)))
 
-      card-is : WholeCard geo Every N (blockAt (settles [] plan (st .settled))) (log ++ G) (overlay G S) (y .n + st .rec .grouped)
+      card-is : WholeCard geo Every N (blockAt (settles [] plan (st .settled))) (log ++ G) (layOver G S) (y .n + st .rec .grouped)
       card-is =
           let e : y .n + length G ≡ y .n + st .rec .grouped = ap (λ (k : ℕ). y .n + k) length-G in
-          rw settled-plan (subst (WholeCard geo Every N (blockAt (settle W s)) (log ++ G) (overlay G S)) e (done-card geo (y .meets)))
+          rw settled-plan (subst (WholeCard geo Every N (blockAt (settle W s)) (log ++ G) (layOver G S)) e (done-card geo (y .meets)))
+
+      raised : savedAs st ≡ st .rec .save + 1
+      raised = ap (λ (t : Bool). cond t (st .rec .save) (st .rec .save + 1)) (ne-eqb _ 0 z)
 
       pub gives : Gives geo sync w plan
       unfolding entered
       gives = record {
-        done = withGrouped 0 (withLog (y .n + st .rec .grouped) (sumOf (y .sum) G) (st .rec));
+        done = withGrouped 0 (withLog (y .n + st .rec .grouped) (sumOf (y .sum) G) (withSave (st .rec .save + 1) (st .rec)));
         gone = cond (leb (length (innerOrders geo st)) (st .rec .power)) (withLog (y .n) (y .sum) (st .rec)) (st .rec);
-        call = call ∙ ap₂ saving (y .orders some-G) (y .record-is);
+        call = call ∙ (λ i. saving (y .orders some-G i) (y .record-is i) (raised i));
         none-waits = none;
         fits = all-append (Fits geo N 0) (y .front) (W ∷ []) (y .fits) (writes-fit geo (y .meets), tt);
         counts = gone-counts (leb (length (innerOrders geo st)) (st .rec .power));
@@ -237,10 +244,10 @@ module _ (geo : Geometry) where
         notes = refl;
         short = ofSync;
         waits = syncWaits geo (st .rec .logged) (length G);
-        S = overlay G S;
+        S = layOver G S;
         plain-done = λ p.
             plain ∙ sync-finished geo d some-G (omega (arith, takes-is))
-            ∙ ap₂ (λ (k c : ℕ). record { answer = 0; orders = k; plain = openPlain geo st (withGrouped 0 (withLog c (sumOf (y .sum) G) (st .rec))) (overlay G S) (st .rec .power - k) })
+            ∙ ap₂ (λ (k c : ℕ). record { answer = 0; orders = k; plain = openPlain geo st (withGrouped 0 (withLog c (sumOf (y .sum) G) (withSave (st .rec .save + 1) (st .rec)))) (layOver G S) (st .rec .power - k) })
             takes-is (ap₂ (λ (a b : ℕ). a + b) (y .n-is) length-G);
         plain-short = λ p. plain ∙ sync-short geo d some-G (omega (arith, takes-is));
         cuts = cuts;
@@ -250,6 +257,7 @@ module _ (geo : Geometry) where
         blocks = refl;
         opened = open-listed geo st rc (f .sim .mode);
         grouped = none-listed geo _ _ _;
+        save = ap (λ (k : ℕ). k + 1) (f .basics .mirrors .save (f .sim .mode));
         sum = sum-is;
         card = card-is;
         no-get = sync-no-get;
@@ -261,7 +269,8 @@ module _ (geo : Geometry) where
       own-logged e =
           let q = done-logged geo (y .meets) (standing geo st) (y .standing-is) in
           let t : dispatch geo sync st .state .settled ≡ settle W s = gives-settled geo sync w plan (f .basics) gives (gives-enough geo sync w plan (f .basics) gives e) ∙ settled-plan in
-          record { head = ap (λ (i : List ℕ). blockAt i headerAt) t ∙ q .0; list = ap (λ (i : List ℕ). entries geo i (length (standing geo st ++ G))) t ∙ q .1 }
+          let c : S .groups + 1 ≡ st .rec .save + 1 = ap (λ (k : ℕ). k + 1) (f .basics .mirrors .save (f .sim .mode)) in
+          record { head = ap (λ (i : List ℕ). blockAt i headerAt) t ∙ q .0 ∙ ap (λ (k : ℕ). encode (header N (length (standing geo st)) (sumOf start (standing geo st)) (length (standing geo st ++ G)) (sumOf start (standing geo st ++ G)) k)) c; list = ap (λ (i : List ℕ). entries geo i (length (standing geo st ++ G))) t ∙ q .1 }
 
       -- ---- cut short behind its own header, with every write kept: the log found is the log written
 
@@ -298,7 +307,7 @@ module _ (geo : Geometry) where
       where
         go : Dec (st .rec .grouped ≡ 0) → StepOK geo sync w
         go (yes z) = empty z
-        go (no z) = gives-step geo sync w _ (f .basics) (gives z (met geo st v S x f z))
+        go (no z) = gives-step geo sync w _ (f .basics) (gives z (met geo st v S x f z (next-number z)))
 
   pub sync-step : (w : World) → WorldSim geo w → StepOK geo sync w
   sync-step = open-step geo sync refl sync-open
@@ -309,15 +318,18 @@ module _ (geo : Geometry) where
     f : Opened geo (w .store) (w .ledger .written) (w .plain .S)
     f = opened geo w (m .basics) o
 
+    served : refusal geo sync (plainNow geo (w .store) (w .plain .S)) ≡ 0
+    served = opened-refusal geo w (m .basics) o sync h
+
     meets : Met geo (w .store) (w .ledger .written) (w .plain .S) (w .excepted)
-    meets = met geo (w .store) (w .ledger .written) (w .plain .S) (w .excepted) f z
+    meets = met geo (w .store) (w .ledger .written) (w .plain .S) (w .excepted) f z (next-number (w .store) (w .ledger .written) (w .plain .S) (w .excepted) f served z)
 
     pub logged : dispatch geo sync (w .store) .answer ≡ 0 → Logged geo (w .store) (dispatch geo sync (w .store) .state)
-    logged = own-logged (w .store) (w .ledger .written) (w .plain .S) (w .excepted) f z meets
+    logged = own-logged (w .store) (w .ledger .written) (w .plain .S) (w .excepted) f served z meets
 
     pub short-whole : dispatch geo sync (w .store) .answer ≡ 4 → dispatch geo sync (w .store) .orders ≡ inner geo (w .store) + (w .store .rec .grouped + geo .descriptors + 1)
         → (ms : List ℕ) → marksFit ms (dispatch geo sync (w .store) .state .rec .waiting) ≡ true → allKept ms ≡ true
         → (keptAt ms (w .store .rec .grouped + geo .descriptors) ≡ true) × (sameLog (foundIn geo (cutSettled ms (dispatch geo sync (w .store) .state))) (cutWritten ms (ledgerNext geo sync w)) ≡ true)
     short-whole a q ms l ones =
         subst (λ (i : World). (keptAt ms (i .store .rec .grouped + geo .descriptors) ≡ true) × (sameLog (foundIn geo (cutSettled ms (dispatch geo sync (i .store) .state))) (cutWritten ms (ledgerNext geo sync i)) ≡ true)) (sym (open-world geo w (m .basics) o))
-        (own-whole (w .store) (w .ledger .written) (w .plain .S) (w .excepted) f z meets a q ms l ones)
+        (own-whole (w .store) (w .ledger .written) (w .plain .S) (w .excepted) f served z meets a q ms l ones)

@@ -1,5 +1,5 @@
 -- What the append of a sync meets: the state itself; or what the apply inside left.
-use Prim.Native.Nat.{ℕ, _+_, _-_, _≤_, _<_}
+use Prim.Native.Nat.{ℕ, _+_, _-_, _^_, _≤_, _<_}
 use mathlib.Core.Path.{_≡_, ap, ap₂, sym, _∙_}
 use mathlib.Core.Logic.{_≢_}
 use mathlib.Core.Bool.{Bool, true, false}
@@ -10,12 +10,12 @@ use borrow.Author.Tests.{ne-eqb, le-leb, lt-leb}
 use lib.ListN.{length}
 use Rattle.cells.specs.Entry.{Entry}
 use Rattle.fnv.specs.Fnv.{start}
-use Rattle.card.specs.Disk.{Disk}
+use Rattle.crash.specs.Laid.{Laid}
 use Rattle.card.specs.Card.{Order, blockAt, blocksIn}
 use Rattle.card.proofs.All.{All}
 use Rattle.journal.specs.Geometry.{Geometry}
 use Rattle.journal.specs.Log.{sumOf}
-use Rattle.journal.specs.Orders.{syncOrders}
+use Rattle.journal.specs.Orders.{appendOrders, syncOrders}
 use Rattle.journal.proofs.Logs.{sumOf-nil}
 use Rattle.journal.proofs.OrderLists.{appendWrites, append-writes, append-afresh}
 use Rattle.crash.proofs.Logs.{logD}
@@ -39,7 +39,7 @@ use Rattle.history.proofs.Steps.Worlds.{settledLedger, plainNow, openWo
 use Rattle.history.proofs.Steps.Checkpoints.{checkpoint, checkpoint-orders, checkpoint-takes, checkpoint-fits, CheckpointCuts, checkpoint-cuts, size-emptied, emptied-card}
 
 module _ (geo : Geometry) where
-  module _ (st : State) (v : List Entry) (S : Disk) (x : Bool) where
+  module _ (st : State) (v : List Entry) (S : Laid) (x : Bool) where
     abbrev w : World
     w = openWorld geo st v S x
 
@@ -58,7 +58,7 @@ module _ (geo : Geometry) where
       pub meets : Appends geo N (settles [] front (st .settled)) n sum G list S
       -- the store
       pub fits : All (Fits geo N 0) front
-      pub orders : length G ≢ 0 → syncOrders geo N (st .settled) (st .rec .logged) (st .rec .sum) G ≡ planned (front ++ (appendWrites geo N (settles [] front (st .settled)) n sum G ∷ []))
+      pub orders : length G ≢ 0 → syncOrders geo N (st .settled) (st .rec .logged) (st .rec .sum) (st .rec .save) G ≡ planned (front ++ (appendWrites geo N (settles [] front (st .settled)) n sum (S .groups + 1) G ∷ []))
       pub record-is : metByAppend geo st ≡ withLog n sum (st .rec)
       -- the ledger
       pub inner-is : inner geo st ≡ takes front
@@ -70,7 +70,7 @@ module _ (geo : Geometry) where
       -- cut short inside
       pub cuts : Throughout (CutsAt geo w (syncHeaders geo st) ofSync (syncWaits geo (st .rec .logged) (length G))) [] front (st .settled) 0
 
-  module _ (st : State) (v : List Entry) (S : Disk) (x : Bool) (f : Opened geo st v S) (z : st .rec .grouped ≢ 0) where
+  module _ (st : State) (v : List Entry) (S : Laid) (x : Bool) (f : Opened geo st v S) (z : st .rec .grouped ≢ 0) (next : S .groups + 1 < 2 ^ 64) where
     abbrev d : Plain
     d = plainNow geo st S
 
@@ -86,6 +86,9 @@ module _ (geo : Geometry) where
     length-G : length (groupOf geo st) ≡ st .rec .grouped
     length-G = Facts.length-group geo st (settledLedger v) d (f .basics) (f .sim)
 
+    save-is : S .groups ≡ st .rec .save
+    save-is = f .basics .mirrors .save (f .sim .mode)
+
     pub appends : (s : List ℕ) (k h : ℕ) (l : List Entry) → st .rec .blocks ≡ blocksIn s → k + length (groupOf geo st) ≤ geo .slots → h ≡ sumOf start (logD geo (blockAt s) k) → WholeCard geo Every (st .rec .blocks) (blockAt s) l S k
         → Appends geo (st .rec .blocks) s k h (groupOf geo st) l S
     appends s k h l size room sum card = record {
@@ -95,6 +98,7 @@ module _ (geo : Geometry) where
       blocks = Facts.group-whole geo st (settledLedger v) d (f .basics) (f .sim);
       narrow = Facts.group-short geo st (settledLedger v) d (f .basics) (f .sim);
       all-data = Facts.group-data geo st (settledLedger v) d (f .basics) (f .sim);
+      next = next;
     }
 
     -- ---- there is room
@@ -112,7 +116,7 @@ module _ (geo : Geometry) where
         list = v;
         meets = appends (st .settled) n (st .rec .sum) v (Facts.size geo st (settledLedger v) d (f .basics) (f .sim)) room (Facts.sum geo st (settledLedger v) d (f .basics) (f .sim)) (f .sim .card);
         fits = tt;
-        orders = λ some. rw (ne-eqb m 0 some, le-leb (n + m) (geo .slots) room) (append-writes geo (N st v S x) (st .settled) n (st .rec .sum) (groupOf geo st) ∙ sym (append-nil _));
+        orders = λ some. rw (save-is, ne-eqb m 0 some, le-leb (n + m) (geo .slots) room) (append-writes geo (N st v S x) (st .settled) n (st .rec .sum) (st .rec .save + 1) (groupOf geo st) ∙ sym (append-nil _));
         record-is = rw single;
         inner-is = rw single;
         standing-is = rw single (Facts.entries-log geo st (settledLedger v) d (f .basics) (f .sim));
@@ -138,16 +142,17 @@ module _ (geo : Geometry) where
       unfolding syncHeaders
       heads = rw applying
 
-      orders : m ≢ 0 → syncOrders geo (st .rec .blocks) (st .settled) n (st .rec .sum) (groupOf geo st)
-          ≡ planned (inside ++ (appendWrites geo (st .rec .blocks) (settles [] inside (st .settled)) 0 start (groupOf geo st) ∷ []))
+      orders : m ≢ 0 → syncOrders geo (st .rec .blocks) (st .settled) n (st .rec .sum) (st .rec .save) (groupOf geo st)
+          ≡ planned (inside ++ (appendWrites geo (st .rec .blocks) (settles [] inside (st .settled)) 0 start (S .groups + 1) (groupOf geo st) ∷ []))
       unfolding syncOrders
       orders some =
           rw (ne-eqb m 0 some, lt-leb (n + m) (geo .slots) over)
           (ap₂ (λ (a b : List Order). a ++ b) (checkpoint-orders geo st (settledLedger v) d (f .basics) (f .sim))
-          (append-afresh geo (st .rec .blocks) (st .settled) (settles [] inside (st .settled)) start (groupOf geo st)
-          ∙ append-writes geo (st .rec .blocks) (settles [] inside (st .settled)) 0 start (groupOf geo st)
+          (ap (λ (k : ℕ). appendOrders geo (st .rec .blocks) (st .settled) 0 start (k + 1) (groupOf geo st)) (sym save-is)
+          ∙ append-afresh geo (st .rec .blocks) (st .settled) (settles [] inside (st .settled)) start (S .groups + 1) (groupOf geo st)
+          ∙ append-writes geo (st .rec .blocks) (settles [] inside (st .settled)) 0 start (S .groups + 1) (groupOf geo st)
           ∙ sym (append-nil _))
-          ∙ sym (planned-append inside (appendWrites geo (st .rec .blocks) (settles [] inside (st .settled)) 0 start (groupOf geo st) ∷ [])))
+          ∙ sym (planned-append inside (appendWrites geo (st .rec .blocks) (settles [] inside (st .settled)) 0 start (S .groups + 1) (groupOf geo st) ∷ [])))
 
       cuts : Throughout (CutsAt geo (openWorld geo st v S x) (syncHeaders geo st) ofSync (syncWaits geo n m)) [] inside (st .settled) 0
       cuts =

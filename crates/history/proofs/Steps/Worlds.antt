@@ -1,13 +1,13 @@
 -- An open world, and a closed one, written out: the plain disk and the ledger by the store's own record and lists.
 use Prim.Native.Nat.{ℕ}
-use mathlib.Core.Path.{_≡_, refl, sym, subst, _∙_}
+use mathlib.Core.Path.{_≡_, refl, ap, sym, subst, _∙_}
 use mathlib.Core.Logic.{_⊎_}
 use mathlib.Core.Bool.{Bool, true}
 use mathlib.Core.List.{List}
 use native.Mathlib.Omega.{arith}
 use native.Mathlib.Decide.{ℕ-discrete}
 use Rattle.cells.specs.Entry.{Entry}
-use Rattle.card.specs.Disk.{Disk}
+use Rattle.crash.specs.Laid.{Laid}
 use Rattle.store.specs.State.{State, closed}
 use Rattle.store.proofs.Causes.{needsOpen}
 use Rattle.journal.specs.Geometry.{Geometry}
@@ -28,17 +28,17 @@ abbrev pub settledLedger : List Entry → Ledger
 settledLedger v = settledBy v
 
 module _ (geo : Geometry) where
-  abbrev pub plainNow : State → Disk → Plain
+  abbrev pub plainNow : State → Laid → Plain
   plainNow st S = openPlain geo st (st .rec) S (st .rec .power)
 
-  abbrev pub openWorld : State → List Entry → Disk → Bool → World
+  abbrev pub openWorld : State → List Entry → Laid → Bool → World
   openWorld st v S x = record { store = st; ledger = settledLedger v; plain = plainNow st S; excepted = x }
 
-  pub record Opened (st : State) (v : List Entry) (S : Disk) : Type 0 where
+  pub record Opened (st : State) (v : List Entry) (S : Laid) : Type 0 where
     pub basics : Basics geo st (plainNow st S)
     pub sim : OpenSim geo st (settledLedger v) (plainNow st S)
 
-  pub opened-sim : {st : State} {v : List Entry} {S : Disk} → Opened st v S → Sim geo st (settledLedger v) (plainNow st S)
+  pub opened-sim : {st : State} {v : List Entry} {S : Laid} → Opened st v S → Sim geo st (settledLedger v) (plainNow st S)
   opened-sim f = record { basics = f .basics; phase = _⊎_.inl (f .sim) }
 
   module _ (w : World) (b : Basics geo (w .store) (w .plain)) (o : OpenSim geo (w .store) (w .ledger) (w .plain)) where
@@ -62,34 +62,37 @@ module _ (geo : Geometry) where
 
     pub opened : Opened (w .store) (w .ledger .written) (w .plain .S)
     opened = record {
-      basics = record { sizes = b .sizes; counts = b .counts; mirrors = record { mode = sym (o .mode); N = refl; waiting = sym idle-open; T = λ z. refl; G = λ z. refl }; power = refl };
+      basics = record { sizes = b .sizes; counts = b .counts; mirrors = record { mode = sym (o .mode); N = refl; waiting = sym idle-open; T = λ z. refl; G = λ z. refl; save = b .mirrors .save }; power = refl };
       sim = record { mode = o .mode; n = refl; F = refl; short = refl; pending = refl; sum = o .sum; card = o .card };
     }
 
+    pub opened-refusal : (c : Call) → refusal geo c (w .plain) ≡ 0 → refusal geo c (plainNow (w .store) (w .plain .S)) ≡ 0
+    opened-refusal c h = ap (refusal geo c) (sym open-plain) ∙ h
+
   -- a call that needs an open record: its step in such a world is its step
-  pub open-step : (c : Call) → needsOpen geo (requestOf c) ≡ true → ((st : State) (v : List Entry) (S : Disk) (x : Bool) → Opened st v S → StepOK geo c (openWorld st v S x)) → (w : World) → WorldSim geo w → StepOK geo c w
+  pub open-step : (c : Call) → needsOpen geo (requestOf c) ≡ true → ((st : State) (v : List Entry) (S : Laid) (x : Bool) → Opened st v S → refusal geo c (plainNow st S) ≡ 0 → StepOK geo c (openWorld st v S x)) → (w : World) → WorldSim geo w → StepOK geo c w
   open-step c n f w m = go (ℕ-discrete (refusal geo c (w .plain)) 0)
     where
       go : Dec (refusal geo c (w .plain) ≡ 0) → StepOK geo c w
       go (no h) = refused-step geo c w m h
       go (yes h) =
           let o : OpenSim geo (w .store) (w .ledger) (w .plain) = is-open geo (w .store) (w .ledger) (w .plain) m (requestOf c) n (cause-passes geo (requestOf c) (w .store) (same-cause geo (w .store) (w .ledger) (w .plain) m c ∙ h)) in
-          subst (StepOK geo c) (sym (open-world w (m .basics) o)) (f (w .store) (w .ledger .written) (w .plain .S) (w .excepted) (opened w (m .basics) o))
+          subst (StepOK geo c) (sym (open-world w (m .basics) o)) (f (w .store) (w .ledger .written) (w .plain .S) (w .excepted) (opened w (m .basics) o) (opened-refusal w (m .basics) o c h))
 
 -- ---- closed
 
-abbrev pub plainShut : State → Disk → ℕ → Bool → Plain
+abbrev pub plainShut : State → Laid → ℕ → Bool → Plain
 plainShut st S n F = inMode closed (withF F (withCount n (withPower (st .rec .power) (withS S (blankPlain (st .rec .blocks))))))
 
-abbrev pub closedWorld : State → List Entry → Disk → ℕ → Bool → Bool → World
+abbrev pub closedWorld : State → List Entry → Laid → ℕ → Bool → Bool → World
 closedWorld st v S n F x = record { store = st; ledger = settledLedger v; plain = plainShut st S n F; excepted = x }
 
 module _ (geo : Geometry) where
-  pub record Closed (st : State) (v : List Entry) (S : Disk) (n : ℕ) (F : Bool) : Type 0 where
+  pub record Closed (st : State) (v : List Entry) (S : Laid) (n : ℕ) (F : Bool) : Type 0 where
     pub basics : Basics geo st (plainShut st S n F)
     pub sim : ClosedSim geo st (settledLedger v) (plainShut st S n F)
 
-  pub closed-sim : {st : State} {v : List Entry} {S : Disk} {n : ℕ} {F : Bool} → Closed st v S n F → Sim geo st (settledLedger v) (plainShut st S n F)
+  pub closed-sim : {st : State} {v : List Entry} {S : Laid} {n : ℕ} {F : Bool} → Closed st v S n F → Sim geo st (settledLedger v) (plainShut st S n F)
   closed-sim f = record { basics = f .basics; phase = _⊎_.inr (_⊎_.inl (f .sim)) }
 
   module _ (w : World) (b : Basics geo (w .store) (w .plain)) (o : ClosedSim geo (w .store) (w .ledger) (w .plain)) where
@@ -115,7 +118,7 @@ module _ (geo : Geometry) where
       basics = record {
         sizes = b .sizes;
         counts = b .counts;
-        mirrors = record { mode = sym (o .mode); N = refl; waiting = sym idle-closed; T = λ z. absurd (omega (arith, o .mode)); G = λ z. absurd (omega (arith, o .mode)) };
+        mirrors = record { mode = sym (o .mode); N = refl; waiting = sym idle-closed; T = λ z. absurd (omega (arith, o .mode)); G = λ z. absurd (omega (arith, o .mode)); save = λ z. absurd (omega (arith, o .mode)) };
         power = refl;
       };
       sim = record { mode = o .mode; T = refl; G = refl; short = refl; pending = refl; card = o .card };

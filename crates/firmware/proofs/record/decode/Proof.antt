@@ -8,7 +8,8 @@ use Rattle.firmware.proofs.record.decode.Tie as tie
 
 returns : tie.Need-returns
 unfolding decodeRecord
-returns sum =
+returns save =
+    let sum = save .before in
     let power = sum .before in
     let waiting = power .before in
     let logged = waiting .before in
@@ -26,12 +27,14 @@ returns sum =
     ∷ waiting .read-u326 .ensures j
     ∷ power .read-u327 .ensures j
     ∷ sum .read-u64 .ensures j
+    ∷ save .read-u642 .ensures j
     ∷ [])
 
 pub decode-spec : {M : Type 1} → statement M
 decode-spec =
     tie.close
     (tie.spec
+    (λ c κs. search needs)
     (λ c κs. search needs)
     (λ c κs. search needs)
     (λ c κs. search needs)

@@ -78,14 +78,14 @@ returns-2 c =
     let h = c .before .before .before .before in
     let s = h .before .before .before .before .before .args .settled .now in
     let g = c .before .before .n .given in
-    rw (c .accepted .ensures, counted (h .before)) (read-accepted trap s (Whole (g .0 .0) (g .0 .1 .0)) (g .0 .0) (right (h .before .before)) (chose h _ (g .1)) refl refl)
+    rw (c .accepted .ensures, counted (h .before)) (read-accepted trap s (Whole (g .0 .0) (g .0 .1 .0) (g .0 .1 .1 .0)) (g .0 .0) (right (h .before .before)) (chose h _ (g .1)) refl refl)
 
 returns-3 : tie.Need-returns-3
 returns-3 c =
     let h = c .before .before .before .before in
     let s = h .before .before .before .before .before .args .settled .now in
     let g = c .before .before .n2 .given in
-    rw (c .accepted2 .ensures, counted (h .before)) (read-accepted trap s (Fallback (g .0 .0) (g .0 .1 .0)) (g .0 .0) (right (h .before .before)) (chose h _ (g .1)) refl refl)
+    rw (c .accepted2 .ensures, counted (h .before)) (read-accepted trap s (Fallback (g .0 .0) (g .0 .1 .0) (g .0 .1 .1 .0)) (g .0 .0) (right (h .before .before)) (chose h _ (g .1)) refl refl)
 
 returns-4 : tie.Need-returns-4
 returns-4 c =

@@ -29,11 +29,11 @@ abbrev listed : List ℕ → ℕ → List Entry → List Order
 listed s n es = slotWrites trap n es ++ (write (oneDescriptor s n es) ∷ [])
 
 abbrev last : Log → List Entry → List Order
-last l es = headerWrite (header (l .blocks) (l .count) (l .sum) (l .count + length es) (sumOf (l .sum) es)) ∷ flush ∷ []
+last l es = headerWrite (header (l .blocks) (l .count) (l .sum) (l .count + length es) (sumOf (l .sum) es) (l .save)) ∷ flush ∷ []
 
-split : (l : Log) (s : List ℕ) (es : List Entry) → appendOrders trap (l .blocks) s (l .count) (l .sum) es ≡ listed s (l .count) es ++ last l es
+split : (l : Log) (s : List ℕ) (es : List Entry) → appendOrders trap (l .blocks) s (l .count) (l .sum) (l .save) es ≡ listed s (l .count) es ++ last l es
 split l s es =
-    append-split trap (l .blocks) s (l .count) (l .sum) es
+    append-split trap (l .blocks) s (l .count) (l .sum) (l .save) es
     ∙ ap (λ (ds : List Entry). (slotWrites trap (l .count) es ++ map write ds) ++ last l es) (one-descriptor s (l .count) es)
 
 size : (s : List ℕ) (n : ℕ) (es : List Entry) (m : ℕ) → length es ≡ m → length (listed s n es) ≡ m + 1
@@ -101,8 +101,8 @@ returns-2 c =
     let w = h .before .before .before .before .before .before .before .before in
     let a = w .before .before .before .before .before .before .before .args in
     let es = entriesFrom (a .work .now) (a .group .from) (a .group .count) in
-    let new : h .new .result ≡ header (a .log .blocks) (a .log .count) (a .log .sum) (a .log .count + length es) (sumOf (a .log .sum) es) =
-    h .new .ensures ∙ ap₂ (λ (k x : ℕ). header (a .log .blocks) (a .log .count) (a .log .sum) (a .log .count + k) x) (sym (length-from (a .work .now) (a .group .from) (a .group .count))) (w .before .before .before .sum-group .ensures) in
+    let new : h .new .result ≡ header (a .log .blocks) (a .log .count) (a .log .sum) (a .log .count + length es) (sumOf (a .log .sum) es) (a .log .save) =
+    h .new .ensures ∙ ap₂ (λ (k x : ℕ). header (a .log .blocks) (a .log .count) (a .log .sum) (a .log .count + k) x (a .log .save)) (sym (length-from (a .work .now) (a .group .from) (a .group .count))) (w .before .before .before .sum-group .ensures) in
     let p = resumed _ (listed (a .settled .now) (a .log .count) es) (last (a .log) es) (split (a .log) (a .settled .now) es) (a .group .count + 1) 2 (a .group .count + 3) (size (a .settled .now) (a .log .count) es (a .group .count) (length-from (a .work .now) (a .group .from) (a .group .count))) (omega arith)
     (cardOf (a .settled .now) (a .waiting .now) (a .queue)) _ (w .write-list .ensures .1 .0 (a .settled .now)) _ (w .write-list .ensures .0) (not-false _ (h .before .before .before .if1 .left))
     _ _ (o .order .ensures .1 ∙ ap (λ (x : Header). run (headerWrite x ∷ flush ∷ []) (cardOf (a .settled .now) (w .write-list .last .1 .1 .0) (w .write-list .result .queue))) new) (o .order .ensures .0) in

@@ -23,8 +23,8 @@ use Rattle.journal.proofs.checkpoint.checkpoint.Statement.{statement}
 use Rattle.journal.proofs.checkpoint.checkpoint.Tie as tie
 
 -- the last phase
-abbrev last : ℕ → List Order
-last N = headerWrite (emptyHeader N) ∷ flush ∷ []
+abbrev last : ℕ → ℕ → List Order
+last N c = headerWrite (emptyHeader N c) ∷ flush ∷ []
 
 homes : (s : List ℕ) (n : ℕ) → length (map write (entries trap s n)) ≡ n
 homes s n = rw (length-map) (length-upTo (slotEntry trap s) n)
@@ -58,7 +58,7 @@ unfolding checkpointOrders
 returns c =
     let w = c .before .before .before .before in
     let a = w .before .before .before .before .before .args in
-    stopped _ (map write (entries trap (a .settled .now) (a .n))) (flush ∷ last (a .blocks)) refl (a .n) 3 _ (homes (a .settled .now) (a .n)) refl
+    stopped _ (map write (entries trap (a .settled .now) (a .n))) (flush ∷ last (a .blocks) (a .save)) refl (a .n) 3 _ (homes (a .settled .now) (a .n)) refl
     (cardOf (a .settled .now) (a .waiting .now) (a .queue)) _ (w .write-homes .ensures .1 .0 (a .settled .now)) _ (w .write-homes .ensures .0) (not-true _ (c .if1 .taken))
 
 flush-requires : tie.Need-flush-requires
@@ -83,7 +83,7 @@ returns-2 : tie.Need-returns-2
 returns-2 c =
     let f = c .before .before .before .before in
     let a = f .before .before .before .before .before .before .before .before .before .before .before .before .args in
-    stopped _ (map write (entries trap (a .settled .now) (a .n)) ++ (flush ∷ [])) (last (a .blocks)) (checkpoint-writes (a .blocks) (entries trap (a .settled .now) (a .n))) (a .n + 1) 2 (a .n + 3) (homes-flush (a .settled .now) (a .n)) (omega arith)
+    stopped _ (map write (entries trap (a .settled .now) (a .n)) ++ (flush ∷ [])) (last (a .blocks) (a .save)) (checkpoint-writes (a .blocks) (a .save) (entries trap (a .settled .now) (a .n))) (a .n + 1) 2 (a .n + 3) (homes-flush (a .settled .now) (a .n)) (omega arith)
     (cardOf (a .settled .now) (a .waiting .now) (a .queue)) _ (flushed f .1) _ (flushed f .0) (not-true _ (c .if2 .taken))
 
 empty-requires : tie.Need-empty-requires
@@ -115,7 +115,7 @@ returns-3 c =
     let h = o .before .before .before in
     let f = h .before .before .before .before .before in
     let a = f .before .before .before .before .before .before .before .before .before .before .before .before .args in
-    resumed _ (map write (entries trap (a .settled .now) (a .n)) ++ (flush ∷ [])) (last (a .blocks)) (checkpoint-writes (a .blocks) (entries trap (a .settled .now) (a .n))) (a .n + 1) 2 (a .n + 3) (homes-flush (a .settled .now) (a .n)) (omega arith)
+    resumed _ (map write (entries trap (a .settled .now) (a .n)) ++ (flush ∷ [])) (last (a .blocks) (a .save)) (checkpoint-writes (a .blocks) (a .save) (entries trap (a .settled .now) (a .n))) (a .n + 1) 2 (a .n + 3) (homes-flush (a .settled .now) (a .n)) (omega arith)
     (cardOf (a .settled .now) (a .waiting .now) (a .queue)) _ (flushed f .1) _ (flushed f .0) (not-false _ (h .before .if2 .left))
     _ _ (o .order .ensures .1 ∙ ap (λ (x : Header). run (headerWrite x ∷ flush ∷ []) (cardOf (f .flush .last .1 .0) (f .before .before .before .before .before .before .before .write-homes .last .1 .1 .0) (f .flush .result .queue))) (h .empty .ensures)) (o .order .ensures .0)
 

@@ -10,7 +10,7 @@ use Rattle.journal.specs.Layout.{headerAt}
 use Rattle.journal.specs.Header.{decode}
 use Rattle.journal.specs.Log.{headerOf}
 use Rattle.journal.proofs.Logs.{length-blockAt, block-read}
-use Rattle.journal.proofs.Choices.{ours, choose-foreign, choose-whole, choose-fallback, choose-neither}
+use Rattle.journal.proofs.Choices.{ours, fallback-numbered, choose-foreign, choose-whole, choose-fallback, choose-neither}
 use Rattle.journal.proofs.choice.choose.Statement.{statement}
 use Rattle.journal.proofs.choice.choose.Tie as tie
 
@@ -56,8 +56,19 @@ good-requires-2 c κs =
     let o = ours trap (r .before .before .before .args .blocks) (r .read2 .result) (accepted e) in
     (omega arith, omega (arith, o .count, o .previous))
 
+sub-save : tie.Need-sub-save
+sub-save c′ =
+    let c = c′ .before in
+    let e = c .before .before .before .before in
+    let r = e .before .before in
+    let a = r .before .before .before .args in
+    let some = fallback-numbered trap (a .blocks) (a .settled .now) (r .read2 .result) (accepted e)
+    (sym (c .before .before .before .good2 .ensures) ∙ c .before .before .if2 .left) (sym (c .before .good3 .ensures) ∙ c .if3 .taken) in
+    omega arith
+
 returns-3 : tie.Need-returns-3
-returns-3 c =
+returns-3 c′ =
+    let c = c′ .before in
     let e = c .before .before .before .before in
     let r = e .before .before in
     let a = r .before .before .before .args in
@@ -83,5 +94,6 @@ choose-spec =
     good-requires
     returns-2
     good-requires-2
+    sub-save
     returns-3
     returns-4)

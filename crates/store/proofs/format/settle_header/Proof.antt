@@ -25,7 +25,7 @@ same-length c = search needs
 
 returns : tie.Need-returns
 returns c =
-    let filled : c .before .before .before .before .before .before .fill .last .1 .0 ≡ encode (emptyHeader (c .before .before .before .before .before .before .before .before .before .before .args .blocks)) = c .before .before .before .before .before .before .fill .ensures ∙ ap encode (c .before .before .before .before .before .before .before .before .empty .ensures) in
+    let filled : c .before .before .before .before .before .before .fill .last .1 .0 ≡ encode (emptyHeader (c .before .before .before .before .before .before .before .before .before .before .args .blocks) 0) = c .before .before .before .before .before .before .fill .ensures ∙ ap encode (c .before .before .before .before .before .before .before .before .empty .ensures) in
     c .before .before .settle .ensures ∙ rw filled
 
 pub settle-header-spec : {M : Type 1} → statement M

@@ -8,7 +8,8 @@ use Rattle.journal.proofs.header.Header.read.Tie as tie
 
 returns : tie.Need-returns
 unfolding decode
-returns sum =
+returns save =
+    let sum = save .before in
     let presum = sum .before in
     let count = presum .before in
     let previous = count .before in
@@ -22,12 +23,14 @@ returns sum =
     ∷ count .read-u324 .ensures j
     ∷ presum .read-u64 .ensures j
     ∷ sum .read-u642 .ensures j
+    ∷ save .read-u643 .ensures j
     ∷ [])
 
 pub read-spec : {M : Type 1} → statement M
 read-spec =
     tie.close
     (tie.spec
+    (λ c κs. search needs)
     (λ c κs. search needs)
     (λ c κs. search needs)
     (λ c κs. search needs)

@@ -1,10 +1,11 @@
 -- `store::record::Record::apply` meets its contract.
-use mathlib.Core.Path.{ap, sym, _∙_}
+use mathlib.Core.Path.{ap, refl, sym, _∙_}
 use mathlib.Core.List.{[]}
 use native.Mathlib.Omega.{arith}
 use Rattle.journal.specs.Geometry.{trap}
 use Rattle.store.specs.State.{State, Outcome}
 use Rattle.store.specs.CodeState.{stateOf}
+use Rattle.store.specs.Request.{abandon}
 use Rattle.store.specs.Saves.{applyCall}
 use Rattle.store.proofs.Calls.{call-refused, call-done}
 use Rattle.store.proofs.Saves.{Ready, ready, carried-power, carried-ends, carried-none, apply-none, apply-some}
@@ -17,7 +18,7 @@ given c = stateOf (c .args .self) (c .args .settled .now) (c .args .waiting .now
 
 -- what the table has shown
 checked : (c : tie.Else1) → Ready trap (given (c .before .before .before .before .before .before .before))
-checked c = ready trap (given (c .before .before .before .before .before .before .before)) (c .before .not-open .result) (c .before .not-open .ensures) (c .if1 .left)
+checked c = ready trap abandon (given (c .before .before .before .before .before .before .before)) (c .before .not-open .result) refl refl (c .before .not-open .ensures) (c .if1 .left)
 
 not-open-requires : tie.Need-not-open-requires
 not-open-requires c κs = search needs

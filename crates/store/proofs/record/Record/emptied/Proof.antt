@@ -42,8 +42,8 @@ returns : tie.Need-returns
 returns c =
     let k = c .before .before .before .before .before .before in
     let a = k .before .before .before .before .before .before .args in
-    let size = length-checkpoint (a .self .blocks) (entries trap (a .settled .now) (a .self .logged)) ∙ ap (λ (n : ℕ). n + 3) (length-upTo (slotEntry trap (a .settled .now)) (a .self .logged)) in
-    λ work. given (checkpointOrders (a .self .blocks) (entries trap (a .settled .now) (a .self .logged))) (a .self .logged + 3) (withLog 0 start (a .self)) (a .self)
+    let size = length-checkpoint (a .self .blocks) (a .self .save) (entries trap (a .settled .now) (a .self .logged)) ∙ ap (λ (n : ℕ). n + 3) (length-upTo (slotEntry trap (a .settled .now)) (a .self .logged)) in
+    λ work. given (checkpointOrders (a .self .blocks) (a .self .save) (entries trap (a .settled .now) (a .self .logged))) (a .self .logged + 3) (withLog 0 start (a .self)) (a .self)
     (stateOf (a .self) (a .settled .now) (a .waiting .now) work) _ _ _ (k .checkpoint .result) _ _ size (k .before .before .before .queue .ensures)
     (k .checkpoint .ensures .0) (k .checkpoint .ensures .1) (c .before .with-log .ensures) (c .after .ensures)
 

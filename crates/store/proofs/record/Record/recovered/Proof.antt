@@ -31,13 +31,13 @@ by st x = unless (choiceNumber x) st (recovering x st)
 -- what a fallback left
 fell : (c : tie.After-after) (k : List ℕ) → let x = c .before .before .before .before .before .before .before .before .before .before .before .choice2 .given .0 in let a = c .before .before .before .before .before .before .before .before .before .before .before .before .before .before .before .args in
     stateOf (c .after .result) (c .before .before .before .before .before .before .fallback .last .1 .0) (c .before .before .before .before .before .before .fallback .last .1 .1 .0) k
-    ≡ carried (fallbackOrders (a .self .blocks) (x .0) (x .1 .0)) (reopened (x .0) (x .1 .0) (a .self)) (a .self) (given (c .before .before .before .before .before .before .before .before .before .before .before .before .before .before .before) k) .state
+    ≡ carried (fallbackOrders (a .self .blocks) (x .0) (x .1 .0) (x .1 .1 .0)) (reopened (x .0) (x .1 .0) (x .1 .1 .0) (a .self)) (a .self) (given (c .before .before .before .before .before .before .before .before .before .before .before .before .before .before .before) k) .state
 fell c k =
     let x = c .before .before .before .before .before .before .before .before .before .before .before .choice2 .given .0 in
     let f = c .before .before .before .before .before .before in
     let a = c .before .before .before .before .before .before .before .before .before .before .before .before .before .before .before .args in
-    Saves.given (fallbackOrders (a .self .blocks) (x .0) (x .1 .0)) 2 (reopened (x .0) (x .1 .0) (a .self)) (a .self) (given (c .before .before .before .before .before .before .before .before .before .before .before .before .before .before .before) k)
-    _ _ _ (f .fallback .result) _ _ (length-fallback (a .self .blocks) (x .0) (x .1 .0)) (f .before .before .before .queue .ensures)
+    Saves.given (fallbackOrders (a .self .blocks) (x .0) (x .1 .0) (x .1 .1 .0)) 2 (reopened (x .0) (x .1 .0) (x .1 .1 .0) (a .self)) (a .self) (given (c .before .before .before .before .before .before .before .before .before .before .before .before .before .before .before) k)
+    _ _ _ (f .fallback .result) _ _ (length-fallback (a .self .blocks) (x .0) (x .1 .0) (x .1 .1 .0)) (f .before .before .before .queue .ensures)
     (f .fallback .ensures .0) (f .fallback .ensures .1) (c .before .reopened2 .ensures) (c .after .ensures)
 
 enum-known-choice : tie.Need-enum-known-choice
@@ -94,8 +94,8 @@ returns c =
     λ k.
     let st = given start k in
     rw (c .saved .ensures)
-    (carried-ends [] (reopened (a .0 .0) (a .0 .1 .0) (st .rec)) (st .rec) st (eqb-false openMode down refl) _ _ _ _
-    (ap (λ (r : Record). stateOf r (st .settled) (st .waiting) k) (c .before .reopened .ensures) ∙ sym (ap (λ (o : Outcome). o .state) (carried-none (reopened (a .0 .0) (a .0 .1 .0) (st .rec)) (st .rec) st)))
+    (carried-ends [] (reopened (a .0 .0) (a .0 .1 .0) (a .0 .1 .1 .0) (st .rec)) (st .rec) st (eqb-false openMode down refl) _ _ _ _
+    (ap (λ (r : Record). stateOf r (st .settled) (st .waiting) k) (c .before .reopened .ensures) ∙ sym (ap (λ (o : Outcome). o .state) (carried-none (reopened (a .0 .0) (a .0 .1 .0) (a .0 .1 .1 .0) (st .rec)) (st .rec) st)))
     ∙ ap (by st) (sym (a .1)))
 
 same-length : tie.Need-same-length

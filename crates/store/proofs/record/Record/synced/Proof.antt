@@ -32,7 +32,10 @@ add-if2 c = search needs
 
 appended-requires : tie.Need-appended-requires
 unfolding trap
-appended-requires c κs = search needs
+appended-requires c κs =
+    let start = c .before .before .before .before .before .before .before .before .before in
+    let free = start .pre .1 .1 .1 .1 .1 (c .before .before .before .before .if1 .left) in
+    (omega arith, (omega arith, (omega arith, (omega arith, (omega arith, free)))))
 
 same-length : tie.Need-same-length
 same-length c = search needs
@@ -70,7 +73,8 @@ appended-requires-2 c κs =
     let k = c .before .before .before .before .before .before .before .before in
     let start = k .before .before .before .before .before .before .before .before .before .before in
     let x = sync-on trap (given start) (k .before .before .before .before .before .if1 .left) (k .before .before .before .if2 .left) (live start) (left k) (k .emptied .ensures _) (c .before .before .if3 .left) in
-    (omega arith, (omega arith, (omega arith, (omega arith, omega arith))))
+    let free = start .pre .1 .1 .1 .1 .1 (k .before .before .before .before .before .if1 .left) in
+    (omega arith, (omega arith, (omega arith, (omega arith, (omega arith, λ e. free (sym (x .2) ∙ e))))))
 
 same-length-5 : tie.Need-same-length-5
 same-length-5 c = search needs
