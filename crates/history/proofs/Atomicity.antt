@@ -2,4 +2,6 @@
 pub mod ReadsBack
 pub mod Phases
 pub mod ShortSyncs
+pub mod Finished
+pub mod Counts
 pub mod Splits

@@ -12,7 +12,7 @@ use Rattle.history.specs.Dispatch.{dispatch}
 use Rattle.history.specs.History.{begun, after}
 
 module _ (geo : Geometry) where
-  -- "Each call gets the record and the settled, waiting and work bytes that the last one returned or left", the record as 36 bytes. A
+  -- "Each call gets the record and the settled, waiting and work bytes that the last one returned or left", the record as 44 bytes. A
   -- get has no lent byte to change
   abbrev pub faceNext : Call → Face → Face
   faceNext c f =

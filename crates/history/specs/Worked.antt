@@ -15,7 +15,7 @@ use Rattle.history.specs.Call.{Call, power, put, get, commit, sync, reco
 use Rattle.history.specs.Dispatch.{dispatch, blockOf}
 use Rattle.history.specs.History.{World, begun, next, after, storeNext, foundWritten, acceptedCut, exception}
 use Rattle.history.specs.Linked.{AllPassable}
-use Rattle.history.specs.Statements.{EndsFinished, noneFinished, quiet, decided, known, fate, noCut}
+use Rattle.history.specs.Statements.{EndsFinished, noneFinished, quiet, decided, known, fate, groupsLaid, noCut}
 
 -- "byte filling the block"
 unfoldable pub sevens : List ℕ
@@ -59,8 +59,9 @@ answers [] w = []
 answers (c ∷ cs) w = (dispatch trap c (w .store) .answer, dispatch trap c (w .store) .orders) ∷ answers cs (next trap c w)
 
 -- a script with the marks ms: its lines, k being the orders of "recover"; what crash atomicity, log read back and C ask of it; `same`, which the plain disk
--- is fed at the cut; the fate of the sync cut short; and the block b that "get 40" hands out
-pub record Script (st : State) (ms : List ℕ) (same new all : Bool) (k : ℕ) (b : List ℕ) : Type 0 where
+-- is fed at the cut; the fate of the sync cut short; the save number c that "recover" hands back, the groups laid along the calls; and the
+-- block b that "get 40" hands out
+pub record Script (st : State) (ms : List ℕ) (same new all : Bool) (k c : ℕ) (b : List ℕ) : Type 0 where
   pub lines : answers (filed ++ (crashed ms ++ (recover ∷ get 40 ∷ []))) (begun trap st)
       ≡ (0, 0) ∷ (0, 0) ∷ (0, 4) ∷ (0, 0) ∷ (0, 0) ∷ (0, 0) ∷ (4, 3) ∷ (0, 0) ∷ (0, 0) ∷ (0, k) ∷ (0, 0) ∷ []
   pub ends : EndsFinished trap filed (begun trap st)
@@ -74,11 +75,13 @@ pub record Script (st : State) (ms : List ℕ) (same new all : Bool) (k : ℕ) (
   pub answer : dispatch trap recover (metByRecover ms st .store) .answer ≡ 0
   pub orders : dispatch trap recover (metByRecover ms st .store) .orders ≡ k
   pub fated : fate trap (crashed ms) (after trap filed (begun trap st)) (known quiet) ≡ known (decided (at40 nines ∷ []) new all)
+  pub number : storeNext trap recover (metByRecover ms st) .rec .save ≡ c
+  pub groups : groupsLaid trap (filed ++ crashed ms) (begun trap st) (known quiet) ≡ c
   pub block : blockOf trap 40 (storeNext trap recover (metByRecover ms st)) ≡ b
 
--- cut 101 loses the new descriptor: another log than the one written, no collision, old; cut 111 keeps every write: new. There is
--- such a card
+-- cut 101 loses the new descriptor: another log than the one written, no collision, old, save 1; cut 111 keeps every write: new, save 2.
+-- There is such a card
 pub record Worked : Type 0 where
-  pub torn : (st : State) → formatCall trap st .answer ≡ 0 → blocksIn (st .settled) ≡ 64 → Script st cut101 false false false 2 sevens
-  pub whole : (st : State) → formatCall trap st .answer ≡ 0 → blocksIn (st .settled) ≡ 64 → Script st cut111 true true true 0 nines
+  pub torn : (st : State) → formatCall trap st .answer ≡ 0 → blocksIn (st .settled) ≡ 64 → Script st cut101 false false false 2 1 sevens
+  pub whole : (st : State) → formatCall trap st .answer ≡ 0 → blocksIn (st .settled) ≡ 64 → Script st cut111 true true true 0 2 nines
   pub card : (st : State) × (formatCall trap st .answer ≡ 0) × (blocksIn (st .settled) ≡ 64)

@@ -21,7 +21,7 @@ use Rattle.store.specs.Request as Request
 use Rattle.store.specs.State.{State, Outcome, closed, openMode, down, withQueue, withRecord}
 use Rattle.store.specs.Causes.{cause}
 use Rattle.history.specs.Call.{Call, requestOf, local, save, cut, power, sync, apply, recover}
-use Rattle.history.specs.Plain.{Plain, Done, withPower, Verdict, verdict, headerKept, refusal}
+use Rattle.history.specs.Plain.{Plain, Done, withPower, Verdict, verdict, headerKept, lastSave, refusal}
 use Rattle.history.specs.Dispatch.{dispatch}
 use Rattle.history.specs.Ledger.{Ledger, sameLog}
 use Rattle.history.specs.History.{World, storeNext, ledgerNext, foundWritten, acceptedCut}
@@ -42,20 +42,20 @@ module _ (geo : Geometry) where
 -- open: nothing has happened to S
 pub record OpenPhase (old : Disk) (st : State) (d : Plain) : Type 0 where
   pub mode : st .rec .mode ≡ openMode
-  pub S : d .S ≡ old
+  pub S : d .S .disk ≡ old
 
 module _ (geo : Geometry) where
   -- not open, and no cut lays anything
   pub record OtherPhase (old : Disk) (f : Fate) (st : State) (d : Plain) : Type 0 where
     pub mode : st .rec .mode ≢ openMode
-    pub S : d .S ≡ outcome f old
+    pub S : d .S .disk ≡ outcome f old
     pub laid : (ms : List ℕ) (found : Bool) → planned geo d ms found .laid ≡ false
     pub whole : WholeIsNew f
 
   -- down by a sync of the group G
   pub record ShortPhase (old : Disk) (G : List Entry) (place : ℕ) (made : Bool) (st : State) (l : Ledger) (d : Plain) : Type 0 where
     pub mode : st .rec .mode ≡ down
-    pub S : d .S ≡ old
+    pub S : d .S .disk ≡ old
     pub group : d .G ≡ G
     pub laid : (ms : List ℕ) (found : Bool) → planned geo d ms found .laid ≡ made && keptAt ms place && found
     pub whole : made ≡ true → (ms : List ℕ) → marksFit ms (st .rec .waiting) ≡ true → allKept ms ≡ true → (keptAt ms place ≡ true) × (sameLog (foundIn geo (cutSettled ms st)) (cutWritten ms l) ≡ true)
@@ -68,15 +68,18 @@ module _ (geo : Geometry) where
 -- ---- a refused call
 
 -- a sync that ran out of power itself is a sync on an open record
-pub record IsShort (c : Call) (w : World) : Type 0 where
-  pub is : c ≡ sync
-  pub mode : w .store .rec .mode ≡ openMode
-
 module _ (geo : Geometry) where
+  pub record IsShort (c : Call) (w : World) : Type 0 where
+    pub is : c ≡ sync
+    pub mode : w .store .rec .mode ≡ openMode
+    pub answer : dispatch geo sync (w .store) .answer ≡ 4
+
   pub short-is : (c : Call) (w : World) → shortSync geo c w ≡ true → IsShort c w
   unfolding shortSync
   short-is (local c) w h = absurd (false≢true h)
-  short-is (save Save.sync) w h = record { is = refl; mode = eqb-true _ _ (both (eqb (w .store .rec .mode) openMode) (eqb (dispatch geo sync (w .store) .answer) 4) h .0) }
+  short-is (save Save.sync) w h =
+      let p = both (eqb (w .store .rec .mode) openMode) (eqb (dispatch geo sync (w .store) .answer) 4) h in
+      record { is = refl; mode = eqb-true _ _ (p .0); answer = eqb-true _ _ (p .1) }
   short-is (save Save.apply) w h = absurd (false≢true h)
   short-is (save Save.recover) w h = absurd (false≢true h)
   short-is (cut ms) w h = absurd (false≢true h)
@@ -88,15 +91,27 @@ module _ (geo : Geometry) where
       go false p = refl
       go true p = let s = short-is c w p in absurd (n (s .is) (s .mode))
 
-  -- on an open record a sync is never refused
-  pub open-serves : (w : World) → WorldSim geo w → w .store .rec .mode ≡ openMode → refusal geo sync (w .plain) ≡ 0
+  -- a sync that ran out of power on an open record was not refused: a refusal there is 12
+  pub short-serves : (w : World) → WorldSim geo w → w .store .rec .mode ≡ openMode → dispatch geo sync (w .store) .answer ≡ 4 → refusal geo sync (w .plain) ≡ 0
   unfolding refusal
-  open-serves w m o =
+  short-serves w m o e =
       let d : w .plain .mode ≡ 1 = m .basics .mirrors .mode ∙ o in
-      rw (ne-eqb (w .plain .mode) 0 (λ z. omega arith), ne-eqb (w .plain .mode) 2 (λ z. omega arith))
+      let row : refusal geo sync (w .plain) ≡ cond (lastSave (w .plain)) 12 0 = rw (ne-eqb (w .plain .mode) 0 (λ z. omega arith), ne-eqb (w .plain .mode) 2 (λ z. omega arith)) in
+      go (lastSave (w .plain)) row
+    where
+      go : (t : Bool) → refusal geo sync (w .plain) ≡ cond t 12 0 → refusal geo sync (w .plain) ≡ 0
+      go false q = q
+      go true q =
+          let c : cause geo Request.sync (w .store) ≡ 12 = same-cause geo (w .store) (w .ledger) (w .plain) m sync ∙ q in
+          let z : _≡_ {A = ℕ} 12 4 = sym c ∙ sym (ap (λ (x : Outcome). x .answer) (dispatch-refused geo sync (w .store) (λ z. omega arith))) ∙ e in
+          absurd (omega arith)
 
   refused-short : (c : Call) (w : World) → refusal geo c (w .plain) ≢ 0 → WorldSim geo w → shortSync geo c w ≡ false
-  refused-short c w h m = not-short c w (λ e o. h (ap (λ (x : Call). refusal geo x (w .plain)) e ∙ open-serves w m o))
+  refused-short c w h m = go (shortSync geo c w) refl
+    where
+      go : (t : Bool) → shortSync geo c w ≡ t → t ≡ false
+      go false p = refl
+      go true p = let s = short-is c w p in absurd (h (ap (λ (x : Call). refusal geo x (w .plain)) (s .is) ∙ short-serves w m (s .mode) (s .answer)))
 
   refused-cut : (ms : List ℕ) (w : World) → refusal geo (cut ms) (w .plain) ≢ 0 → WorldSim geo w → acceptedCut geo (cut ms) w ≡ false
   unfolding acceptedCut
@@ -111,7 +126,7 @@ module _ (geo : Geometry) where
   refused-at (cut ms) w G place made h m =
       ap (λ (t : Bool). cond t (known (decided G (made && keptAt ms place && foundWritten geo (cut ms) w) (made && allKept ms))) (undecided G place made)) (refused-cut ms w h m)
 
-  observe-refused : (c : Call) (w : World) (f : Progress) → refusal geo c (w .plain) ≢ 0 → WorldSim geo w → observe geo c w f ≡ f
+  pub observe-refused : (c : Call) (w : World) (f : Progress) → refusal geo c (w .plain) ≢ 0 → WorldSim geo w → observe geo c w f ≡ f
   unfolding observe
   observe-refused c w (known quiet) h m = rw (refused-short c w h m)
   observe-refused c w (undecided G place made) h m = refused-at c w G place made h m
@@ -143,7 +158,7 @@ module _ (geo : Geometry) where
   power-same k w (known (decided G laid all)) = refl
 
   -- open: no sync was cut short yet
-  pub open-watch : (old : Disk) (f : Progress) (st : State) (l : Ledger) (d : Plain) → Watch geo old f st l d → st .rec .mode ≡ openMode → (f ≡ known quiet) × (d .S ≡ old)
+  pub open-watch : (old : Disk) (f : Progress) (st : State) (l : Ledger) (d : Plain) → Watch geo old f st l d → st .rec .mode ≡ openMode → (f ≡ known quiet) × (d .S .disk ≡ old)
   open-watch old (known quiet) st l d (_⊎_.inl x) e = (refl, x .S)
   open-watch old (known quiet) st l d (_⊎_.inr x) e = absurd (x .mode e)
   open-watch old (undecided G place made) st l d x e = absurd (omega (arith, x .mode))
@@ -167,7 +182,7 @@ module _ (geo : Geometry) where
 
   -- a call that needs an open record, keeps it open and leaves S
   pub open-kept : (old : Disk) (c : Call) (w : World) (f : Progress) → WorldSim geo w → w .store .rec .mode ≡ openMode → Watch geo old f (w .store) (w .ledger) (w .plain)
-      → plainNext geo c w .mode ≡ w .plain .mode → plainNext geo c w .S ≡ w .plain .S → observe geo c w (known quiet) ≡ known quiet
+      → plainNext geo c w .mode ≡ w .plain .mode → plainNext geo c w .S .disk ≡ w .plain .S .disk → observe geo c w (known quiet) ≡ known quiet
       → Watch geo old (observe geo c w f) (storeNext geo c w) (ledgerNext geo c w) (plainNext geo c w)
   open-kept old c w f m o x p s q =
       let y = open-watch old f (w .store) (w .ledger) (w .plain) x o in

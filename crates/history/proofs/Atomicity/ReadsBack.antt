@@ -1,5 +1,5 @@
 -- A recovery takes the log written, or its first p entries.
-use Prim.Native.Nat.{ℕ, _^_, _≤_, _<_}
+use Prim.Native.Nat.{ℕ, _+_, _^_, _≤_, _<_}
 use mathlib.Core.Path.{_≡_, refl, ap, ap₂, sym, _∙_}
 use mathlib.Core.Logic.{_≢_, _⊎_}
 use mathlib.Core.Bool.{Bool, true, false, true≢false, cond, not}
@@ -218,7 +218,7 @@ module _ (geo : Geometry) where
     taken-whole : w .plain .F ≡ false → WholeCard geo Every (w .store .rec .blocks) (blockAt (w .store .settled)) (w .ledger .written) (w .plain .S) (w .plain .n) → Chosen
     unfolding logFound
     taken-whole f r =
-        let hd = read-head geo (w .store .settled) (w .store .rec .blocks) (r .p) (r .ps) (w .plain .n) _ small (r .head) in
+        let hd = read-head geo (w .store .settled) (w .store .rec .blocks) (r .p) (r .ps) (w .plain .n) _ (w .plain .S .groups) small (r .head) in
         let found : logFound geo (w .store) ≡ w .ledger .written =
         ap (λ (x : Header). entries geo (w .store .settled) (x .count)) hd ∙ entries-disk geo (w .store .settled) (w .plain .n) ∙ sym (r .same) in
         let same : sameLog (logFound geo (w .store)) (w .ledger .written) ≡ true = ap (λ (x : List Entry). sameLog x (w .ledger .written)) found ∙ logs-same (w .ledger .written) in
@@ -233,7 +233,7 @@ module _ (geo : Geometry) where
     unfolding logFound
     taken-fall f p r =
         let s = w .store .settled in
-        let hd = read-head geo (w .store .settled) (w .store .rec .blocks) (w .plain .n) _ (r .c) (r .ns) small (r .head) in
+        let hd = read-head geo (w .store .settled) (w .store .rec .blocks) (w .plain .n) _ (r .c) (r .ns) (w .plain .S .groups + 1) small (r .head) in
         let found : logFound geo (w .store) ≡ logD geo (blockAt (w .store .settled)) (r .c) = ap (λ (x : Header). entries geo (w .store .settled) (x .count)) hd ∙ entries-disk geo (w .store .settled) (r .c) in
         let other : sameLog (logFound geo (w .store)) (w .ledger .written) ≡ false = differ (sameLog (logFound geo (w .store)) (w .ledger .written)) refl (λ e. r .other (sym e ∙ found)) in
         ap (λ (l : Ledger). l .written) (noted-orders 2 (ap (λ (o : Done). o .orders) (recover-fallback (w .plain) f p)))
@@ -296,7 +296,7 @@ module _ (geo : Geometry) where
 
       whole : WholeCard geo Every (w .store .rec .blocks) (blockAt (w .store .settled)) (w .ledger .written) (w .plain .S) (w .plain .n) → Totals (w .store) (w .ledger)
       whole r =
-          let hd = read-head geo (w .store .settled) (w .store .rec .blocks) (r .p) (r .ps) (w .plain .n) _ low (r .head) in
+          let hd = read-head geo (w .store .settled) (w .store .rec .blocks) (r .p) (r .ps) (w .plain .n) _ (w .plain .S .groups) low (r .head) in
           record {
             count = ap (λ (x : Header). x .count) hd ∙ sym (ap length (r .same) ∙ length-upTo (slotE geo (blockAt (w .store .settled))) (w .plain .n));
             sum = ap (λ (x : Header). x .sum) hd ∙ ap (sumOf start) (sym (r .same));
@@ -304,7 +304,7 @@ module _ (geo : Geometry) where
 
       fall : FallCard geo Every (w .store .rec .blocks) (blockAt (w .store .settled)) (w .ledger .written) (w .plain .S) (w .plain .n) → Totals (w .store) (w .ledger)
       fall r =
-          let hd = read-head geo (w .store .settled) (w .store .rec .blocks) (w .plain .n) _ (r .c) (r .ns) low (r .head) in
+          let hd = read-head geo (w .store .settled) (w .store .rec .blocks) (w .plain .n) _ (r .c) (r .ns) (w .plain .S .groups + 1) low (r .head) in
           record { count = ap (λ (x : Header). x .count) hd ∙ sym (r .size); sum = ap (λ (x : Header). x .sum) hd ∙ sym (r .total) }
 
       by : (F : Bool) → w .plain .F ≡ F → ClosedSim geo (w .store) (w .ledger) (w .plain) → Totals (w .store) (w .ledger)

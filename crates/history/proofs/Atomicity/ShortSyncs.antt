@@ -11,6 +11,7 @@ use lib.Dec.{eqb, leb}
 use lib.ListN.{length}
 use Rattle.cells.specs.Entry.{Entry}
 use Rattle.card.specs.Disk.{Disk, overlay}
+use Rattle.crash.specs.Laid.{Laid, layOver}
 use Rattle.card.specs.Marks.{marksFit, keptAt, allKept}
 use Rattle.journal.specs.Geometry.{Geometry}
 use Rattle.journal.proofs.Choices.{both}
@@ -41,6 +42,11 @@ use Rattle.history.proofs.Steps.ListInduction.{step, next-sim, clean-fi
 use Rattle.history.proofs.Relation.PlainAnswers.{sync-cases, LocalKind, powers, opens, local-kind}
 use Rattle.history.proofs.Atomicity.ReadsBack.{power-served, cut-accepted}
 use Rattle.history.proofs.Atomicity.Phases.{ShortPhase, Watch, closed-watch, open-kept, open-now, open-watch, planned, power-same, power-watch, to-watch, watch-at, watch-refused}
+
+-- the disk of what may be laid
+laid-disk : (t : Bool) (G : List Entry) (S : Laid) → cond t (layOver G S) S .disk ≡ cond t (overlay G (S .disk)) (S .disk)
+laid-disk true G S = refl
+laid-disk false G S = refl
 
 -- ---- sync
 
@@ -133,9 +139,9 @@ module _ (geo : Geometry) where
       P : plainStep geo apply (foundWritten geo apply w) (w .plain) ≡ plainApply (w .plain)
       P = plain-served geo apply (foundWritten geo apply w) (w .plain) h
 
-      kept : (D : Done) → plainApply (w .plain) ≡ D → D .plain .mode ≡ w .plain .mode → D .plain .S ≡ w .plain .S → Watch geo old (observe geo apply w f) (storeNext geo apply w) (ledgerNext geo apply w) (plainNext geo apply w)
+      kept : (D : Done) → plainApply (w .plain) ≡ D → D .plain .mode ≡ w .plain .mode → D .plain .S .disk ≡ w .plain .S .disk → Watch geo old (observe geo apply w f) (storeNext geo apply w) (ledgerNext geo apply w) (plainNext geo apply w)
       kept D e p s =
-          open-kept geo old apply w f m (o .mode) x (ap (λ (z : Done). z .plain .mode) (P ∙ e) ∙ p) (ap (λ (z : Done). z .plain .S) (P ∙ e) ∙ s) refl
+          open-kept geo old apply w f m (o .mode) x (ap (λ (z : Done). z .plain .mode) (P ∙ e) ∙ p) (ap (λ (z : Done). z .plain .S .disk) (P ∙ e) ∙ s) refl
 
       go : Dec (w .plain .n ≡ 0) → Dec (w .plain .n + 3 ≤ w .plain .power) → Watch geo old (observe geo apply w f) (storeNext geo apply w) (ledgerNext geo apply w) (plainNext geo apply w)
       go (yes z) q = kept _ (PlainLaws.apply-nothing (w .plain) z) refl refl
@@ -197,10 +203,10 @@ module _ (geo : Geometry) where
   -- ---- cut
 
   module _ (old : Disk) (ms : List ℕ) (w : World) (m : WorldSim geo w) (h : refusal geo (cut ms) (w .plain) ≡ 0) where
-    abbrev found : Bool
+    abbrev pub found : Bool
     found = sameLog (foundIn geo (cutSettled ms (w .store))) (cutWritten ms (w .ledger))
 
-    P : plainNext geo (cut ms) w ≡ CutStep.plainAt (w .store) (w .plain) (cond (planned geo (w .plain) ms found .laid) (overlay (w .plain .G) (w .plain .S)) (w .plain .S)) (planned geo (w .plain) ms found .n) (planned geo (w .plain) ms found .F)
+    pub P : plainNext geo (cut ms) w ≡ CutStep.plainAt (w .store) (w .plain) (cond (planned geo (w .plain) ms found .laid) (layOver (w .plain .G) (w .plain .S)) (w .plain .S)) (planned geo (w .plain) ms found .n) (planned geo (w .plain) ms found .F)
     P = ap (λ (d : Done). d .plain) (CutStep.plain-cut geo ms w m h)
 
     closed-now : storeNext geo (cut ms) w .rec .mode ≢ openMode
@@ -208,14 +214,14 @@ module _ (geo : Geometry) where
 
     -- nothing is laid
     cut-still : (f : Fate) → observe geo (cut ms) w (known f) ≡ known f
-        → planned geo (w .plain) ms found .laid ≡ false → w .plain .S ≡ outcome f old → WholeIsNew f
+        → planned geo (w .plain) ms found .laid ≡ false → w .plain .S .disk ≡ outcome f old → WholeIsNew f
         → Watch geo old (observe geo (cut ms) w (known f)) (storeNext geo (cut ms) w) (ledgerNext geo (cut ms) w) (plainNext geo (cut ms) w)
     cut-still f q z s y =
         watch-at geo old q refl refl P
         (to-watch geo old f (storeNext geo (cut ms) w) (ledgerNext geo (cut ms) w) _
-        (record { mode = closed-now; S = ap (λ (t : Bool). cond t (overlay (w .plain .G) (w .plain .S)) (w .plain .S)) z ∙ s; laid = λ ns u. ap (λ (v : Verdict). v .laid) (PlainLaws.choose-none geo _ _ _ _ u); whole = y }))
+        (record { mode = closed-now; S = ap (λ (t : Bool). cond t (layOver (w .plain .G) (w .plain .S)) (w .plain .S) .disk) z ∙ s; laid = λ ns u. ap (λ (v : Verdict). v .laid) (PlainLaws.choose-none geo _ _ _ _ u); whole = y }))
 
-    cut-observed : (G : List Entry) (place : ℕ) (made : Bool) → observe geo (cut ms) w (undecided G place made) ≡ known (decided G (made && keptAt ms place && found) (made && allKept ms))
+    pub cut-observed : (G : List Entry) (place : ℕ) (made : Bool) → observe geo (cut ms) w (undecided G place made) ≡ known (decided G (made && keptAt ms place && found) (made && allKept ms))
     unfolding observe
     cut-observed G place made =
         ap (λ (t : Bool). cond t (known (decided G (made && keptAt ms place && foundWritten geo (cut ms) w) (made && allKept ms))) (undecided G place made)) (cut-accepted geo ms w m h)
@@ -227,7 +233,8 @@ module _ (geo : Geometry) where
         watch-at geo old (cut-observed G place made) refl refl P
         (record {
           mode = closed-now;
-          S = ap (λ (t : Bool). cond t (overlay (w .plain .G) (w .plain .S)) (w .plain .S)) (x .laid ms found)
+          S = ap (λ (t : Bool). cond t (layOver (w .plain .G) (w .plain .S)) (w .plain .S) .disk) (x .laid ms found)
+              ∙ laid-disk (made && keptAt ms place && found) (w .plain .G) (w .plain .S)
               ∙ ap₂ (λ (g : List Entry) (d : Disk). cond (made && keptAt ms place && found) (overlay g d) d) (x .group) (x .S);
           laid = λ ns u. ap (λ (v : Verdict). v .laid) (PlainLaws.choose-none geo _ _ _ _ u);
           whole = λ e.
@@ -236,16 +243,20 @@ module _ (geo : Geometry) where
               rw (q .0, y .0, y .1);
         })
 
-    cut-watch : (f : Progress) → Watch geo old f (w .store) (w .ledger) (w .plain) → Watch geo old (observe geo (cut ms) w f) (storeNext geo (cut ms) w) (ledgerNext geo (cut ms) w) (plainNext geo (cut ms) w)
-    unfolding observe shortSync
-    cut-watch (known quiet) (_⊎_.inl x) = cut-still quiet refl (open-none (m .phase)) (x .S) tt
+    -- on an open record no cut lays anything
+    pub open-lays-none : w .store .rec .mode ≡ openMode → planned geo (w .plain) ms found .laid ≡ false
+    open-lays-none z = go (m .phase)
       where
-        open-none : OpenSim geo (w .store) (w .ledger) (w .plain) ⊎ (ClosedSim geo (w .store) (w .ledger) (w .plain) ⊎ DownSim geo (w .store) (w .ledger) (w .plain)) → planned geo (w .plain) ms found .laid ≡ false
-        open-none (_⊎_.inl o) =
+        go : OpenSim geo (w .store) (w .ledger) (w .plain) ⊎ (ClosedSim geo (w .store) (w .ledger) (w .plain) ⊎ DownSim geo (w .store) (w .ledger) (w .plain)) → planned geo (w .plain) ms found .laid ≡ false
+        go (_⊎_.inl o) =
             ap (λ (s : Short). verdict geo s (w .plain .n) (length (w .plain .G)) (w .plain .F) (headerKept ms (w .plain .waiting)) found .laid) (o .short)
             ∙ ap (λ (v : Verdict). v .laid) (PlainLaws.choose-none geo (w .plain .n) (length (w .plain .G)) (w .plain .F) (headerKept ms (w .plain .waiting)) found)
-        open-none (_⊎_.inr (_⊎_.inl o)) = absurd (omega (arith, o .mode, x .mode))
-        open-none (_⊎_.inr (_⊎_.inr o)) = absurd (omega (arith, o .mode, x .mode))
+        go (_⊎_.inr (_⊎_.inl o)) = absurd (omega (arith, o .mode))
+        go (_⊎_.inr (_⊎_.inr o)) = absurd (omega (arith, o .mode))
+
+    cut-watch : (f : Progress) → Watch geo old f (w .store) (w .ledger) (w .plain) → Watch geo old (observe geo (cut ms) w f) (storeNext geo (cut ms) w) (ledgerNext geo (cut ms) w) (plainNext geo (cut ms) w)
+    unfolding observe shortSync
+    cut-watch (known quiet) (_⊎_.inl x) = cut-still quiet refl (open-lays-none (x .mode)) (x .S) tt
     cut-watch (known quiet) (_⊎_.inr x) = cut-still quiet refl (x .laid ms found) (x .S) tt
     cut-watch (undecided G place made) x = cut-decides G place made x
     cut-watch (known (decided G laid all)) x = cut-still (decided G laid all) refl (x .laid ms found) (x .S) (x .whole)
@@ -260,7 +271,7 @@ module _ (geo : Geometry) where
       (power-watch geo old k f (w .store) (w .ledger) (w .plain) x)
   local-watch old c w f (opens _ n s) m h x =
       let P = plain-served geo (local c) (foundWritten geo (local c) w) (w .plain) h in
-      open-kept geo old (local c) w f m (open-now geo (local c) w m n h .mode) x (ap (λ (d : Done). d .plain .mode) P ∙ s (w .plain) .mode) (ap (λ (d : Done). d .plain .S) P ∙ s (w .plain) .S) refl
+      open-kept geo old (local c) w f m (open-now geo (local c) w m n h .mode) x (ap (λ (d : Done). d .plain .mode) P ∙ s (w .plain) .mode) (ap (λ (d : Done). d .plain .S .disk) P ∙ ap (λ (S : Laid). S .disk) (s (w .plain) .S)) refl
 
   served-watch : (old : Disk) (c : Call) (w : World) (f : Progress) → WorldSim geo w → refusal geo c (w .plain) ≡ 0 → S.finished geo c w ≡ false → Watch geo old f (w .store) (w .ledger) (w .plain)
       → Watch geo old (observe geo c w f) (storeNext geo c w) (ledgerNext geo c w) (plainNext geo c w)

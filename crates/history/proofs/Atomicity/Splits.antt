@@ -5,9 +5,11 @@ use mathlib.Core.Logic.{_≢_, _⊎_}
 use mathlib.Core.Bool.{Bool, true, false, true≢false, cond, not}
 use mathlib.Core.List.{List, [], _∷_, _++_}
 use native.Mathlib.Omega.{arith}
+use native.Mathlib.Nat.{zero-add}
 use native.Mathlib.Decide.{ℕ-discrete, decLe}
 use borrow.Author.Tests.{eq-eqb, ne-eqb, eqb-true, not-true}
 use Rattle.card.specs.Disk.{Disk, overlay}
+use Rattle.crash.specs.Laid.{Laid}
 use Rattle.card.specs.Card.{blocksIn}
 use Rattle.card.proofs.Overlays.{overlay-nil}
 use Rattle.journal.specs.Geometry.{Geometry}
@@ -24,15 +26,17 @@ use Rattle.history.specs.Plain.{Plain, Done, fresh, refusal, plainStep, 
 use Rattle.history.specs.Dispatch.{dispatch, blockOf}
 use Rattle.history.specs.History.{World, begun, next, after, storeNext, ledgerNext, foundWritten}
 use Rattle.history.specs.Statements as S
-use Rattle.history.specs.Statements.{Fate, quiet, known, fate, outcome, WholeIsNew, shortSync, countShort, noneFinished, EndsFinished, CrashAtomicity}
+use Rattle.history.specs.Statements.{Fate, quiet, known, fate, outcome, WholeIsNew, shortSync, countShort, noneFinished, EndsFinished, groupsLaid, CrashAtomicity}
 use Rattle.history.proofs.Relation.PlainLaws as PlainLaws
 use Rattle.history.proofs.Steps.Shown.{plainNext, WorldSim, same-cause, dispatch-refused, plain-refused, plain-served}
 use Rattle.history.proofs.Steps.Cut as CutStep
 use Rattle.history.proofs.Steps.ListInduction.{step, next-sim, after-sim, after-append, clean-before, clean-first, begun-sim, formatted-now}
 use Rattle.history.proofs.Relation.PlainAnswers.{sync-cases, LocalKind, powers, opens, local-kind, served-N}
 use Rattle.history.proofs.Atomicity.ReadsBack.{found-closed, plain-same, recovered-sim, recovered-mode, power-served}
-use Rattle.history.proofs.Atomicity.Phases.{Watch, short-is, not-short, open-serves, open-now, closed-watch}
+use Rattle.history.proofs.Atomicity.Phases.{Watch, short-is, not-short, short-serves, open-now, closed-watch}
 use Rattle.history.proofs.Atomicity.ShortSyncs.{watch-list, short-plain}
+use Rattle.history.proofs.Atomicity.Finished.{served-of, finished-opens}
+use Rattle.history.proofs.Atomicity.Counts.{groups-counted}
 
 -- ---- N never changes
 
@@ -49,37 +53,7 @@ module _ (geo : Geometry) where
   after-N [] w = refl
   after-N (c ∷ cs) w = after-N cs (next geo c w) ∙ step-N c (foundWritten geo c w) (w .plain)
 
-  -- ---- after a finished sync or recovery the record is open
-
-  served-of : (c : Call) (w : World) → WorldSim geo w → dispatch geo c (w .store) .answer ≡ 0 → refusal geo c (w .plain) ≡ 0
-  served-of c w m h = go (ℕ-discrete (refusal geo c (w .plain)) 0)
-    where
-      go : Dec (refusal geo c (w .plain) ≡ 0) → refusal geo c (w .plain) ≡ 0
-      go (yes e) = e
-      go (no e) =
-          let k : cause geo (requestOf c) (w .store) ≢ 0 = λ q. e (sym (same-cause geo (w .store) (w .ledger) (w .plain) m c) ∙ q) in
-          absurd (k (sym (ap (λ (o : Outcome). o .answer) (dispatch-refused geo c (w .store) k)) ∙ h))
-
-  sync-opens : (w : World) → WorldSim geo w → dispatch geo sync (w .store) .answer ≡ 0 → storeNext geo sync w .rec .mode ≡ openMode
-  sync-opens w m h =
-      let r = served-of sync w m h in
-      let o = open-now geo sync w m refl r in
-      let P = plain-served geo sync (foundWritten geo sync w) (w .plain) r in
-      let d : w .plain .mode ≡ 1 = m .basics .mirrors .mode ∙ o .mode in
-      step geo sync w m .agrees .mode
-      ∙ ap (λ (x : Done). x .plain .mode) P
-      ∙ sync-cases geo (λ x. x .plain .mode ≡ 1) (w .plain)
-      (λ z. ap (λ (x : Done). x .plain .mode) (PlainLaws.sync-nothing geo (w .plain) z) ∙ d)
-      (λ z p. ap (λ (x : Done). x .plain .mode) (PlainLaws.sync-finished geo (w .plain) z p) ∙ d)
-      (λ z p. absurd (let k : _≡_ {A = ℕ} 4 0 = sym (ap (λ (x : Done). x .answer) (P ∙ PlainLaws.sync-short geo (w .plain) z p)) ∙ sym (step geo sync w m .agrees .answer) ∙ h in omega arith))
-
-  finished-opens : (c : Call) (w : World) → WorldSim geo w → S.finished geo c w ≡ true → storeNext geo c w .rec .mode ≡ openMode
-  unfolding S.finished
-  finished-opens (local c) w m h = absurd (mathlib.Core.Bool.false≢true h)
-  finished-opens (save Save.sync) w m h = sync-opens w m (eqb-true _ _ h)
-  finished-opens (save Save.apply) w m h = absurd (mathlib.Core.Bool.false≢true h)
-  finished-opens (save Save.recover) w m h = recovered-mode geo w m (eqb-true _ _ h)
-  finished-opens (cut ms) w m h = absurd (mathlib.Core.Bool.false≢true h)
+  -- ---- a fresh card is open
 
   begun-open : (st : State) → formatCall geo st .answer ≡ 0 → begun geo st .store .rec .mode ≡ openMode
   unfolding begun formatted
@@ -93,7 +67,7 @@ module _ (geo : Geometry) where
       let c = e .1 in
       let same : after geo a (begun geo st) ≡ next geo c (after geo b (begun geo st)) = ap (λ (l : List Call). after geo l (begun geo st)) (e .2) ∙ after-append geo b (c ∷ []) (begun geo st) in
       let clean : after geo b (begun geo st) .excepted ≡ false = clean-before geo (c ∷ []) (after geo b (begun geo st)) (ap (λ (w : World). w .excepted) (sym same) ∙ x) in
-      ap (λ (w : World). w .store .rec .mode) same ∙ finished-opens c (after geo b (begun geo st)) (after-sim geo b (begun geo st) (begun-sim geo st f) clean) (e .3)
+      ap (λ (w : World). w .store .rec .mode) same ∙ finished-opens geo c (after geo b (begun geo st)) (after-sim geo b (begun geo st) (begun-sim geo st f) clean) (e .3)
 
   -- ---- at most one sync is cut short
 
@@ -150,10 +124,10 @@ module _ (geo : Geometry) where
   short-down : (c : Call) (w : World) → WorldSim geo w → S.finished geo c w ≡ false → shortSync geo c w ≡ true → storeNext geo c w .rec .mode ≢ openMode
   short-down c w m nf h e =
       let s = short-is geo c w h in
-      let r : refusal geo sync (w .plain) ≡ 0 = open-serves geo w m (s .mode) in
+      let r : refusal geo sync (w .plain) ≡ 0 = short-serves geo w m (s .mode) (s .answer) in
       let f : S.finished geo sync w ≡ false = ap (λ (x : Call). S.finished geo x w) (sym (s .is)) ∙ nf in
       let o : storeNext geo sync w .rec .mode ≡ openMode = ap (λ (x : Call). storeNext geo x w .rec .mode) (sym (s .is)) ∙ e in
-      let k : _≡_ {A = ℕ} 2 1 = sym (step geo sync w m .agrees .mode ∙ ap (λ (x : Done). x .plain .mode) (short-plain geo (w .plain .S) w m r f)) ∙ o in
+      let k : _≡_ {A = ℕ} 2 1 = sym (step geo sync w m .agrees .mode ∙ ap (λ (x : Done). x .plain .mode) (short-plain geo (w .plain .S .disk) w m r f)) ∙ o in
       omega arith
 
   count-one : (cs : List Call) (w : World) → WorldSim geo w → noneFinished geo cs w ≡ true → after geo cs w .excepted ≡ false → countShort geo cs w ≤ 1
@@ -179,7 +153,7 @@ module _ (geo : Geometry) where
     sim = recovered-sim geo w m h
 
     r : refusal geo recover (w .plain) ≡ 0
-    r = served-of recover w m h
+    r = served-of geo recover w m h
 
     plain-is : plainNext geo recover w ≡ plainRecover (w .plain) .plain
     plain-is = ap (λ (o : Done). o .plain) (plain-served geo recover (foundWritten geo recover w) (w .plain) r)
@@ -202,17 +176,23 @@ module _ (geo : Geometry) where
         go true f (yes q) = (ap (λ (o : Done). o .plain .T) (PlainLaws.recover-fallback (w .plain) f q), ap (λ (o : Done). o .plain .G) (PlainLaws.recover-fallback (w .plain) f q))
         go true f (no q) = (ap (λ (o : Done). o .plain .T) (PlainLaws.recover-short (w .plain) f (omega arith)), ap (λ (o : Done). o .plain .G) (PlainLaws.recover-short (w .plain) f (omega arith)))
 
-    plain-get : (x : ℕ) → plainGet x (plainNext geo recover w) ≡ w .plain .S x
+    plain-get : (x : ℕ) → plainGet x (plainNext geo recover w) ≡ w .plain .S .disk x
     unfolding plainGet
     plain-get x =
         let c = found-closed geo w m h in
         let T : plainNext geo recover w .T ≡ [] = ap (λ (d : Plain). d .T) plain-is ∙ lists-empty .0 ∙ c .T in
         let G : plainNext geo recover w .G ≡ [] = ap (λ (d : Plain). d .G) plain-is ∙ lists-empty .1 ∙ c .G in
-        let S′ : plainNext geo recover w .S ≡ w .plain .S = ap (λ (d : Plain). d .S) plain-is ∙ plain-same geo w m h in
+        let S′ : plainNext geo recover w .S .disk ≡ w .plain .S .disk = ap (λ (d : Plain). d .S .disk) plain-is ∙ ap (λ (S : Laid). S .disk) (plain-same geo w m h) in
         (λ i. overlay (T i) (overlay (G i) (S′ i)) x)
-        ∙ ap (λ (f : Disk). f x) (overlay-nil (overlay [] (w .plain .S)) ∙ overlay-nil (w .plain .S))
+        ∙ ap (λ (f : Disk). f x) (overlay-nil (overlay [] (w .plain .S .disk)) ∙ overlay-nil (w .plain .S .disk))
 
-    pub found-is : (N : ℕ) (d : Disk) → N ≡ w .plain .N → w .plain .S ≡ d → S.FoundIs geo N (storeNext geo recover w) d
+    -- the number found
+    pub found-number : storeNext geo recover w .rec .save ≡ w .plain .S .groups
+    found-number =
+        step geo recover w m .agrees .save (recovered-mode geo w m h)
+        ∙ ap (λ (d : Plain). d .S .groups) plain-is ∙ ap (λ (S : Laid). S .groups) (plain-same geo w m h)
+
+    pub found-is : (N : ℕ) (d : Disk) → N ≡ w .plain .N → w .plain .S .disk ≡ d → S.FoundIs geo N (storeNext geo recover w) d
     found-is N d e s x q =
         let a = step geo (get x) v sim .agrees in
         let z : dispatch geo (get x) (storeNext geo recover w) .answer ≡ 0 =
@@ -225,7 +205,7 @@ module _ (geo : Geometry) where
     pub one : countShort geo b (after geo a (begun geo st)) ≤ 1
     pub end : Fate
     pub fated : fate geo b (after geo a (begun geo st)) (known quiet) ≡ known end
-    pub found : S.FoundIs geo (blocksIn (st .settled)) (storeNext geo recover (after geo b (after geo a (begun geo st)))) (outcome end (after geo a (begun geo st) .plain .S))
+    pub found : S.FoundIs geo (blocksIn (st .settled)) (storeNext geo recover (after geo b (after geo a (begun geo st)))) (outcome end (after geo a (begun geo st) .plain .S .disk))
     pub whole : WholeIsNew end
 
   pub split-reading : (st : State) → formatCall geo st .answer ≡ 0 → (a b : List Call) → EndsFinished geo a (begun geo st) → noneFinished geo b (after geo a (begun geo st)) ≡ true
@@ -236,10 +216,10 @@ module _ (geo : Geometry) where
       let clean : after geo a (begun geo st) .excepted ≡ false = clean-before geo b (after geo a (begun geo st)) x in
       let m : WorldSim geo (after geo a (begun geo st)) = after-sim geo a (begun geo st) (begun-sim geo st f) clean in
       let m′ : WorldSim geo (after geo b (after geo a (begun geo st))) = after-sim geo b (after geo a (begun geo st)) m x in
-      let start : Watch geo (after geo a (begun geo st) .plain .S) (known quiet) (after geo a (begun geo st) .store) (after geo a (begun geo st) .ledger) (after geo a (begun geo st) .plain) =
+      let start : Watch geo (after geo a (begun geo st) .plain .S .disk) (known quiet) (after geo a (begun geo st) .store) (after geo a (begun geo st) .ledger) (after geo a (begun geo st) .plain) =
       _⊎_.inl (record { mode = ends-open st f a ends clean; S = refl }) in
-      let last = watch-list geo (after geo a (begun geo st) .plain .S) b (after geo a (begun geo st)) (known quiet) m none x start in
-      let o = closed-watch geo (after geo a (begun geo st) .plain .S) (fate geo b (after geo a (begun geo st)) (known quiet)) (after geo b (after geo a (begun geo st)) .store) (after geo b (after geo a (begun geo st)) .ledger) (after geo b (after geo a (begun geo st)) .plain) last
+      let last = watch-list geo (after geo a (begun geo st) .plain .S .disk) b (after geo a (begun geo st)) (known quiet) m none x start in
+      let o = closed-watch geo (after geo a (begun geo st) .plain .S .disk) (fate geo b (after geo a (begun geo st)) (known quiet)) (after geo b (after geo a (begun geo st)) .store) (after geo b (after geo a (begun geo st)) .ledger) (after geo b (after geo a (begun geo st)) .plain) last
       (found-closed geo (after geo b (after geo a (begun geo st))) m′ h .mode) in
       record {
         one = count-one b (after geo a (begun geo st)) m none x;
@@ -294,6 +274,17 @@ module _ (geo : Geometry) where
   split [] w = record { a = []; b = []; same = refl; ends = _⊎_.inl refl; none = refl }
   split (c ∷ cs) w = split-cons c cs w (split cs (next geo c w))
 
+  -- ---- the number found
+
+  pub found-counted : (st : State) → formatCall geo st .answer ≡ 0 → (cs : List Call) → dispatch geo recover (after geo cs (begun geo st) .store) .answer ≡ 0 → after geo cs (begun geo st) .excepted ≡ false
+      → storeNext geo recover (after geo cs (begun geo st)) .rec .save ≡ groupsLaid geo cs (begun geo st) (known quiet)
+  unfolding begun fresh
+  found-counted st f cs h x =
+      let m : WorldSim geo (after geo cs (begun geo st)) = after-sim geo cs (begun geo st) (begun-sim geo st f) x in
+      found-number (after geo cs (begun geo st)) m h
+      ∙ groups-counted geo cs (begun geo st) (known quiet) (begun-sim geo st f) x (begun geo st .plain .S .disk, _⊎_.inl (record { mode = begun-open st f; S = refl }))
+      ∙ zero-add _
+
   -- ---- the theorem
 
   pub crash-atomicity : CrashAtomicity geo
@@ -312,6 +303,7 @@ module _ (geo : Geometry) where
         one = r .one;
         end = r .end;
         fated = r .fated;
-        found = λ y d. subst (λ (w : World). (dispatch geo (get y) (storeNext geo recover w) .answer ≡ 0) × (blockOf geo y (storeNext geo recover w) ≡ outcome (r .end) (after geo (s .a) (begun geo st) .plain .S) y)) (sym same) (r .found y d);
+        found = λ y d. subst (λ (w : World). (dispatch geo (get y) (storeNext geo recover w) .answer ≡ 0) × (blockOf geo y (storeNext geo recover w) ≡ outcome (r .end) (after geo (s .a) (begun geo st) .plain .S .disk) y)) (sym same) (r .found y d);
         whole = r .whole;
+        number = found-counted st f cs h x;
       }

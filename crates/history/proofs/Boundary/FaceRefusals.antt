@@ -27,8 +27,8 @@ use Rattle.history.specs.Refusals.{NoPart, Inspects, Reads, Faces, Gets,
 -- ---- tally and alike
 
 chosen-known : (c : Choice) → choiceNumber c ≢ 0 → (choiceNumber c ≡ 8) ⊎ (choiceNumber c ≡ 9)
-chosen-known (Whole n sum) h = absurd (h refl)
-chosen-known (Fallback n sum) h = absurd (h refl)
+chosen-known (Whole n sum c) h = absurd (h refl)
+chosen-known (Fallback n sum c) h = absurd (h refl)
 chosen-known Foreign h = _⊎_.inl refl
 chosen-known Neither h = _⊎_.inr refl
 

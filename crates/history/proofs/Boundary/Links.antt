@@ -1,4 +1,4 @@
--- Every record that a list of calls leaves fits its 36 bytes, and so C passes on the store's state.
+-- Every record that a list of calls leaves fits its 44 bytes, and so C passes on the store's state.
 use Prim.Native.Nat.{ℕ, _^_, _<_}
 use mathlib.Core.Path.{_≡_, refl, ap, sym, subst, _∙_}
 use mathlib.Core.Logic.{_⊎_}
@@ -66,21 +66,29 @@ module _ (geo : Geometry) where
       go (yes e) = rw (plain-served geo c t d e) (served-power c t d p h)
       go (no e) = rw (plain-refused geo c t d e) h
 
--- ---- the sum is one of a list, or as it was
+-- ---- sum and save number fit, or the record is open
 
--- what a call leaves of it: open, kept, or the empty list's
-abbrev Sums : State → Outcome → Type 0
-Sums st o = (o .state .rec .mode ≡ openMode) ⊎ ((o .state .rec .sum ≡ st .rec .sum) ⊎ (o .state .rec .sum ≡ start))
+-- the sum and the save number fit their bytes if they did before
+abbrev Keeps : Record → Record → Type 0
+Keeps r q = (r .sum < 2 ^ 64 → q .sum < 2 ^ 64) × (r .save < 2 ^ 64 → q .save < 2 ^ 64)
 
--- done with a record that is open, or has such a sum; or gone with one
-carried-sums : (os : List Order) (done gone : Record) (st : State)
-    → (done .mode ≡ openMode) ⊎ ((done .sum ≡ st .rec .sum) ⊎ (done .sum ≡ start))
-    → (gone .sum ≡ st .rec .sum) ⊎ (gone .sum ≡ start)
-    → Sums st (carried os done gone st)
+same-keeps : (r : Record) → Keeps r r
+same-keeps r = (λ h. h, λ h. h)
+
+-- an empty log's
+empty-keeps : (r : Record) → Keeps r (withLog 0 start r)
+empty-keeps r = (λ h. lit< tt, λ h. h)
+
+-- what a call leaves of them: open, or that
+abbrev Numbers : State → Outcome → Type 0
+Numbers st o = (o .state .rec .mode ≡ openMode) ⊎ Keeps (st .rec) (o .state .rec)
+
+-- done with such a record; or gone with one
+carried-numbers : (os : List Order) (done gone : Record) (st : State) → (done .mode ≡ openMode) ⊎ Keeps (st .rec) done → Keeps (st .rec) gone → Numbers st (carried os done gone st)
 unfolding carried
-carried-sums os done gone st a b = go (leb (length os) (st .rec .power))
+carried-numbers os done gone st a b = go (leb (length os) (st .rec .power))
   where
-    go : (t : Bool) → (cond t done (withMode down gone) .mode ≡ openMode) ⊎ ((cond t done (withMode down gone) .sum ≡ st .rec .sum) ⊎ (cond t done (withMode down gone) .sum ≡ start))
+    go : (t : Bool) → (cond t done (withMode down gone) .mode ≡ openMode) ⊎ Keeps (st .rec) (cond t done (withMode down gone))
     go true = a
     go false = _⊎_.inr b
 
@@ -92,21 +100,21 @@ module _ (geo : Geometry) where
       go true = refl
       go false = refl
 
-  sync-sums : (st : State) → st .rec .mode ≡ openMode → Sums st (syncing geo st)
-  sync-sums st o =
-      carried-sums _ _ _ st (_⊎_.inl (met-mode st ∙ o)) (go (leb (length (innerOrders geo st)) (st .rec .power)) (applies geo st))
+  sync-numbers : (st : State) → st .rec .mode ≡ openMode → Numbers st (syncing geo st)
+  sync-numbers st o =
+      carried-numbers _ _ _ st (_⊎_.inl (met-mode st ∙ o)) (go (leb (length (innerOrders geo st)) (st .rec .power)) (applies geo st))
     where
-      go : (b t : Bool) → (cond b (cond t (withLog 0 start (st .rec)) (st .rec)) (st .rec) .sum ≡ st .rec .sum) ⊎ (cond b (cond t (withLog 0 start (st .rec)) (st .rec)) (st .rec) .sum ≡ start)
-      go true true = _⊎_.inr refl
-      go true false = _⊎_.inl refl
-      go false t = _⊎_.inl refl
+      go : (b t : Bool) → Keeps (st .rec) (cond b (cond t (withLog 0 start (st .rec)) (st .rec)) (st .rec))
+      go true true = empty-keeps (st .rec)
+      go true false = same-keeps (st .rec)
+      go false t = same-keeps (st .rec)
 
-apply-sums : (st : State) (os : List Order) → Sums st (carried os (cond (eqb (st .rec .logged) 0) (st .rec) (withLog 0 start (st .rec))) (st .rec) st)
-apply-sums st os = carried-sums os _ _ st (_⊎_.inr (go (eqb (st .rec .logged) 0))) (_⊎_.inl refl)
+apply-numbers : (st : State) (os : List Order) → Numbers st (carried os (cond (eqb (st .rec .logged) 0) (st .rec) (withLog 0 start (st .rec))) (st .rec) st)
+apply-numbers st os = carried-numbers os _ _ st (_⊎_.inr (go (eqb (st .rec .logged) 0))) (same-keeps (st .rec))
   where
-    go : (t : Bool) → (cond t (st .rec) (withLog 0 start (st .rec)) .sum ≡ st .rec .sum) ⊎ (cond t (st .rec) (withLog 0 start (st .rec)) .sum ≡ start)
-    go true = _⊎_.inl refl
-    go false = _⊎_.inr refl
+    go : (t : Bool) → Keeps (st .rec) (cond t (st .rec) (withLog 0 start (st .rec)))
+    go true = same-keeps (st .rec)
+    go false = empty-keeps (st .rec)
 
 module _ (geo : Geometry) where
   module _ (st : State) (l : Ledger) (s : Safe geo st l) where
@@ -123,60 +131,72 @@ module _ (geo : Geometry) where
         let o = is-open geo st (s .ledger) (s .plain) (s .sim) q n (cause-passes geo q st h) in
         step geo c world (s .sim) .agrees .mode ∙ ap (λ (x : Done). x .plain .mode) (plain-served geo c (foundWritten geo c world) (s .plain) r) ∙ k ∙ s .sim .basics .mirrors .mode ∙ o .mode
 
-    local-sums : (c : Local) → LocalKind geo c → cause geo (Request.local c) st ≡ 0 → Sums st (dispatch geo (local c) st)
+    local-numbers : (c : Local) → LocalKind geo c → cause geo (Request.local c) st ≡ 0 → Numbers st (dispatch geo (local c) st)
     unfolding called
-    local-sums c (powers k) h = rw (eq-eqb _ 0 h) (_⊎_.inr (_⊎_.inl refl))
-    local-sums c (opens _ n u) h = _⊎_.inl (still-open (local c) (Request.local c) refl n h (u (s .plain) .mode))
+    local-numbers c (powers k) h = rw (eq-eqb _ 0 h) (_⊎_.inr (same-keeps (st .rec)))
+    local-numbers c (opens _ n u) h = _⊎_.inl (still-open (local c) (Request.local c) refl n h (u (s .plain) .mode))
 
-    served-sums : (c : Call) → cause geo (requestOf c) st ≡ 0 → Sums st (dispatch geo c st)
+    served-numbers : (c : Call) → cause geo (requestOf c) st ≡ 0 → Numbers st (dispatch geo c st)
     unfolding called
-    served-sums (local c) h = local-sums c (local-kind geo c) h
-    served-sums (save Save.sync) h =
-        rw (eq-eqb _ 0 h) (sync-sums geo st (is-open geo st (s .ledger) (s .plain) (s .sim) Request.sync refl (cause-passes geo Request.sync st h) .mode))
-    served-sums (save Save.apply) h = rw (eq-eqb _ 0 h, apply-carried geo st) (apply-sums st _)
-    served-sums (save Save.recover) h = rw (eq-eqb _ 0 h) (carried-sums _ _ _ st (_⊎_.inl refl) (_⊎_.inl refl))
-    served-sums (cut ms) h = rw (eq-eqb _ 0 h) (_⊎_.inr (_⊎_.inr refl))
+    served-numbers (local c) h = local-numbers c (local-kind geo c) h
+    served-numbers (save Save.sync) h =
+        rw (eq-eqb _ 0 h) (sync-numbers geo st (is-open geo st (s .ledger) (s .plain) (s .sim) Request.sync refl (cause-passes geo Request.sync st h) .mode))
+    served-numbers (save Save.apply) h = rw (eq-eqb _ 0 h, apply-carried geo st) (apply-numbers st _)
+    served-numbers (save Save.recover) h = rw (eq-eqb _ 0 h) (carried-numbers _ _ _ st (_⊎_.inl refl) (same-keeps (st .rec)))
+    served-numbers (cut ms) h = rw (eq-eqb _ 0 h) (_⊎_.inr (λ h. lit< tt, λ h. lit< tt))
 
-    sums : (c : Call) → Sums st (dispatch geo c st)
-    sums c = go (ℕ-discrete (cause geo (requestOf c) st) 0)
+    numbers : (c : Call) → Numbers st (dispatch geo c st)
+    numbers c = go (ℕ-discrete (cause geo (requestOf c) st) 0)
       where
-        go : Dec (cause geo (requestOf c) st ≡ 0) → Sums st (dispatch geo c st)
-        go (yes h) = served-sums c h
-        go (no h) = rw (dispatch-refused geo c st h) (_⊎_.inr (_⊎_.inl refl))
+        go : Dec (cause geo (requestOf c) st ≡ 0) → Numbers st (dispatch geo c st)
+        go (yes h) = served-numbers c h
+        go (no h) = rw (dispatch-refused geo c st h) (_⊎_.inr (same-keeps (st .rec)))
 
 -- ---- every record fits
 
--- the two numbers that no count bounds
+-- the three numbers that no count bounds
 record Bounded (st : State) : Type 0 where
   power : st .rec .power < 2 ^ 32
   sum : st .rec .sum < 2 ^ 64
+  save : st .rec .save < 2 ^ 64
 
 module _ (geo : Geometry) where
   next-bounded : (c : Call) (st : State) (l : Ledger) → Safe geo st l → Passable c → Bounded st → Bounded (dispatch geo c st .state)
   unfolding world
-  next-bounded c st l s p b = record { power = rw (agrees .power) (plain-power geo c (foundWritten geo c (world geo st l s)) (s .plain) p (rw (s .sim .basics .power) (b .power))); sum = by-sum (sums geo st l s c) }
+  next-bounded c st l s p b =
+      let n = by-mode (numbers geo st l s c) in
+      record {
+        power = rw (agrees .power) (plain-power geo c (foundWritten geo c (world geo st l s)) (s .plain) p (rw (s .sim .basics .power) (b .power)));
+        sum = n .0;
+        save = n .1;
+      }
     where
       agrees : Rattle.history.specs.Statements.Agrees geo c (world geo st l s)
       agrees = step geo c (world geo st l s) (s .sim) .agrees
 
-      of-list : (t : Safe geo (dispatch geo c st .state) (entered geo c st l)) → dispatch geo c st .state .rec .mode ≡ openMode → dispatch geo c st .state .rec .sum < 2 ^ 64
-      of-list t z = go (t .sim .phase)
+      -- open: the sum of a list, and the number of the card's header
+      of-card : (t : Safe geo (dispatch geo c st .state) (entered geo c st l)) → dispatch geo c st .state .rec .mode ≡ openMode
+          → (dispatch geo c st .state .rec .sum < 2 ^ 64) × (dispatch geo c st .state .rec .save < 2 ^ 64)
+      of-card t z = go (t .sim .phase)
         where
-          go : OpenSim geo (dispatch geo c st .state) (t .ledger) (t .plain) ⊎ (ClosedSim geo (dispatch geo c st .state) (t .ledger) (t .plain) ⊎ DownSim geo (dispatch geo c st .state) (t .ledger) (t .plain)) → dispatch geo c st .state .rec .sum < 2 ^ 64
-          go (_⊎_.inl o) = rw (o .sum) (sumOf-lt start (entries geo (dispatch geo c st .state .settled) (dispatch geo c st .state .rec .logged)) (lit< tt))
+          go : OpenSim geo (dispatch geo c st .state) (t .ledger) (t .plain) ⊎ (ClosedSim geo (dispatch geo c st .state) (t .ledger) (t .plain) ⊎ DownSim geo (dispatch geo c st .state) (t .ledger) (t .plain))
+              → (dispatch geo c st .state .rec .sum < 2 ^ 64) × (dispatch geo c st .state .rec .save < 2 ^ 64)
+          go (_⊎_.inl o) = (
+            rw (o .sum) (sumOf-lt start (entries geo (dispatch geo c st .state .settled) (dispatch geo c st .state .rec .logged)) (lit< tt)),
+            rw (← t .sim .basics .mirrors .save z) (o .card .head .save),
+          )
           go (_⊎_.inr (_⊎_.inl o)) = absurd (omega (arith, o .mode))
           go (_⊎_.inr (_⊎_.inr o)) = absurd (omega (arith, o .mode))
 
-      by-sum : Sums st (dispatch geo c st) → dispatch geo c st .state .rec .sum < 2 ^ 64
-      by-sum (_⊎_.inl z) = of-list (next-safe geo c st l s) z
-      by-sum (_⊎_.inr (_⊎_.inl z)) = rw z (b .sum)
-      by-sum (_⊎_.inr (_⊎_.inr z)) = rw z (lit< tt)
+      by-mode : Numbers st (dispatch geo c st) → (dispatch geo c st .state .rec .sum < 2 ^ 64) × (dispatch geo c st .state .rec .save < 2 ^ 64)
+      by-mode (_⊎_.inl z) = of-card (next-safe geo c st l s) z
+      by-mode (_⊎_.inr z) = (z .0 (b .sum), z .1 (b .save))
 
   fits : (st : State) (l : Ledger) → Safe geo st l → Bounded st → Fitting (st .rec)
   fits st l s b =
       let r = record-facts geo st (s .sim .basics .counts) in
       let z = sizes-facts geo st (s .sim .basics .sizes) in
-      omega (arith, r .mode, r .blocks, z .most, r .open-count, r .group-count, r .log-count, r .waiting-count, b .power, b .sum)
+      omega (arith, r .mode, r .blocks, z .most, r .open-count, r .group-count, r .log-count, r .waiting-count, b .power, b .sum, b .save)
 
 -- ---- C passes on the state
 
@@ -285,7 +305,7 @@ module _ (geo : Geometry) where
       (fits geo (after geo cs (begun geo (stateOf (decodeRecord r) s w k)) .store) (after geo cs (begun geo (stateOf (decodeRecord r) s w k)) .ledger) (m .safe) (m .bounded))
     where
       fresh-bounded : Bounded (formatCall geo (stateOf (decodeRecord r) s w k) .state)
-      fresh-bounded = rw (formatted-now geo (stateOf (decodeRecord r) s w k) (formats r s w k z)) (record { power = lit< tt; sum = lit< tt })
+      fresh-bounded = rw (formatted-now geo (stateOf (decodeRecord r) s w k) (formats r s w k z)) (record { power = lit< tt; sum = lit< tt; save = lit< tt })
 
       start-linking : Linking (faced (formatCall geo) r s w k) (begun geo (stateOf (decodeRecord r) s w k))
       start-linking = record {

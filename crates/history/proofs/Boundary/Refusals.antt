@@ -119,8 +119,8 @@ module _ (geo : Geometry) where
     header-batch h = one-batch (cardIn st) (headerEntry h ∷ []) (record { none = none; room = record { places = omega (arith, none); whole = (length-encode h, tt); low = (lit< tt, tt) } })
 
     recover-batched : (N : ℕ) (c : Choice) → Batched (cardIn st) (recoverOrders N c)
-    recover-batched N (Whole n h) = no-batches (cardIn st)
-    recover-batched N (Fallback p h) = rw (fallback-writes N p h) (header-batch (header N p h p h))
+    recover-batched N (Whole n h k) = no-batches (cardIn st)
+    recover-batched N (Fallback p h k) = rw (fallback-writes N p h k) (header-batch (header N p h p h k))
     recover-batched N Foreign = no-batches (cardIn st)
     recover-batched N Neither = no-batches (cardIn st)
 
@@ -128,13 +128,13 @@ module _ (geo : Geometry) where
     none-waits : st .rec .waiting ≡ 0
     none-waits = idle geo st (o .facts .counts) (λ z. omega (arith, o .mode))
 
-    checkpoint-batched : Batched (cardIn st) (checkpointOrders (st .rec .blocks) (entries geo (st .settled) (st .rec .logged)))
+    checkpoint-batched : Batched (cardIn st) (checkpointOrders (st .rec .blocks) (st .rec .save) (entries geo (st .settled) (st .rec .logged)))
     checkpoint-batched =
         let sz = o .facts .sizes in
         let rc = o .facts .counts in
         let log = entries geo (st .settled) (st .rec .logged) in
-        rw (checkpoint-writes (st .rec .blocks) log)
-        (more-batches (cardIn st) (batch log) (batch (headerEntry (emptyHeader (st .rec .blocks)) ∷ []))
+        rw (checkpoint-writes (st .rec .blocks) (st .rec .save) log)
+        (more-batches (cardIn st) (batch log) (batch (headerEntry (emptyHeader (st .rec .blocks) (st .rec .save)) ∷ []))
         (one-batch (cardIn st) log
         (record {
           none = none-waits;
@@ -144,33 +144,33 @@ module _ (geo : Geometry) where
             low = data-short geo (st .rec .blocks) (omega (arith, sz .most, rc .blocks)) log (o .lists .log-data);
           };
         }))
-        (header-batch st none-waits (sz .waiting) (emptyHeader (st .rec .blocks))))
+        (header-batch st none-waits (sz .waiting) (emptyHeader (st .rec .blocks) (st .rec .save))))
 
-    append-batched : (n h : ℕ) → n + length (groupOf geo st) ≤ geo .slots → Batched (cardIn st) (appendOrders geo (st .rec .blocks) (st .settled) n h (groupOf geo st))
-    append-batched n h p =
+    append-batched : (n h k : ℕ) → n + length (groupOf geo st) ≤ geo .slots → Batched (cardIn st) (appendOrders geo (st .rec .blocks) (st .settled) n h k (groupOf geo st))
+    append-batched n h k p =
         let sz = o .facts .sizes in
         let rc = o .facts .counts in
-        rw (append-writes geo (st .rec .blocks) (st .settled) n h (groupOf geo st))
-        (one-batch (cardIn st) (appendWrites geo (st .rec .blocks) (st .settled) n h (groupOf geo st))
+        rw (append-writes geo (st .rec .blocks) (st .settled) n h k (groupOf geo st))
+        (one-batch (cardIn st) (appendWrites geo (st .rec .blocks) (st .settled) n h k (groupOf geo st))
         (record {
           none = none-waits;
           room = record {
-            places = omega (arith, none-waits, p, sz .waiting, length-append-writes geo (st .rec .blocks) (st .settled) n h (groupOf geo st), geo .queued);
-            whole = writes-whole geo (st .rec .blocks) (st .settled) n h (groupOf geo st) (from-whole (st .work) (groupFrom geo) (st .rec .grouped) (omega (arith, sz .work, rc .group-count)));
-            low = all-map (λ e. e .address < mostBlocks) NarrowAddress (λ e l. omega arith) (appendWrites geo (st .rec .blocks) (st .settled) n h (groupOf geo st))
-                (writes-below geo (st .rec .blocks) (st .settled) n h (groupOf geo st) mostBlocks p (omega (arith, geo .addressed)));
+            places = omega (arith, none-waits, p, sz .waiting, length-append-writes geo (st .rec .blocks) (st .settled) n h k (groupOf geo st), geo .queued);
+            whole = writes-whole geo (st .rec .blocks) (st .settled) n h k (groupOf geo st) (from-whole (st .work) (groupFrom geo) (st .rec .grouped) (omega (arith, sz .work, rc .group-count)));
+            low = all-map (λ e. e .address < mostBlocks) NarrowAddress (λ e l. omega arith) (appendWrites geo (st .rec .blocks) (st .settled) n h k (groupOf geo st))
+                (writes-below geo (st .rec .blocks) (st .settled) n h k (groupOf geo st) mostBlocks p (omega (arith, geo .addressed)));
           };
         }))
 
-    apply-batched : Batched (cardIn st) (applyOrders geo (st .rec .blocks) (st .settled) (st .rec .logged))
+    apply-batched : Batched (cardIn st) (applyOrders geo (st .rec .blocks) (st .settled) (st .rec .logged) (st .rec .save))
     unfolding applyOrders
     apply-batched = go (eqb (st .rec .logged) 0)
       where
-        go : (t : Bool) → Batched (cardIn st) (cond t [] (checkpointOrders (st .rec .blocks) (entries geo (st .settled) (st .rec .logged))))
+        go : (t : Bool) → Batched (cardIn st) (cond t [] (checkpointOrders (st .rec .blocks) (st .rec .save) (entries geo (st .settled) (st .rec .logged))))
         go true = no-batches (cardIn st)
         go false = checkpoint-batched
 
-    sync-batched : Batched (cardIn st) (syncOrders geo (st .rec .blocks) (st .settled) (st .rec .logged) (st .rec .sum) (groupOf geo st))
+    sync-batched : Batched (cardIn st) (syncOrders geo (st .rec .blocks) (st .settled) (st .rec .logged) (st .rec .sum) (st .rec .save) (groupOf geo st))
     unfolding syncOrders
     sync-batched = go (eqb (length (groupOf geo st)) 0) (leb (st .rec .logged + length (groupOf geo st)) (geo .slots)) refl
       where
@@ -178,13 +178,13 @@ module _ (geo : Geometry) where
             → Batched (cardIn st)
             (cond s []
             (cond t
-            (appendOrders geo (st .rec .blocks) (st .settled) (st .rec .logged) (st .rec .sum) (groupOf geo st))
-            (checkpointOrders (st .rec .blocks) (entries geo (st .settled) (st .rec .logged)) ++ appendOrders geo (st .rec .blocks) (st .settled) 0 start (groupOf geo st))))
+            (appendOrders geo (st .rec .blocks) (st .settled) (st .rec .logged) (st .rec .sum) (st .rec .save + 1) (groupOf geo st))
+            (checkpointOrders (st .rec .blocks) (st .rec .save) (entries geo (st .settled) (st .rec .logged)) ++ appendOrders geo (st .rec .blocks) (st .settled) 0 start (st .rec .save + 1) (groupOf geo st))))
         go true t p = no-batches (cardIn st)
-        go false true p = append-batched (st .rec .logged) (st .rec .sum) (leb-true _ _ p)
+        go false true p = append-batched (st .rec .logged) (st .rec .sum) (st .rec .save + 1) (leb-true _ _ p)
         go false false p =
             let few : length (groupOf geo st) ≤ geo .slots = rw (length-upTo (listed (st .work) (groupFrom geo)) (st .rec .grouped)) (o .facts .counts .group-count) in
-            more-batches (cardIn st) _ _ checkpoint-batched (append-batched 0 start (omega arith))
+            more-batches (cardIn st) _ _ checkpoint-batched (append-batched 0 start (st .rec .save + 1) (omega arith))
 
 -- ---- every call
 
@@ -192,8 +192,8 @@ module _ (geo : Geometry) where
 
 -- two orders suffice to recover
 recover-few : (N : ℕ) (c : Choice) → length (recoverOrders N c) ≤ 2
-recover-few N (Whole n h) = omega arith
-recover-few N (Fallback p h) = omega (arith, length-fallback N p h)
+recover-few N (Whole n h k) = omega arith
+recover-few N (Fallback p h k) = omega (arith, length-fallback N p h k)
 recover-few N Foreign = omega arith
 recover-few N Neither = omega arith
 
@@ -231,6 +231,7 @@ module _ (geo : Geometry) where
     orders = ap (λ (o : Outcome). o .orders) short;
     down-now = ap (λ (o : Outcome). o .state .rec .mode) short;
     N = ap (λ (o : Outcome). o .state .rec .blocks) short ∙ left-is t st (λ r. r .blocks) (st .rec .blocks) refl ∙ same-both t (st .rec .blocks);
+    save = ap (λ (o : Outcome). o .state .rec .save) short ∙ left-is t st (λ r. r .save) (st .rec .save) refl ∙ same-both t (st .rec .save);
     emptied = λ e d. let u : t ≡ true = sym (first .is e) ∙ d in (
       ap (λ (o : Outcome). o .state .rec .logged) short ∙ left-is t st (λ r. r .logged) 0 refl ∙ ap (λ (b : Bool). cond b 0 (st .rec .logged)) u,
       ap (λ (o : Outcome). o .state .rec .sum) short ∙ left-is t st (λ r. r .sum) start refl ∙ ap (λ (b : Bool). cond b start (st .rec .sum)) u,

@@ -28,14 +28,14 @@ use Rattle.store.specs.declared.record.Record.{Record}
 use Rattle.store.specs.Local as Local
 use Rattle.store.specs.Save as Save
 use Rattle.store.specs.Request.{Request, format, local, save, cut, get, sync, apply}
-use Rattle.store.specs.State.{State, Outcome, withLog, withGrouped, cardIn}
+use Rattle.store.specs.State.{State, Outcome, withLog, withGrouped, withSave, cardIn}
 use Rattle.store.specs.Lists.{openFrom, groupFrom, listed, find}
 use Rattle.store.specs.Causes.{cause}
 use Rattle.store.specs.Outcomes.{refused, completed, unless}
 use Rattle.store.specs.Format.{formatted}
 use Rattle.store.specs.Put.{putAt}
 use Rattle.store.specs.Commit.{Group, joinAt, join, joined}
-use Rattle.store.specs.Saves.{carried, groupOf, applies, metByAppend, innerOrders}
+use Rattle.store.specs.Saves.{carried, groupOf, applies, metByAppend, savedAs, innerOrders}
 use Rattle.store.proofs.Calls.{call-refused}
 use Rattle.store.proofs.Saves.{apply-carried}
 use Rattle.history.specs.Dispatch.{served, called}
@@ -141,6 +141,9 @@ module _ (geo : Geometry) where
       N : ℕ
       N = st .rec .blocks
 
+      c : ℕ
+      c = st .rec .save
+
       log : List Entry
       log = entries geo (st .settled) (st .rec .logged)
 
@@ -149,9 +152,9 @@ module _ (geo : Geometry) where
       either false = refl
 
       go : (t : Bool)
-          → cond (leb (length (cond t (checkpointOrders N log) [])) (st .rec .power)) (cond t (withLog 0 start (st .rec)) (st .rec)) (st .rec)
+          → cond (leb (length (cond t (checkpointOrders N c log) [])) (st .rec .power)) (cond t (withLog 0 start (st .rec)) (st .rec)) (st .rec)
           ≡ cond (t && leb (st .rec .logged + 3) (st .rec .power)) (withLog 0 start (st .rec)) (st .rec)
-      go true = ap (λ (k : ℕ). cond (leb k (st .rec .power)) (withLog 0 start (st .rec)) (st .rec)) (length-checkpoint N log ∙ ap (λ (k : ℕ). k + 3) (length-upTo (slotEntry geo (st .settled)) (st .rec .logged)))
+      go true = ap (λ (k : ℕ). cond (leb k (st .rec .power)) (withLog 0 start (st .rec)) (st .rec)) (length-checkpoint N c log ∙ ap (λ (k : ℕ). k + 3) (length-upTo (slotEntry geo (st .settled)) (st .rec .logged)))
       go false = either (leb 0 (st .rec .power))
 
 apply-other : apply ≡ sync → ⊥
@@ -171,7 +174,7 @@ module _ (geo : Geometry) where
       quiet _ refl refl (record { settled = refl; waiting = refl; work = joined-sized geo (st .rec .opened) (record { work = st .work; count = st .rec .grouped }) })
   form (local Local.abandon) st = quiet _ refl refl (record { settled = refl; waiting = refl; work = refl })
   form (save Save.sync) st =
-      let done = withGrouped 0 (withLog (metByAppend geo st .logged + st .rec .grouped) (sumOf (metByAppend geo st .sum) (groupOf geo st)) (metByAppend geo st)) in
+      let done = withGrouped 0 (withLog (metByAppend geo st .logged + st .rec .grouped) (sumOf (metByAppend geo st .sum) (groupOf geo st)) (withSave (savedAs st) (metByAppend geo st))) in
       gives (innerDone geo st) done (ap (λ (r : Record). unless (cause geo sync st) st (carried (ordersOf geo sync st) done r st)) (sync-left geo st)) (record { is = λ e. refl; not = λ h. h refl })
   form (save Save.apply) st =
       gives false _ (ap (λ (o : Outcome). unless (cause geo apply st) st o) (apply-carried geo st)) (record { is = λ e. absurd (apply-other e); not = λ h. refl })

@@ -29,7 +29,7 @@ use Rattle.store.specs.Outcomes.{completed, refused}
 use Rattle.store.specs.Format.{formatted, formatCall}
 use Rattle.store.proofs.Causes.{SizeFacts, sizes-facts}
 use Rattle.history.specs.Call.{Call, local, save, cut}
-use Rattle.history.specs.Plain.{fresh}
+use Rattle.history.specs.Plain.{blank, fresh}
 use Rattle.history.specs.Dispatch.{dispatch}
 use Rattle.history.specs.Ledger.{Ledger, entered}
 use Rattle.history.specs.History.{World, begun, next, after, exception}
@@ -130,13 +130,13 @@ module _ (geo : Geometry) where
     room : (a : ℕ) → a < N → blockBytes * a + blockBytes ≤ length zeros
     room a l = rw (length-replicate) (omega arith)
 
-    header-now : cell blockBytes (setCell blockBytes zeros headerAt (encode (emptyHeader N))) headerAt ≡ encode (emptyHeader N)
-    header-now = cell-same blockBytes zeros headerAt (encode (emptyHeader N)) (room headerAt (omega (arith, sz .least))) (length-encode (emptyHeader N))
+    header-now : cell blockBytes (setCell blockBytes zeros headerAt (encode (emptyHeader N 0))) headerAt ≡ encode (emptyHeader N 0)
+    header-now = cell-same blockBytes zeros headerAt (encode (emptyHeader N 0)) (room headerAt (omega (arith, sz .least))) (length-encode (emptyHeader N 0))
 
-    data-now : (a : ℕ) → isData geo N a ≡ true → cell blockBytes (setCell blockBytes zeros headerAt (encode (emptyHeader N))) a ≡ replicate blockBytes 0
+    data-now : (a : ℕ) → isData geo N a ≡ true → cell blockBytes (setCell blockBytes zeros headerAt (encode (emptyHeader N 0))) a ≡ replicate blockBytes 0
     data-now a q =
         let u = data-above geo N a q in
-        cell-other blockBytes zeros headerAt a (encode (emptyHeader N)) (λ z. omega arith)
+        cell-other blockBytes zeros headerAt a (encode (emptyHeader N 0)) (λ z. omega arith)
         ∙ cell-zeros blockBytes (length (st .settled)) a (let v = data-below geo N a q in omega arith)
 
     pub begun-sim : WorldSim geo (begun geo st)
@@ -165,7 +165,7 @@ module _ (geo : Geometry) where
                   waiting-below = λ i z. absurd (omega arith);
                   lists = λ z. record { open-data = tt; group-data = tt; log-data = tt; open-distinct = tt; group-distinct = tt };
                 });
-            mirrors = record { mode = refl; N = refl; waiting = refl; T = λ z. refl; G = λ z. refl };
+            mirrors = record { mode = refl; N = refl; waiting = refl; T = λ z. refl; G = λ z. refl; save = λ z. refl };
             power = refl;
           };
           phase = _⊎_.inl (record {
@@ -175,7 +175,7 @@ module _ (geo : Geometry) where
             short = refl;
             pending = refl;
             sum = sym (sumOf-nil start);
-            card = emptied geo Every N (blockAt (setCell blockBytes zeros headerAt (encode (emptyHeader N)))) (λ a. replicate blockBytes 0) header-now (λ a q y. sym (data-now a q));
+            card = emptied geo Every N (blockAt (setCell blockBytes zeros headerAt (encode (emptyHeader N 0)))) blank (lib.Dec.lit< tt) header-now (λ a q y. sym (data-now a q));
           });
         })
 

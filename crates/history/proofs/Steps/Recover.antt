@@ -139,8 +139,8 @@ module _ (geo : Geometry) where
       log-is : entries geo s n ≡ logD geo (blockAt s) n
       log-is = entries-disk geo s n
 
-      chosen : choose geo N s ≡ Fallback n (sumOf start (logD geo (blockAt s) n))
-      chosen = choose-fallback geo N s small v S n r ∙ ap (λ (y : List Entry). Fallback n (sumOf start y)) log-is
+      chosen : choose geo N s ≡ Fallback n (sumOf start (logD geo (blockAt s) n)) (S .groups)
+      chosen = choose-fallback geo N s small v S n r ∙ ap (λ (y : List Entry). Fallback n (sumOf start y) (S .groups)) log-is
 
       list : taken geo st ≡ logD geo (blockAt s) n
       list = ap (λ (c : Choice). entries geo s (takenCount c)) chosen ∙ log-is

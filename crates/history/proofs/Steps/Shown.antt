@@ -119,7 +119,8 @@ module _ (geo : Geometry) where
         let h : headerOf s ≡ header N n (sumOf start (logD geo (blockAt s) n)) (r .c) (r .ns) (S .groups + 1) = read-head geo s N n (sumOf start (logD geo (blockAt s) n)) (r .c) (r .ns) (S .groups + 1) small (r .head) in
         let e : entries geo s n ≡ logD geo (blockAt s) n = entries-disk geo s n in
         let f : entries geo s (r .c) ≡ logD geo (blockAt s) (r .c) = entries-disk geo s (r .c) in
-        rw (h, ours N n (sumOf start (logD geo (blockAt s) n)) (r .c) (r .ns) (S .groups + 1) (r .head .ordered) (r .head .most) (r .head .numbered), f, r .bad, e, eq-eqb (sumOf start (logD geo (blockAt s) n)) (sumOf start (logD geo (blockAt s) n)) refl, r .all)
+        let one : S .groups + 1 - 1 ≡ S .groups = omega arith in
+        rw (h, ours N n (sumOf start (logD geo (blockAt s) n)) (r .c) (r .ns) (S .groups + 1) (r .head .ordered) (r .head .most) (r .head .numbered), f, r .bad, e, eq-eqb (sumOf start (logD geo (blockAt s) n)) (sumOf start (logD geo (blockAt s) n)) refl, r .all, one)
 
   pub closed-choice : (N : ℕ) (s : List ℕ) (w : List Entry) (S : Laid) (n : ℕ) (F : Bool) → N < 2 ^ 32 → ClosedCard geo Every N (blockAt s) w S n F → choiceNumber (choose geo N s) ≡ 0
   closed-choice N s w S n false l r = ap choiceNumber (choose-whole N s l w S n r)

@@ -85,9 +85,9 @@ module _ (geo : Geometry) where
     accepted = same-cause geo st (settledLedger v) d (opened-sim geo f) sync ∙ h
 
     -- row 12 has passed: a group that is not empty has a number to come
-    next-number : st .rec .grouped ≢ 0 → S .groups + 1 < 2 ^ 64
+    pub next-number : st .rec .grouped ≢ 0 → S .groups + 1 < 2 ^ 64
     next-number z =
-        let free : S .groups ≢ mostSave = not-last d h (λ e. z (sym length-G ∙ e)) in
+        let free : S .groups ≢ mostSave = not-last geo d h (λ e. z (sym length-G ∙ e)) in
         let most : S .groups < 2 ^ 64 = f .sim .card .head .save in
         omega arith
 

@@ -86,7 +86,7 @@ module _ (geo : Geometry) where
     length-G : length (groupOf geo st) ≡ st .rec .grouped
     length-G = Facts.length-group geo st (settledLedger v) d (f .basics) (f .sim)
 
-    save-is : S .groups ≡ st .rec .save
+    pub save-is : S .groups ≡ st .rec .save
     save-is = f .basics .mirrors .save (f .sim .mode)
 
     pub appends : (s : List ℕ) (k h : ℕ) (l : List Entry) → st .rec .blocks ≡ blocksIn s → k + length (groupOf geo st) ≤ geo .slots → h ≡ sumOf start (logD geo (blockAt s) k) → WholeCard geo Every (st .rec .blocks) (blockAt s) l S k

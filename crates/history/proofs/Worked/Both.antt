@@ -11,7 +11,8 @@ use Rattle.cells.specs.Cell.{cell}
 use Rattle.cells.specs.Little.{num}
 use Rattle.cells.specs.Entry.{blockBytes, Entry}
 use Rattle.cells.specs.Same.Laws.{same-self}
-use Rattle.card.specs.Disk.{Disk, lay, overlay}
+use Rattle.card.specs.Disk.{lay, overlay}
+use Rattle.crash.specs.Laid.{Laid, layOver}
 use Rattle.card.specs.Card.{blockAt, blocksIn}
 use Rattle.card.specs.Marks.{keptAt, allKept}
 use Rattle.card.proofs.MarkLaws.{marksOf-all}
@@ -30,7 +31,7 @@ use Rattle.store.specs.Outcomes.{refused, completed, unless}
 use Rattle.store.specs.Format.{formatCall}
 use Rattle.store.specs.Put.{putAt}
 use Rattle.history.specs.Call.{power, put, get, commit, sync, recover, cut}
-use Rattle.history.specs.Plain.{Plain, fresh, blankPlain, refusal, headerKept, plainStep, still}
+use Rattle.history.specs.Plain.{Plain, blank, fresh, blankPlain, refusal, headerKept, plainStep, still}
 use Rattle.history.specs.Dispatch.{called, dispatch}
 use Rattle.history.specs.Ledger.{sameLog, collides}
 use Rattle.history.specs.History.{World, begun, next, after, storeNext, ledgerNext, foundWritten, acceptedCut, exception}
@@ -44,11 +45,11 @@ use Rattle.history.proofs.Steps.Shown.{WorldSim}
 use Rattle.history.proofs.Steps.Cut.{found-cut, exception-cut}
 use Rattle.history.proofs.Steps.ListInduction.{begun-sim}
 use Rattle.history.proofs.Atomicity.ReadsBack.{power-served, cut-accepted}
-use Rattle.history.proofs.Atomicity.Splits.{SplitReading, split-reading}
+use Rattle.history.proofs.Atomicity.Splits.{SplitReading, split-reading, found-counted}
 use Rattle.history.proofs.Worked.Sums.{other-sum}
 use Rattle.history.proofs.Worked.Plain.{openAt, downAt, closedAt, plain-put, plain-commit, plain-filed, plain-power, plain-halted, fits-101, header-101, fits-111, header-111, plain-torn, plain-whole, plain-again, plain-fallback, plain-found, Went, went}
 use Rattle.history.proofs.Worked.Sync.{group-is, grouped-is, no-inner, filed-log, filed-next, halted-written, halted-torn, halted-whole}
-use Rattle.history.proofs.Worked.Blank.{blank}
+use Rattle.history.proofs.Worked.Blank as Blank
 
 -- what is known is one
 known-same : {e f : Fate} → known e ≡ known f → e ≡ f
@@ -109,11 +110,11 @@ same-fits a b h = rw h
 
 -- ---- from the completed sync on
 
-abbrev zeros : Disk
-zeros = λ a. replicate blockBytes 0
+abbrev zeros : Laid
+zeros = blank
 
-abbrev old : Disk
-old = overlay (at40 sevens ∷ []) zeros
+abbrev old : Laid
+old = layOver (at40 sevens ∷ []) zeros
 
 -- what the first part of the script leaves
 record Filed (w : World) : Type 0 where
@@ -150,7 +151,7 @@ module _ (w : World) (m : Filed w) where
 
   t₄ : Went sync (v₃ w) (record { answer = 4; orders = 3; plain = downAt old (at40 nines ∷ []) })
   unfolding exception acceptedCut
-  t₄ = went sync (v₃ w) _ _ (t₃ .sim) refl (t₃ .plain) (plain-halted _ old nines)
+  t₄ = went sync (v₃ w) _ _ (t₃ .sim) refl (t₃ .plain) (plain-halted _ old nines refl)
 
   same-settled : v₃ w .store .settled ≡ w .store .settled
   unfolding next
@@ -166,12 +167,12 @@ module _ (w : World) (m : Filed w) where
 
   torn-log : foundIn trap (cutSettled cut101 (storeNext trap sync (v₃ w))) ≡ log-found
   torn-log =
-      halted-torn (v₃ w) (t₃ .sim) old nines (t₃ .plain)
+      halted-torn (v₃ w) (t₃ .sim) old refl nines (t₃ .plain)
       ∙ ap₂ (λ (e : Entry) (a : ℕ). e ∷ record { address = a; block = nines } ∷ []) first-slot
       (ap (λ (s : List ℕ). num (cell 4 (blockAt s descriptorAt) 1)) same-settled ∙ m .free)
 
   own-log : (ms : List ℕ) → headerKept ms 3 ≡ true → cutWritten ms (ledgerNext trap sync (v₃ w)) ≡ log-written
-  own-log ms k = halted-written (v₃ w) (t₃ .sim) old nines (t₃ .plain) ms k ∙ ap (λ (e : Entry). e ∷ at40 nines ∷ []) first-slot
+  own-log ms k = halted-written (v₃ w) (t₃ .sim) old refl nines (t₃ .plain) ms k ∙ ap (λ (e : Entry). e ∷ at40 nines ∷ []) first-slot
 
   -- ---- the sync that is cut short
 
@@ -181,9 +182,9 @@ module _ (w : World) (m : Filed w) where
   observed : observe trap sync (v₃ w) (known quiet) ≡ undecided (at40 nines ∷ []) 2 true
   unfolding observe shortSync
   observed =
-      let g = group-is (v₃ w) (t₃ .sim) old nines 1 3 (omega arith) (t₃ .plain) in
-      let k = grouped-is (v₃ w) (t₃ .sim) old nines 1 3 (omega arith) (t₃ .plain) in
-      let i = no-inner (v₃ w) (t₃ .sim) old nines 1 3 (omega arith) (t₃ .plain) in
+      let g = group-is (v₃ w) (t₃ .sim) old refl nines 1 3 (omega arith) (t₃ .plain) in
+      let k = grouped-is (v₃ w) (t₃ .sim) old refl nines 1 3 (omega arith) (t₃ .plain) in
+      let i = no-inner (v₃ w) (t₃ .sim) old refl nines 1 3 (omega arith) (t₃ .plain) in
       λ j.
       cond (eqb (open-then j) openMode && eqb (t₄ .answer j) 4) (undecided (g j) (k j + trap-descriptors j) (eqb (t₄ .orders j) (i j + (k j + trap-descriptors j + 1)))) (known quiet)
 
@@ -209,7 +210,7 @@ record Cuts (w : World) (ms : List ℕ) (same : Bool) (k : ℕ) : Type 0 where
   fit : refusal trap (cut ms) (downAt old (at40 nines ∷ [])) ≡ 0
   found : foundWritten trap (cut ms) (v₄ w) ≡ same
   usual : exception trap (cut ms) (v₄ w) ≡ false
-  S : Disk
+  S : Laid
   n : ℕ
   F : Bool
   left : ℕ
@@ -239,17 +240,17 @@ whole-cuts : (w : World) → Filed w → Cuts w cut111 true 0
 unfolding refusal
 whole-cuts w m =
     let fit : refusal trap (cut cut111) (downAt old (at40 nines ∷ [])) ≡ 0 = rw fits-111 in
-    let same = halted-whole (v₃ w) (t₃ w m .sim) old nines (t₃ w m .plain) cut111 fits-111 all-111 in
+    let same = halted-whole (v₃ w) (t₃ w m .sim) old refl nines (t₃ w m .plain) cut111 fits-111 all-111 in
     record {
       fit = fit;
       found = found-is w m cut111 fit ∙ same;
       usual = exception-is w m cut111 fit ∙ same-fits _ _ same;
-      S = overlay (at40 nines ∷ []) old;
+      S = layOver (at40 nines ∷ []) old;
       n = 2;
       F = false;
       left = 100;
       cuts = plain-whole old nines;
-      recovers = λ t. plain-found t (overlay (at40 nines ∷ []) old) 2;
+      recovers = λ t. plain-found t (layOver (at40 nines ∷ []) old) 2;
     }
 
 module _ (w : World) (m : Filed w) (ms : List ℕ) (same : Bool) (k : ℕ) (c : Cuts w ms same k) where
@@ -271,6 +272,12 @@ module _ (w : World) (m : Filed w) (ms : List ℕ) (same : Bool) (k : ℕ) (c : 
   t₇ : Went recover v₆ (record { answer = 0; orders = k; plain = openAt (c .S) [] [] (c .n) (c .left) })
   unfolding exception acceptedCut
   t₇ = went recover v₆ _ _ (t₆ .sim) refl (t₆ .plain) (c .recovers _)
+
+  number : storeNext trap recover v₆ .rec .save ≡ c .S .groups
+  unfolding next
+  number =
+      let opens : storeNext trap recover v₆ .rec .mode ≡ openMode = sym (t₇ .sim .basics .mirrors .mode) ∙ ap (λ (d : Plain). d .mode) (t₇ .plain) in
+      sym (t₇ .sim .basics .mirrors .save opens) ∙ ap (λ (d : Plain). d .S .groups) (t₇ .plain)
 
   all-clean : after trap (crashed ms) w .excepted ≡ false
   unfolding after
@@ -322,7 +329,7 @@ module _ (st : State) (f : formatCall trap st .answer ≡ 0) (size : blocksIn (s
 
   s₃ : Went sync w₂ (record { answer = 0; orders = 4; plain = openAt old [] [] 1 999996 })
   unfolding exception acceptedCut
-  s₃ = went sync w₂ _ _ (s₂ .sim) refl (s₂ .plain) (plain-filed _ zeros sevens)
+  s₃ = went sync w₂ _ _ (s₂ .sim) refl (s₂ .plain) (plain-filed _ zeros sevens refl)
 
   all-filed : Filed w₃
   unfolding begun next
@@ -330,8 +337,8 @@ module _ (st : State) (f : formatCall trap st .answer ≡ 0) (size : blocksIn (s
     sim = s₃ .sim;
     clean = s₃ .clean ∙ s₂ .clean ∙ s₁ .clean;
     plain = s₃ .plain;
-    log = filed-log w₂ (s₂ .sim) zeros sevens (s₂ .plain);
-    free = filed-next w₂ (s₂ .sim) zeros sevens (s₂ .plain);
+    log = filed-log w₂ (s₂ .sim) zeros refl sevens (s₂ .plain);
+    free = filed-next w₂ (s₂ .sim) zeros refl sevens (s₂ .plain);
   }
 
   ends : EndsFinished trap filed (begun trap st)
@@ -357,7 +364,7 @@ module _ (st : State) (f : formatCall trap st .answer ≡ 0) (size : blocksIn (s
     unfolding noCut acceptedCut
     last-cut = refl
 
-    script : (new all : Bool) (b : List ℕ) → keptAt ms 2 && same ≡ new → allKept ms ≡ all → outcome (decided (at40 nines ∷ []) new all) old 40 ≡ b → Script st ms same new all k b
+    script : (new all : Bool) (b : List ℕ) → keptAt ms 2 && same ≡ new → allKept ms ≡ all → outcome (decided (at40 nines ∷ []) new all) (old .disk) 40 ≡ b → Script st ms same new all k (c .S .groups) b
     unfolding after answers next
     script new all b p q e =
         let x = read .found 40 is-40 in
@@ -376,16 +383,20 @@ module _ (st : State) (f : formatCall trap st .answer ≡ 0) (size : blocksIn (s
           answer = t₇ w₃ all-filed ms same k c .answer;
           orders = t₇ w₃ all-filed ms same k c .orders;
           fated = y;
-          block = x .1 ∙ ap₂ (λ (u : Fate) (d : Plain). outcome u (d .S) 40) z (s₃ .plain) ∙ e;
+          number = number w₃ all-filed ms same k c;
+          groups =
+              sym (found-counted trap st f (filed ++ crashed ms) (t₇ w₃ all-filed ms same k c .answer) (all-clean w₃ all-filed ms same k c))
+              ∙ number w₃ all-filed ms same k c;
+          block = x .1 ∙ ap₂ (λ (u : Fate) (d : Plain). outcome u (d .S .disk) 40) z (s₃ .plain) ∙ e;
         }
 
-  torn : Script st cut101 false false false 2 sevens
-  unfolding overlay lay
+  torn : Script st cut101 false false false 2 1 sevens
+  unfolding overlay lay torn-cuts
   torn = script cut101 false 2 (torn-cuts w₃ all-filed) false false sevens (ap (λ (t : Bool). t && false) header-101) (marksOf-all _) refl
 
-  whole : Script st cut111 true true true 0 nines
-  unfolding overlay lay
+  whole : Script st cut111 true true true 0 2 nines
+  unfolding overlay lay whole-cuts
   whole = script cut111 true 0 (whole-cuts w₃ all-filed) true true nines (ap (λ (t : Bool). t && true) header-111) all-111 refl
 
 pub worked : Worked
-worked = record { torn = torn; whole = whole; card = blank }
+worked = record { torn = torn; whole = whole; card = Blank.blank }

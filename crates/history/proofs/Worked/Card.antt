@@ -12,7 +12,8 @@ use Rattle.cells.specs.Little.{num}
 use Rattle.cells.specs.Little.Laws.{num-nil, num-cons}
 use Rattle.cells.specs.Entry.{blockBytes, Entry}
 use Rattle.cells.specs.Entry.Laws.{entry-eq}
-use Rattle.card.specs.Disk.{Disk, lay, overlay}
+use Rattle.card.specs.Disk.{lay, overlay}
+use Rattle.crash.specs.Laid.{Laid}
 use Rattle.card.specs.Card.{Card, cut, settle, blockAt, blocksIn}
 use Rattle.card.specs.Marks.{marksOf}
 use Rattle.card.proofs.All.{All, all-take}
@@ -62,27 +63,27 @@ cut-laid c r s q p ks a l h w =
     ∙ ap (λ (x : List ℕ). overlay (chosen ks q) (blockAt x) a) (l .settled)
 
 -- after a first append of one entry the descriptor has 0 in its second place
-pub second-zero : {N : ℕ} {s : List ℕ} {h : ℕ} {e : Entry} {v : List Entry} {S : Disk} → Appends trap N s 0 h (e ∷ []) v S
-    → num (cell 4 (blockAt (settle (appendWrites trap N s 0 h (e ∷ [])) s) descriptorAt) 1) ≡ 0
+pub second-zero : {N : ℕ} {s : List ℕ} {h : ℕ} {e : Entry} {v : List Entry} {S : Laid} → Appends trap N s 0 h (e ∷ []) v S
+    → num (cell 4 (blockAt (settle (appendWrites trap N s 0 h (S .groups + 1) (e ∷ [])) s) descriptorAt) 1) ≡ 0
 unfolding overlay lay slotBlocks trap
-second-zero {N} {s} {h} {e} x =
-    let now : blockAt (settle (appendWrites trap N s 0 h (e ∷ [])) s) descriptorAt ≡ describe (blockAt s descriptorAt) 0 (e ∷ []) =
-    settle-overlay (appendWrites trap N s 0 h (e ∷ [])) s descriptorAt (omega (arith, x .behind .big, x .behind .size)) (writes-whole trap N s 0 h (e ∷ []) (x .blocks)) in
+second-zero {N} {s} {h} {e} {v} {S} x =
+    let now : blockAt (settle (appendWrites trap N s 0 h (S .groups + 1) (e ∷ [])) s) descriptorAt ≡ describe (blockAt s descriptorAt) 0 (e ∷ []) =
+    settle-overlay (appendWrites trap N s 0 h (S .groups + 1) (e ∷ [])) s descriptorAt (omega (arith, x .behind .big, x .behind .size)) (writes-whole trap N s 0 h (S .groups + 1) (e ∷ []) (x .blocks)) in
     ap (λ (b : List ℕ). num (cell 4 b 1)) now
     ∙ ap num (describe-beyond (blockAt s descriptorAt) 0 (e ∷ []) 1 (omega arith) (omega arith) (omega arith))
     ∙ no-number
 
 -- a second one, whose descriptor alone is lost: the new block is found under the address that stood there
-pub torn-found : {N : ℕ} {s : List ℕ} {h : ℕ} {e : Entry} {v : List Entry} {S : Disk} → Appends trap N s 1 h (e ∷ []) v S
-    → (c r : Card) → Left c r s (take 3 (appendWrites trap N s 1 h (e ∷ []))) 0
+pub torn-found : {N : ℕ} {s : List ℕ} {h : ℕ} {e : Entry} {v : List Entry} {S : Laid} → Appends trap N s 1 h (e ∷ []) v S
+    → (c r : Card) → Left c r s (take 3 (appendWrites trap N s 1 h (S .groups + 1) (e ∷ []))) 0
     → foundIn trap (cut cut101 r .settled) ≡ slotE trap (blockAt s) 0 ∷ record { address = num (cell 4 (blockAt s descriptorAt) 1); block = e .block } ∷ []
 unfolding overlay lay slotBlocks slotE trap
 torn-found {N} {s} {h} {e} {v} {S} x c r f =
     let ks : List Bool = true ∷ false ∷ true ∷ [] in
-    let laid : (a : ℕ) → a < N → blockAt (cut cut101 r .settled) a ≡ overlay (chosen ks (appendWrites trap N s 1 h (e ∷ []))) (blockAt s) a =
-    λ a l. cut-laid c r s (take 3 (appendWrites trap N s 1 h (e ∷ []))) 0 ks a f (omega (arith, x .behind .size)) (all-take Whole 3 (appendWrites trap N s 1 h (e ∷ [])) (writes-whole trap N s 1 h (e ∷ []) (x .blocks))) in
+    let laid : (a : ℕ) → a < N → blockAt (cut cut101 r .settled) a ≡ overlay (chosen ks (appendWrites trap N s 1 h (S .groups + 1) (e ∷ []))) (blockAt s) a =
+    λ a l. cut-laid c r s (take 3 (appendWrites trap N s 1 h (S .groups + 1) (e ∷ []))) 0 ks a f (omega (arith, x .behind .size)) (all-take Whole 3 (appendWrites trap N s 1 h (S .groups + 1) (e ∷ [])) (writes-whole trap N s 1 h (S .groups + 1) (e ∷ []) (x .blocks))) in
     found-log trap x (cut cut101 r .settled) cut101
-    (left-leaves c r s (take 3 (appendWrites trap N s 1 h (e ∷ []))) 0 N cut101 f (omega (arith, x .behind .big)) (x .behind .size) (marksOf-fit ks 3 refl) (all-take Whole 3 (appendWrites trap N s 1 h (e ∷ [])) (writes-whole trap N s 1 h (e ∷ []) (x .blocks))))
+    (left-leaves c r s (take 3 (appendWrites trap N s 1 h (S .groups + 1) (e ∷ []))) 0 N cut101 f (omega (arith, x .behind .big)) (x .behind .size) (marksOf-fit ks 3 refl) (all-take Whole 3 (appendWrites trap N s 1 h (S .groups + 1) (e ∷ [])) (writes-whole trap N s 1 h (S .groups + 1) (e ∷ []) (x .blocks))))
     (marksOf-kept ks 2)
     ∙ ap₂ (λ (a b : Entry). a ∷ b ∷ [])
     (entry-eq (ap (λ (b : List ℕ). num (cell 4 b 0)) (laid 1 (omega (arith, x .behind .big)))) (laid 2 (omega (arith, x .behind .big))))

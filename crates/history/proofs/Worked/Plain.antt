@@ -3,12 +3,14 @@ use Prim.Native.Nat.{ℕ}
 use mathlib.Core.Path.{_≡_, refl, ap, _∙_}
 use mathlib.Core.Bool.{Bool, true, false, _||_, or-false}
 use mathlib.Core.List.{List, [], _∷_}
+use lib.Dec.{eqb}
 use lib.ListN.{length}
 use Rattle.cells.specs.Entry.{blockBytes, Entry}
-use Rattle.card.specs.Disk.{Disk, overlay}
+use Rattle.crash.specs.Laid.{Laid, layOver}
 use Rattle.card.specs.Marks.{marksFit, keptAt}
 use Rattle.card.proofs.MarkLaws.{marksOf-fit, marksOf-kept}
 use Rattle.journal.specs.Geometry.{trap}
+use Rattle.journal.specs.Header.{mostSave}
 use Rattle.history.specs.Call.{Call, power, put, commit, sync, recover, cut}
 use Rattle.history.specs.Plain.{Plain, Done, ofSync, blankPlain, withS, withLists, withCount, withPower, done, cutShort, closedWith, has, insert, merge, refusal, headerKept, verdict, ownVerdict, plainSync, plainRecover, plainCut, plainStep, still}
 use Rattle.history.specs.Dispatch.{dispatch}
@@ -19,36 +21,36 @@ use Rattle.history.proofs.Steps.ListInduction.{step, next-sim}
 
 -- ---- the plain disk
 
-abbrev pub openAt : Disk → List Entry → List Entry → ℕ → ℕ → Plain
+abbrev pub openAt : Laid → List Entry → List Entry → ℕ → ℕ → Plain
 openAt S G T n p = withS S (withLists G T (withCount n (withPower p (blankPlain 64))))
 
 -- a sync of G over n = 1 was cut short by power 3
-abbrev pub downAt : Disk → List Entry → Plain
+abbrev pub downAt : Laid → List Entry → Plain
 downAt S G = cutShort (ofSync 3) 3 (openAt S G [] 1 3) .plain
 
-abbrev pub closedAt : Disk → ℕ → ℕ → Bool → Plain
+abbrev pub closedAt : Laid → ℕ → ℕ → Bool → Plain
 closedAt S n p F = closedWith S n F (withPower p (blankPlain 64))
 
-pub plain-put : (t : Bool) (S : Disk) (n p : ℕ) (b : List ℕ) → length b ≡ blockBytes → plainStep trap (put 40 b) t (openAt S [] [] n p) ≡ still (openAt S [] (at40 b ∷ []) n p)
+pub plain-put : (t : Bool) (S : Laid) (n p : ℕ) (b : List ℕ) → length b ≡ blockBytes → plainStep trap (put 40 b) t (openAt S [] [] n p) ≡ still (openAt S [] (at40 b ∷ []) n p)
 unfolding plainStep refusal has insert trap
 plain-put t S n p b h = rw h
 
-pub plain-commit : (t : Bool) (S : Disk) (n p : ℕ) (b : List ℕ) → plainStep trap commit t (openAt S [] (at40 b ∷ []) n p) ≡ still (openAt S (at40 b ∷ []) [] n p)
+pub plain-commit : (t : Bool) (S : Laid) (n p : ℕ) (b : List ℕ) → plainStep trap commit t (openAt S [] (at40 b ∷ []) n p) ≡ still (openAt S (at40 b ∷ []) [] n p)
 unfolding plainStep refusal merge insert trap
 plain-commit t S n p b = refl
 
-pub plain-filed : (t : Bool) (S : Disk) (b : List ℕ)
-    → plainStep trap sync t (openAt S (at40 b ∷ []) [] 0 1000000) ≡ done 4 (openAt (overlay (at40 b ∷ []) S) [] [] 1 999996)
+pub plain-filed : (t : Bool) (S : Laid) (b : List ℕ) → eqb (S .groups) mostSave ≡ false
+    → plainStep trap sync t (openAt S (at40 b ∷ []) [] 0 1000000) ≡ done 4 (openAt (layOver (at40 b ∷ []) S) [] [] 1 999996)
 unfolding plainStep refusal plainSync trap
-plain-filed t S b = refl
+plain-filed t S b free = rw free
 
-pub plain-power : (t : Bool) (S : Disk) (G : List Entry) (p k : ℕ) → plainStep trap (power k) t (openAt S G [] 1 p) ≡ still (openAt S G [] 1 k)
+pub plain-power : (t : Bool) (S : Laid) (G : List Entry) (p k : ℕ) → plainStep trap (power k) t (openAt S G [] 1 p) ≡ still (openAt S G [] 1 k)
 unfolding plainStep refusal
 plain-power t S G p k = refl
 
-pub plain-halted : (t : Bool) (S : Disk) (b : List ℕ) → plainStep trap sync t (openAt S (at40 b ∷ []) [] 1 3) ≡ cutShort (ofSync 3) 3 (openAt S (at40 b ∷ []) [] 1 3)
+pub plain-halted : (t : Bool) (S : Laid) (b : List ℕ) → eqb (S .groups) mostSave ≡ false → plainStep trap sync t (openAt S (at40 b ∷ []) [] 1 3) ≡ cutShort (ofSync 3) 3 (openAt S (at40 b ∷ []) [] 1 3)
 unfolding plainStep refusal plainSync trap
-plain-halted t S b = refl
+plain-halted t S b free = rw free
 
 -- the cuts 101 and 111 fit three writes and keep the last, a header
 pub fits-101 : marksFit cut101 3 ≡ true
@@ -63,23 +65,23 @@ fits-111 = marksOf-fit _ 3 refl
 pub header-111 : keptAt cut111 2 ≡ true
 header-111 = marksOf-kept _ 2
 
-pub plain-torn : (S : Disk) (b : List ℕ) → plainStep trap (cut cut101) false (downAt S (at40 b ∷ [])) ≡ still (closedAt S 1 0 true)
+pub plain-torn : (S : Laid) (b : List ℕ) → plainStep trap (cut cut101) false (downAt S (at40 b ∷ [])) ≡ still (closedAt S 1 0 true)
 unfolding plainStep refusal plainCut headerKept verdict ownVerdict trap
 plain-torn S b = rw (fits-101, header-101)
 
-pub plain-whole : (S : Disk) (b : List ℕ) → plainStep trap (cut cut111) true (downAt S (at40 b ∷ [])) ≡ still (closedAt (overlay (at40 b ∷ []) S) 2 0 false)
+pub plain-whole : (S : Laid) (b : List ℕ) → plainStep trap (cut cut111) true (downAt S (at40 b ∷ [])) ≡ still (closedAt (layOver (at40 b ∷ []) S) 2 0 false)
 unfolding plainStep refusal plainCut headerKept verdict ownVerdict trap
 plain-whole S b = rw (fits-111, header-111)
 
-pub plain-again : (t : Bool) (S : Disk) (n p k : ℕ) (F : Bool) → plainStep trap (power k) t (closedAt S n p F) ≡ still (closedAt S n k F)
+pub plain-again : (t : Bool) (S : Laid) (n p k : ℕ) (F : Bool) → plainStep trap (power k) t (closedAt S n p F) ≡ still (closedAt S n k F)
 unfolding plainStep refusal
 plain-again t S n p k F = refl
 
-pub plain-fallback : (t : Bool) (S : Disk) (n : ℕ) → plainStep trap recover t (closedAt S n 100 true) ≡ done 2 (openAt S [] [] n 98)
+pub plain-fallback : (t : Bool) (S : Laid) (n : ℕ) → plainStep trap recover t (closedAt S n 100 true) ≡ done 2 (openAt S [] [] n 98)
 unfolding plainStep refusal plainRecover
 plain-fallback t S n = refl
 
-pub plain-found : (t : Bool) (S : Disk) (n : ℕ) → plainStep trap recover t (closedAt S n 100 false) ≡ still (openAt S [] [] n 100)
+pub plain-found : (t : Bool) (S : Laid) (n : ℕ) → plainStep trap recover t (closedAt S n 100 false) ≡ still (openAt S [] [] n 100)
 unfolding plainStep refusal plainRecover
 plain-found t S n = refl
 

@@ -1,20 +1,22 @@
 -- A sync of one entry: the first one, done; and one over a log of one entry, cut short behind its header.
-use Prim.Native.Nat.{ℕ, _+_, _≤_, _<_}
+use Prim.Native.Nat.{ℕ, _+_, _^_, _≤_, _<_}
 use mathlib.Core.Path.{_≡_, refl, ap, ap₂, sym, _∙_}
 use mathlib.Core.Logic.{_≢_}
 use mathlib.Core.Bool.{Bool, true, false, cond}
 use mathlib.Core.List.{List, [], _∷_, _++_}
 use native.Mathlib.Omega.{arith}
+use lib.Dec.{eqb}
 use lib.ListN.{length, take, length-take}
 use Rattle.cells.specs.Cell.{cell}
 use Rattle.cells.specs.Little.{num}
 use Rattle.cells.specs.Entry.{Entry}
-use Rattle.card.specs.Disk.{Disk}
+use Rattle.crash.specs.Laid.{Laid}
 use Rattle.card.specs.Card.{Card, run, cut, settle, blockAt}
 use Rattle.card.specs.Marks.{marksFit, allKept}
 use Rattle.journal.specs.Geometry.{trap}
 use Rattle.journal.specs.Geometry.Laws.{trap-descriptors}
 use Rattle.journal.specs.Layout.{descriptorAt}
+use Rattle.journal.specs.Header.{mostSave}
 use Rattle.journal.specs.Log.{entries}
 use Rattle.journal.proofs.OrderLists.{appendWrites}
 use Rattle.crash.proofs.Batches.{Left}
@@ -36,20 +38,20 @@ use Rattle.history.proofs.Steps.Shown.{WorldSim}
 use Rattle.history.proofs.Relation.OpenFacts as Facts
 use Rattle.history.proofs.Steps.Notes.{note-at}
 use Rattle.history.proofs.Steps.Gives.{Gives, gives-settled, short-call, stopped}
-use Rattle.history.proofs.Steps.Worlds.{openWorld, Opened, opened}
+use Rattle.history.proofs.Steps.Worlds.{plainNow, openWorld, Opened, opened, opened-refusal}
 use Rattle.history.proofs.Steps.SyncMeets.{single, met-itself}
-use Rattle.history.proofs.Steps.Sync.{gives, short-whole}
+use Rattle.history.proofs.Steps.Sync.{next-number, gives, short-whole}
 use Rattle.history.proofs.Atomicity.Phases.{open-now}
 use Rattle.history.proofs.Worked.Card.{second-zero, torn-found}
 use Rattle.history.proofs.Worked.Plain.{openAt}
 
-base-at : {N : ℕ} {s : List ℕ} {n n′ h : ℕ} {G G′ v : List Entry} {S : Disk} → n ≡ n′ → G ≡ G′ → Appends trap N s n h G v S → Appends trap N s n′ h G′ v S
+base-at : {N : ℕ} {s : List ℕ} {n n′ h : ℕ} {G G′ v : List Entry} {S : Laid} → n ≡ n′ → G ≡ G′ → Appends trap N s n h G v S → Appends trap N s n′ h G′ v S
 base-at a b x = rw (← a, ← b) x
 
-module _ (w : World) (m : WorldSim trap w) (S : Disk) (b : List ℕ) (n p : ℕ) (few : n ≤ 1) (d : w .plain ≡ openAt S (at40 b ∷ []) [] n p) where
+module _ (w : World) (m : WorldSim trap w) (S : Laid) (free : eqb (S .groups) mostSave ≡ false) (b : List ℕ) (n p : ℕ) (few : n ≤ 1) (d : w .plain ≡ openAt S (at40 b ∷ []) [] n p) where
   served : refusal trap sync (w .plain) ≡ 0
   unfolding refusal
-  served = ap (refusal trap sync) d
+  served = ap (refusal trap sync) d ∙ rw free
 
   o : OpenSim trap (w .store) (w .ledger) (w .plain)
   o = open-now trap sync w m refl served
@@ -79,8 +81,14 @@ module _ (w : World) (m : WorldSim trap w) (S : Disk) (b : List ℕ) (n p : ℕ)
   opening : Opened trap (w .store) (w .ledger .written) (w .plain .S)
   opening = opened trap w (m .basics) o
 
+  now-served : refusal trap sync (plainNow trap (w .store) (w .plain .S)) ≡ 0
+  now-served = opened-refusal trap w (m .basics) o sync served
+
+  next : w .plain .S .groups + 1 < 2 ^ 64
+  next = next-number trap (w .store) (w .ledger .written) (w .plain .S) (w .excepted) opening now-served some
+
   alone : applies trap (w .store) ≡ false
-  alone = single trap (w .store) (w .ledger .written) (w .plain .S) (w .excepted) opening some fits
+  alone = single trap (w .store) (w .ledger .written) (w .plain .S) (w .excepted) opening some next fits
 
   pub no-inner : inner trap (w .store) ≡ 0
   no-inner = ap (λ (t : Bool). cond t (w .store .rec .logged + 3) 0) alone
@@ -95,27 +103,27 @@ module _ (w : World) (m : WorldSim trap w) (S : Disk) (b : List ℕ) (n p : ℕ)
   h = w .store .rec .sum
 
   abbrev W : List Entry
-  W = appendWrites trap N s (w .store .rec .logged) h (groupOf trap (w .store))
+  W = appendWrites trap N s (w .store .rec .logged) h (w .plain .S .groups + 1) (groupOf trap (w .store))
 
   length-W : length W ≡ length (groupOf trap (w .store)) + 2
-  length-W = length-append-writes trap N s (w .store .rec .logged) h (groupOf trap (w .store)) ∙ (omega (arith, trap-descriptors))
+  length-W = length-append-writes trap N s (w .store .rec .logged) h (w .plain .S .groups + 1) (groupOf trap (w .store)) ∙ (omega (arith, trap-descriptors))
 
   abbrev there : World
   there = openWorld trap (w .store) (w .ledger .written) (w .plain .S) (w .excepted)
 
   order : Gives trap sync there (W ∷ [])
   unfolding met-itself
-  order = gives trap (w .store) (w .ledger .written) (w .plain .S) (w .excepted) opening some (met-itself trap (w .store) (w .ledger .written) (w .plain .S) (w .excepted) opening some fits)
+  order = gives trap (w .store) (w .ledger .written) (w .plain .S) (w .excepted) opening now-served some (met-itself trap (w .store) (w .ledger .written) (w .plain .S) (w .excepted) opening some next fits)
 
   base-now : Appends trap N s n h (at40 b ∷ []) (w .ledger .written) (w .plain .S)
   unfolding met-itself
-  base-now = base-at logged-is group-is (met-itself trap (w .store) (w .ledger .written) (w .plain .S) (w .excepted) opening some fits .meets)
+  base-now = base-at logged-is group-is (met-itself trap (w .store) (w .ledger .written) (w .plain .S) (w .excepted) opening some next fits .meets)
 
   -- done
-  filed-settled : 4 ≤ p → storeNext trap sync w .settled ≡ settle (appendWrites trap N s n h (at40 b ∷ [])) s
+  filed-settled : 4 ≤ p → storeNext trap sync w .settled ≡ settle (appendWrites trap N s n h (w .plain .S .groups + 1) (at40 b ∷ [])) s
   filed-settled l =
       gives-settled trap sync there (W ∷ []) (opening .basics) order (omega (arith, length-W, size, power-is))
-      ∙ ap₂ (λ (k : ℕ) (G : List Entry). settle (appendWrites trap N s k h G) s) logged-is group-is
+      ∙ ap₂ (λ (k : ℕ) (G : List Entry). settle (appendWrites trap N s k h (w .plain .S .groups + 1) G) s) logged-is group-is
 
   -- cut short behind its header
   abbrev r : Card
@@ -124,10 +132,10 @@ module _ (w : World) (m : WorldSim trap w) (S : Disk) (b : List ℕ) (n p : ℕ)
   gone : p ≡ 3 → w .store .rec .power < takes (W ∷ [])
   gone e = omega (arith, length-W, size, power-is)
 
-  halted-left : p ≡ 3 → Left (cardIn (w .store)) r s (take p (appendWrites trap N s n h (at40 b ∷ []))) 0
+  halted-left : p ≡ 3 → Left (cardIn (w .store)) r s (take p (appendWrites trap N s n h (w .plain .S .groups + 1) (at40 b ∷ []))) 0
   halted-left e =
       let x = stopped trap sync there (W ∷ []) (opening .basics) order (λ t q k. (t ≡ s) × (q ≡ take k W)) (w .store .rec .power) refl (gone e) (λ j i l z. (refl, ap (λ (k : ℕ). take k W) (let y : j ≡ i = omega arith in y)), tt) in
-      left-at (x .met .0) (x .met .1 ∙ (λ i. take (power-is i) (appendWrites trap N s (logged-is i) h (group-is i)))) (x .left)
+      left-at (x .met .0) (x .met .1 ∙ (λ i. take (power-is i) (appendWrites trap N s (logged-is i) h (w .plain .S .groups + 1) (group-is i)))) (x .left)
     where
       left-at : {c₀ c : Card} {t t′ : List ℕ} {x y : List Entry} {k : ℕ} → t ≡ t′ → x ≡ y → Left c₀ c t x k → Left c₀ c t′ y k
       left-at a b l = rw (a, b) at l
@@ -157,17 +165,17 @@ module _ (w : World) (m : WorldSim trap w) (S : Disk) (b : List ℕ) (n p : ℕ)
   halted-same e ms l a =
       let D = halted-call e in
       let three : storeNext trap sync w .rec .waiting ≡ 3 =
-      ap (λ (x : Outcome). x .state .rec .waiting) D ∙ halted-left e .count ∙ length-take p (appendWrites trap N s n h (at40 b ∷ [])) ∙ (omega (arith, trap-descriptors, length-append-writes trap N s n h (at40 b ∷ []))) in
+      ap (λ (x : Outcome). x .state .rec .waiting) D ∙ halted-left e .count ∙ length-take p (appendWrites trap N s n h (w .plain .S .groups + 1) (at40 b ∷ [])) ∙ (omega (arith, trap-descriptors, length-append-writes trap N s n h (w .plain .S .groups + 1) (at40 b ∷ []))) in
       short-whole trap w m served o some (ap (λ (x : Outcome). x .answer) D) (ap (λ (x : Outcome). x .orders) D ∙ (omega (arith, power-is, no-inner, grouped-is, trap-descriptors))) ms (ap (marksFit ms) three ∙ l) a .1
 
 -- ---- the first sync
 
-module _ (w : World) (m : WorldSim trap w) (S : Disk) (b : List ℕ) (d : w .plain ≡ openAt S (at40 b ∷ []) [] 0 1000000) where
+module _ (w : World) (m : WorldSim trap w) (S : Laid) (free : eqb (S .groups) mostSave ≡ false) (b : List ℕ) (d : w .plain ≡ openAt S (at40 b ∷ []) [] 0 1000000) where
   now : Appends trap (w .store .rec .blocks) (w .store .settled) 0 (w .store .rec .sum) (at40 b ∷ []) (w .ledger .written) (w .plain .S)
-  now = base-now w m S b 0 1000000 (omega arith) d
+  now = base-now w m S free b 0 1000000 (omega arith) d
 
-  settled-now : storeNext trap sync w .settled ≡ settle (appendWrites trap (w .store .rec .blocks) (w .store .settled) 0 (w .store .rec .sum) (at40 b ∷ [])) (w .store .settled)
-  settled-now = filed-settled w m S b 0 1000000 (omega arith) d (lib.Dec.lit≤ tt)
+  settled-now : storeNext trap sync w .settled ≡ settle (appendWrites trap (w .store .rec .blocks) (w .store .settled) 0 (w .store .rec .sum) (w .plain .S .groups + 1) (at40 b ∷ [])) (w .store .settled)
+  settled-now = filed-settled w m S free b 0 1000000 (omega arith) d (lib.Dec.lit≤ tt)
 
   -- the log is that entry, and the next place in the descriptor has 0
   pub filed-log : logD trap (blockAt (storeNext trap sync w .settled)) 1 ≡ at40 b ∷ []
@@ -178,19 +186,19 @@ module _ (w : World) (m : WorldSim trap w) (S : Disk) (b : List ℕ) (d : w .pla
 
 -- ---- the second
 
-module _ (w : World) (m : WorldSim trap w) (S : Disk) (b : List ℕ) (d : w .plain ≡ openAt S (at40 b ∷ []) [] 1 3) where
+module _ (w : World) (m : WorldSim trap w) (S : Laid) (free : eqb (S .groups) mostSave ≡ false) (b : List ℕ) (d : w .plain ≡ openAt S (at40 b ∷ []) [] 1 3) where
   -- the log written, by a header that is kept
   pub halted-written : (ms : List ℕ) → headerKept ms 3 ≡ true → cutWritten ms (ledgerNext trap sync w) ≡ logD trap (blockAt (w .store .settled)) 1 ++ (at40 b ∷ [])
   unfolding resolved headerKept
   halted-written ms k =
-      ap (cutWritten ms) (halted-ledger w m S b 1 3 (omega arith) d refl)
+      ap (cutWritten ms) (halted-ledger w m S free b 1 3 (omega arith) d refl)
       ∙ ap (λ (t : Bool). cond t (logD trap (blockAt (w .store .settled)) 1 ++ (at40 b ∷ [])) (w .ledger .written)) k
 
   pub halted-torn : foundIn trap (cutSettled cut101 (storeNext trap sync w))
       ≡ slotE trap (blockAt (w .store .settled)) 0 ∷ record { address = num (cell 4 (blockAt (w .store .settled) descriptorAt) 1); block = b } ∷ []
   halted-torn =
-      ap (foundIn trap) (halted-settled w m S b 1 3 (omega arith) d refl cut101)
-      ∙ torn-found (base-now w m S b 1 3 (omega arith) d) (cardIn (w .store)) (r w m S b 1 3 (omega arith) d) (halted-left w m S b 1 3 (omega arith) d refl)
+      ap (foundIn trap) (halted-settled w m S free b 1 3 (omega arith) d refl cut101)
+      ∙ torn-found (base-now w m S free b 1 3 (omega arith) d) (cardIn (w .store)) (r w m S free b 1 3 (omega arith) d) (halted-left w m S free b 1 3 (omega arith) d refl)
 
   pub halted-whole : (ms : List ℕ) → marksFit ms 3 ≡ true → allKept ms ≡ true → sameLog (foundIn trap (cutSettled ms (storeNext trap sync w))) (cutWritten ms (ledgerNext trap sync w)) ≡ true
-  halted-whole ms l a = halted-same w m S b 1 3 (omega arith) d refl ms l a
+  halted-whole ms l a = halted-same w m S free b 1 3 (omega arith) d refl ms l a

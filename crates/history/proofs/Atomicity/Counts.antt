@@ -1,0 +1,251 @@
+-- The groups laid, counted along a list of calls, are those that the plain disk counts.
+use Prim.Native.Nat.{ℕ, _+_}
+use mathlib.Core.Path.{_≡_, refl, ap, ap₂, subst, sym, _∙_}
+use mathlib.Core.Logic.{_≢_, _⊎_}
+use mathlib.Core.Bool.{Bool, true, false, cond, not, _&&_, _||_, and-false}
+use mathlib.Core.List.{List, [], _∷_}
+use native.Mathlib.Omega.{arith}
+use native.Mathlib.Nat.{add-zero}
+use native.Mathlib.Decide.{ℕ-discrete}
+use borrow.Author.Tests.{eq-eqb, ne-eqb, eqb-true}
+use lib.Dec.{eqb, leb}
+use lib.ListN.{length}
+use Rattle.cells.specs.Entry.{Entry}
+use Rattle.card.specs.Disk.{Disk}
+use Rattle.card.specs.Marks.{keptAt, allKept}
+use Rattle.journal.specs.Geometry.{Geometry}
+use Rattle.crash.specs.Laid.{Laid, layOver}
+use Rattle.store.specs.Local.{Local}
+use Rattle.store.specs.Save as Save
+use Rattle.store.specs.Save.{Save}
+use Rattle.store.specs.State.{Outcome, openMode}
+use Rattle.store.specs.Causes.{cause}
+use Rattle.store.specs.Saves.{groupOf}
+use Rattle.history.specs.Call.{Call, requestOf, local, save, cut, sync, apply, recover}
+use Rattle.history.specs.Plain.{Plain, Done, ofApply, ofRecover, applyTakes, applyWaits, done, still, cutShort, cleared, recovered, refusal, plainSync, plainApply, plainRecover}
+use Rattle.history.specs.Dispatch.{dispatch}
+use Rattle.history.specs.History.{World, next, after, storeNext, ledgerNext, foundWritten}
+use Rattle.history.specs.Statements as S
+use Rattle.history.specs.Statements.{Fate, quiet, decided, Progress, known, undecided, observe, outcome, shortSync, headed, stillOpen, madeNew, saved, groupsLaid}
+use Rattle.history.proofs.Relation.PlainLaws as PlainLaws
+use Rattle.history.proofs.Relation.PlainAnswers.{sync-cases, LocalKind, powers, opens, local-kind}
+use Rattle.history.proofs.Relation.OpenFacts as Facts
+use Rattle.history.proofs.Steps.Shown.{plainNext, WorldSim, same-cause, dispatch-refused, plain-refused, plain-served}
+use Rattle.history.proofs.Steps.ListInduction.{step, next-sim, clean-first}
+use Rattle.history.proofs.Atomicity.ReadsBack.{found-closed}
+use Rattle.history.proofs.Atomicity.Phases.{Watch, short-is, observe-refused, open-now, open-watch, planned}
+use Rattle.history.proofs.Atomicity.ShortSyncs as ShortSyncs
+use Rattle.history.proofs.Atomicity.ShortSyncs.{watch-step}
+use Rattle.history.proofs.Atomicity.Finished.{served-of, finished-opens}
+
+-- ---- what a call lays
+
+-- a group, or none
+laid-groups : (t : Bool) (G : List Entry) (S : Laid) → cond t (layOver G S) S .groups ≡ S .groups + cond t 1 0
+laid-groups true G S = refl
+laid-groups false G S = sym (add-zero (S .groups))
+
+module _ (geo : Geometry) where
+  -- what is watched, whatever S was when it began
+  abbrev Watched : Progress → World → Type 0
+  Watched f w = (old : Disk) × Watch geo old f (w .store) (w .ledger) (w .plain)
+
+  -- what is decided is watched no longer
+  forget : (f : Progress) (w : World) → Watched f w → Watched (stillOpen f) w
+  forget (known quiet) w x = x
+  forget (known (decided G laid all)) w x =
+      (outcome (decided G laid all) (x .0), _⊎_.inr (record { mode = x .1 .mode; S = x .1 .S; laid = x .1 .laid; whole = tt }))
+  forget (undecided G place made) w x = x
+
+  -- the call lays a group exactly if it is a finished sync of one, or a cut that made one new
+  abbrev Counted : Call → World → Progress → Type 0
+  Counted c w g = plainNext geo c w .S .groups ≡ w .plain .S .groups + cond (saved geo c w || madeNew (observe geo c w g)) 1 0
+
+  counted : (c : Call) (w : World) (g : Progress) (t : Bool) → plainNext geo c w .S .groups ≡ w .plain .S .groups + cond t 1 0 → t ≡ saved geo c w || madeNew (observe geo c w g) → Counted c w g
+  counted c w g t e q = e ∙ ap (λ (x : Bool). w .plain .S .groups + cond x 1 0) q
+
+  none-counted : (c : Call) (w : World) (g : Progress) → plainNext geo c w .S ≡ w .plain .S → saved geo c w ≡ false → madeNew (observe geo c w g) ≡ false → Counted c w g
+  none-counted c w g e s n =
+      counted c w g false (ap (λ (S : Laid). S .groups) e ∙ sym (add-zero (w .plain .S .groups))) (sym (ap₂ (λ (a b : Bool). a || b) s n))
+
+  -- ---- no call but a cut makes one new
+
+  still-none : (f : Progress) → madeNew (stillOpen f) ≡ false
+  still-none (known f) = refl
+  still-none (undecided G place made) = refl
+
+  local-new : (c : Local) (w : World) (f : Progress) → madeNew (observe geo (local c) w (stillOpen f)) ≡ false
+  unfolding observe shortSync
+  local-new c w (known f) = refl
+  local-new c w (undecided G place made) = refl
+
+  save-new : (c : Save) (w : World) (f : Progress) → madeNew (observe geo (save c) w (stillOpen f)) ≡ false
+  unfolding observe
+  save-new c w (known f) = go (shortSync geo (save c) w)
+    where
+      go : (t : Bool) → madeNew (cond t (undecided (groupOf geo (w .store)) (w .store .rec .grouped + geo .descriptors) (headed geo w)) (known quiet)) ≡ false
+      go true = refl
+      go false = refl
+  save-new c w (undecided G place made) = refl
+
+  -- ---- a refused call
+
+  refused-saved : (c : Call) (w : World) → WorldSim geo w → refusal geo c (w .plain) ≢ 0 → saved geo c w ≡ false
+  unfolding saved S.finished
+  refused-saved (local c) w m h = refl
+  refused-saved (save Save.sync) w m h =
+      let k : cause geo (requestOf sync) (w .store) ≢ 0 = λ e. h (sym (same-cause geo (w .store) (w .ledger) (w .plain) m sync) ∙ e) in
+      let a : dispatch geo sync (w .store) .answer ≢ 0 = λ e. k (sym (ap (λ (o : Outcome). o .answer) (dispatch-refused geo sync (w .store) k)) ∙ e) in
+      ap (λ (t : Bool). t && not (eqb (w .store .rec .grouped) 0)) (ne-eqb _ 0 a)
+  refused-saved (save Save.apply) w m h = refl
+  refused-saved (save Save.recover) w m h = refl
+  refused-saved (cut ms) w m h = refl
+
+  refused-counted : (c : Call) (w : World) (f : Progress) → WorldSim geo w → refusal geo c (w .plain) ≢ 0 → Counted c w (stillOpen f)
+  refused-counted c w f m h =
+      none-counted c w (stillOpen f) (ap (λ (d : Done). d .plain .S) (plain-refused geo c (foundWritten geo c w) (w .plain) h)) (refused-saved c w m h)
+      (ap madeNew (observe-refused geo c w (stillOpen f) h m) ∙ still-none f)
+
+  -- ---- a sync
+
+  module _ (w : World) (m : WorldSim geo w) (h : refusal geo sync (w .plain) ≡ 0) (f : Progress) where
+    P : plainNext geo sync w ≡ plainSync geo (w .plain) .plain
+    P = ap (λ (d : Done). d .plain) (plain-served geo sync (foundWritten geo sync w) (w .plain) h)
+
+    answer : dispatch geo sync (w .store) .answer ≡ plainSync geo (w .plain) .answer
+    answer = step geo sync w m .agrees .answer ∙ ap (λ (d : Done). d .answer) (plain-served geo sync (foundWritten geo sync w) (w .plain) h)
+
+    size : length (w .plain .G) ≡ w .store .rec .grouped
+    size = Facts.plain-count geo (w .store) (w .ledger) (w .plain) (m .basics) (open-now geo sync w m refl h)
+
+    saved-is : (t u : Bool) → eqb (dispatch geo sync (w .store) .answer) 0 ≡ t → eqb (w .store .rec .grouped) 0 ≡ u → saved geo sync w ≡ t && not u
+    unfolding saved S.finished
+    saved-is t u a g = ap₂ (λ (x y : Bool). x && not y) a g
+
+    sync-counted : Counted sync w (stillOpen f)
+    sync-counted =
+        sync-cases geo (λ d. Counted sync w (stillOpen f)) (w .plain)
+        (λ z.
+        none-counted sync w (stillOpen f) (ap (λ (d : Plain). d .S) P ∙ ap (λ (d : Done). d .plain .S) (PlainLaws.sync-nothing geo (w .plain) z))
+        (saved-is _ true refl (eq-eqb _ 0 (sym size ∙ z)) ∙ and-false (eqb (dispatch geo sync (w .store) .answer) 0)) (save-new Save.sync w f))
+        (λ z p.
+        let all = PlainLaws.sync-finished geo (w .plain) z p in
+        counted sync w (stillOpen f) true (ap (λ (d : Plain). d .S .groups) P ∙ ap (λ (d : Done). d .plain .S .groups) all)
+        (sym (ap (λ (t : Bool). t || madeNew (observe geo sync w (stillOpen f))) (saved-is true false (eq-eqb _ 0 (answer ∙ ap (λ (d : Done). d .answer) all)) (ne-eqb _ 0 (λ e. z (size ∙ e)))))))
+        (λ z p.
+        let short = PlainLaws.sync-short geo (w .plain) z p in
+        let four : dispatch geo sync (w .store) .answer ≡ 4 = answer ∙ ap (λ (d : Done). d .answer) short in
+        none-counted sync w (stillOpen f) (ap (λ (d : Plain). d .S) P ∙ ap (λ (d : Done). d .plain .S) short) (saved-is false _ (ne-eqb (dispatch geo sync (w .store) .answer) 0 (λ e. omega arith)) refl) (save-new Save.sync w f))
+
+-- ---- apply and recover leave S
+
+apply-same : (d : Plain) → plainApply d .plain .S ≡ d .S
+unfolding plainApply
+apply-same d = go (eqb (d .n) 0) (leb (d .n + 3) (d .power))
+  where
+    go : (s t : Bool)
+        → cond {A = Done} s (still d) (cond t (done (applyTakes (d .n)) (cleared d)) (cutShort (ofApply (d .power)) (applyWaits (d .n) (d .power)) d)) .plain .S ≡ d .S
+    go true t = refl
+    go false true = refl
+    go false false = refl
+
+recover-same : (d : Plain) → plainRecover d .plain .S ≡ d .S
+unfolding plainRecover
+recover-same d = go (leb (cond (d .F) 2 0) (d .power))
+  where
+    go : (t : Bool) → cond {A = Done} t (done (cond (d .F) 2 0) (recovered (cond (d .F) 2 0) d)) (cutShort (ofRecover (d .power)) (d .power) d) .plain .S ≡ d .S
+    go true = refl
+    go false = refl
+
+module _ (geo : Geometry) where
+  served-S : (c : Call) (w : World) (h : refusal geo c (w .plain) ≡ 0) (S : Laid) → Rattle.history.specs.Plain.served geo c (foundWritten geo c w) (w .plain) .plain .S ≡ S → plainNext geo c w .S ≡ S
+  served-S c w h S e = ap (λ (d : Done). d .plain .S) (plain-served geo c (foundWritten geo c w) (w .plain) h) ∙ e
+
+  local-same : (c : Local) (d : Plain) → LocalKind geo c → Rattle.history.specs.Plain.locally c d .S ≡ d .S
+  local-same c d (powers k) = refl
+  local-same c d (opens _ n s) = s d .S
+
+  -- ---- a cut
+
+  cut-counted : (ms : List ℕ) (w : World) (m : WorldSim geo w) (h : refusal geo (cut ms) (w .plain) ≡ 0) (f : Progress) → Watched geo (stillOpen f) w → Counted geo (cut ms) w (stillOpen f)
+  unfolding observe shortSync saved
+  cut-counted ms w m h (known f) x =
+      counted geo (cut ms) w (known quiet) (planned geo (w .plain) ms (ShortSyncs.found geo (x .0) ms w m h) .laid) (lays (x .0)) (go (x .1))
+    where
+      lays : (old : Disk) → plainNext geo (cut ms) w .S .groups ≡ w .plain .S .groups + cond (planned geo (w .plain) ms (ShortSyncs.found geo old ms w m h) .laid) 1 0
+      lays old = ap (λ (d : Plain). d .S .groups) (ShortSyncs.P geo old ms w m h) ∙ laid-groups (planned geo (w .plain) ms (ShortSyncs.found geo old ms w m h) .laid) (w .plain .G) (w .plain .S)
+
+      go : Watch geo (x .0) (known quiet) (w .store) (w .ledger) (w .plain) → planned geo (w .plain) ms (ShortSyncs.found geo (x .0) ms w m h) .laid ≡ false
+      go (_⊎_.inl y) = ShortSyncs.open-lays-none geo (x .0) ms w m h (y .mode)
+      go (_⊎_.inr y) = y .laid ms (ShortSyncs.found geo (x .0) ms w m h)
+  cut-counted ms w m h (undecided G place made) x =
+      counted geo (cut ms) w (undecided G place made) (made && keptAt ms place && ShortSyncs.found geo (x .0) ms w m h)
+      (ap (λ (d : Plain). d .S .groups) (ShortSyncs.P geo (x .0) ms w m h) ∙ laid-groups (planned geo (w .plain) ms (ShortSyncs.found geo (x .0) ms w m h) .laid) (w .plain .G) (w .plain .S) ∙ ap (λ (t : Bool). w .plain .S .groups + cond t 1 0) (x .1 .laid ms (ShortSyncs.found geo (x .0) ms w m h)))
+      (sym (ap madeNew (ShortSyncs.cut-observed geo (x .0) ms w m h G place made)))
+
+  -- ---- every call
+
+  served-counted : (c : Call) (w : World) (f : Progress) → WorldSim geo w → refusal geo c (w .plain) ≡ 0 → Watched geo (stillOpen f) w → Counted geo c w (stillOpen f)
+  unfolding saved
+  served-counted (local c) w f m h x = none-counted geo (local c) w (stillOpen f) (served-S (local c) w h _ (local-same c (w .plain) (local-kind geo c))) refl (local-new geo c w f)
+  served-counted (save Save.sync) w f m h x = sync-counted geo w m h f
+  served-counted (save Save.apply) w f m h x = none-counted geo apply w (stillOpen f) (served-S apply w h _ (apply-same (w .plain))) refl (save-new geo Save.apply w f)
+  served-counted (save Save.recover) w f m h x = none-counted geo recover w (stillOpen f) (served-S recover w h _ (recover-same (w .plain))) refl (save-new geo Save.recover w f)
+  served-counted (cut ms) w f m h x = cut-counted ms w m h f x
+
+  step-counted : (c : Call) (w : World) (f : Progress) → WorldSim geo w → Watched geo (stillOpen f) w → Counted geo c w (stillOpen f)
+  step-counted c w f m x = go (ℕ-discrete (refusal geo c (w .plain)) 0)
+    where
+      go : Dec (refusal geo c (w .plain) ≡ 0) → Counted geo c w (stillOpen f)
+      go (yes h) = served-counted c w f m h x
+      go (no h) = refused-counted geo c w f m h
+
+  -- ---- what is watched then
+
+  -- a sync that is done was not cut short
+  done-short : (w : World) → dispatch geo sync (w .store) .answer ≡ 0 → shortSync geo sync w ≡ false
+  done-short w zero = go (shortSync geo sync w) refl
+    where
+      go : (t : Bool) → shortSync geo sync w ≡ t → t ≡ false
+      go false p = refl
+      go true p = absurd (omega (arith, short-is geo sync w p .answer))
+
+  recover-quiet : (w : World) → observe geo recover w (known quiet) ≡ known quiet
+  unfolding observe shortSync
+  recover-quiet w = refl
+
+  -- a finished sync or recovery leaves nothing undecided
+  finished-quiet : (c : Call) (w : World) (f : Progress) → WorldSim geo w → S.finished geo c w ≡ true → Watched geo (stillOpen f) w → observe geo c w (stillOpen f) ≡ known quiet
+  unfolding S.finished observe
+  finished-quiet (local c) w f m h x = absurd (mathlib.Core.Bool.false≢true h)
+  finished-quiet (save Save.sync) w f m h x =
+      let zero : dispatch geo sync (w .store) .answer ≡ 0 = eqb-true _ _ h in
+      let o = open-now geo sync w m refl (served-of geo sync w m zero) in
+      let q = open-watch geo (x .0) (stillOpen f) (w .store) (w .ledger) (w .plain) (x .1) (o .mode) in
+      ap (observe geo sync w) (q .0) ∙ ap (λ (t : Bool). cond t (undecided (groupOf geo (w .store)) (w .store .rec .grouped + geo .descriptors) (headed geo w)) (known quiet)) (done-short w zero)
+  finished-quiet (save Save.apply) w f m h x = absurd (mathlib.Core.Bool.false≢true h)
+  finished-quiet (save Save.recover) w (known f) m h x = recover-quiet w
+  finished-quiet (save Save.recover) w (undecided G place made) m h x =
+      let c = found-closed geo w m (eqb-true _ _ h) in
+      absurd (omega (arith, c .mode, x .1 .mode))
+  finished-quiet (cut ms) w f m h x = absurd (mathlib.Core.Bool.false≢true h)
+
+  step-watched : (c : Call) (w : World) (f : Progress) → WorldSim geo w → Watched geo (stillOpen f) w → Watched geo (observe geo c w (stillOpen f)) (next geo c w)
+  unfolding next
+  step-watched c w f m x = go (S.finished geo c w) refl
+    where
+      go : (t : Bool) → S.finished geo c w ≡ t → Watched geo (observe geo c w (stillOpen f)) (next geo c w)
+      go false e = (x .0, watch-step geo (x .0) c w (stillOpen f) m e (x .1))
+      go true e = subst (λ (g : Progress). Watched geo g (next geo c w)) (sym (finished-quiet c w f m e x)) (plainNext geo c w .S .disk, _⊎_.inl (record { mode = finished-opens geo c w m e; S = refl }))
+
+  -- ---- a list of calls
+
+  pub groups-counted : (cs : List Call) (w : World) (f : Progress) → WorldSim geo w → after geo cs w .excepted ≡ false → Watched geo f w
+      → after geo cs w .plain .S .groups ≡ w .plain .S .groups + groupsLaid geo cs w f
+  unfolding after groupsLaid next
+  groups-counted [] w f m e x = sym (add-zero (w .plain .S .groups))
+  groups-counted (c ∷ cs) w f m e x =
+      let y = forget geo f w x in
+      let rest = groups-counted cs (next geo c w) (observe geo c w (stillOpen f)) (next-sim geo c w m (clean-first geo c cs w e)) e (step-watched c w f m y) in
+      let one : plainNext geo c w .S .groups ≡ w .plain .S .groups + cond (saved geo c w || madeNew (observe geo c w (stillOpen f))) 1 0 = step-counted c w f m y in
+      rest ∙ (omega arith)

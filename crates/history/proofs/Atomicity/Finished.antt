@@ -1,0 +1,55 @@
+-- After a finished sync or recovery the record is open.
+use Prim.Native.Nat.{ℕ}
+use mathlib.Core.Path.{_≡_, refl, ap, sym, _∙_}
+use mathlib.Core.Logic.{_≢_}
+use mathlib.Core.Bool.{true}
+use native.Mathlib.Omega.{arith}
+use native.Mathlib.Decide.{ℕ-discrete}
+use borrow.Author.Tests.{eqb-true}
+use Rattle.journal.specs.Geometry.{Geometry}
+use Rattle.store.specs.Save as Save
+use Rattle.store.specs.State.{Outcome, openMode}
+use Rattle.store.specs.Causes.{cause}
+use Rattle.history.specs.Call.{Call, requestOf, local, save, cut, sync}
+use Rattle.history.specs.Plain.{Done, refusal}
+use Rattle.history.specs.Dispatch.{dispatch}
+use Rattle.history.specs.History.{World, storeNext, foundWritten}
+use Rattle.history.specs.Statements as S
+use Rattle.history.proofs.Relation.PlainLaws as PlainLaws
+use Rattle.history.proofs.Relation.PlainAnswers.{sync-cases}
+use Rattle.history.proofs.Steps.Shown.{WorldSim, same-cause, dispatch-refused, plain-served}
+use Rattle.history.proofs.Steps.ListInduction.{step}
+use Rattle.history.proofs.Atomicity.ReadsBack.{recovered-mode}
+use Rattle.history.proofs.Atomicity.Phases.{open-now}
+
+module _ (geo : Geometry) where
+  -- a call that answers 0 was not refused
+  pub served-of : (c : Call) (w : World) → WorldSim geo w → dispatch geo c (w .store) .answer ≡ 0 → refusal geo c (w .plain) ≡ 0
+  served-of c w m h = go (ℕ-discrete (refusal geo c (w .plain)) 0)
+    where
+      go : Dec (refusal geo c (w .plain) ≡ 0) → refusal geo c (w .plain) ≡ 0
+      go (yes e) = e
+      go (no e) =
+          let k : cause geo (requestOf c) (w .store) ≢ 0 = λ q. e (sym (same-cause geo (w .store) (w .ledger) (w .plain) m c) ∙ q) in
+          absurd (k (sym (ap (λ (o : Outcome). o .answer) (dispatch-refused geo c (w .store) k)) ∙ h))
+
+  sync-opens : (w : World) → WorldSim geo w → dispatch geo sync (w .store) .answer ≡ 0 → storeNext geo sync w .rec .mode ≡ openMode
+  sync-opens w m h =
+      let r = served-of sync w m h in
+      let o = open-now geo sync w m refl r in
+      let P = plain-served geo sync (foundWritten geo sync w) (w .plain) r in
+      let d : w .plain .mode ≡ 1 = m .basics .mirrors .mode ∙ o .mode in
+      step geo sync w m .agrees .mode
+      ∙ ap (λ (x : Done). x .plain .mode) P
+      ∙ sync-cases geo (λ x. x .plain .mode ≡ 1) (w .plain)
+      (λ z. ap (λ (x : Done). x .plain .mode) (PlainLaws.sync-nothing geo (w .plain) z) ∙ d)
+      (λ z p. ap (λ (x : Done). x .plain .mode) (PlainLaws.sync-finished geo (w .plain) z p) ∙ d)
+      (λ z p. absurd (let k : _≡_ {A = ℕ} 4 0 = sym (ap (λ (x : Done). x .answer) (P ∙ PlainLaws.sync-short geo (w .plain) z p)) ∙ sym (step geo sync w m .agrees .answer) ∙ h in omega arith))
+
+  pub finished-opens : (c : Call) (w : World) → WorldSim geo w → S.finished geo c w ≡ true → storeNext geo c w .rec .mode ≡ openMode
+  unfolding S.finished
+  finished-opens (local c) w m h = absurd (mathlib.Core.Bool.false≢true h)
+  finished-opens (save Save.sync) w m h = sync-opens w m (eqb-true _ _ h)
+  finished-opens (save Save.apply) w m h = absurd (mathlib.Core.Bool.false≢true h)
+  finished-opens (save Save.recover) w m h = recovered-mode geo w m (eqb-true _ _ h)
+  finished-opens (cut ms) w m h = absurd (mathlib.Core.Bool.false≢true h)
