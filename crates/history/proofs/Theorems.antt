@@ -18,12 +18,13 @@ use Rattle.store.specs.Abandon.{abandonCall}
 use Rattle.store.specs.Saves.{syncCall, applyCall, recoverCall}
 use Rattle.store.specs.Cut.{cutCall}
 use Rattle.journal.specs.Geometry.{Geometry}
+use Rattle.journal.proofs.Choices.{fallback-number}
 use Rattle.history.specs.Call.{Call, requestOf, recover, sync}
 use Rattle.history.specs.Plain.{Done, refusal, served}
 use Rattle.history.specs.Dispatch.{called, dispatch, Cited}
 use Rattle.history.specs.Ledger.{Ledger}
 use Rattle.history.specs.History.{World, begun, after, foundWritten}
-use Rattle.history.specs.Statements.{Sound, Safety, Refinement, ReadBack, WrittenSummed, Logged, Written, CrashAtomicity}
+use Rattle.history.specs.Statements.{Sound, Safety, FallbackNumbered, Refinement, ReadBack, WrittenSummed, Logged, Written, CrashAtomicity}
 use Rattle.history.specs.Refusals.{Refusals}
 use Rattle.history.specs.Linked.{Linked}
 use Rattle.history.specs.Scripts.{ScriptsAreHistories}
@@ -100,6 +101,9 @@ module _ (geo : Geometry) where
 
   pub safety : Safety geo
   safety st h cs = sound (after geo cs (begun geo st) .store) (after geo cs (begun geo st) .ledger) (after-safe geo cs (begun geo st) (begun-safe geo st h))
+
+  pub fallback-numbered : FallbackNumbered geo
+  fallback-numbered = fallback-number geo
 
   -- ---- Refinement
 

@@ -9,13 +9,16 @@ use lib.Dec.{eqb}
 use lib.ListN.{length, take}
 use Rattle.cells.specs.Entry.{Entry}
 use Rattle.fnv.specs.Fnv.{start}
-use Rattle.card.specs.Disk.{Disk, overlay}
+use Rattle.card.specs.Disk.{Disk}
+use Rattle.crash.specs.Laid.{Laid, layOver}
 use Rattle.card.specs.Card.{blocksIn, blockAt}
 use Rattle.card.specs.Marks.{keptAt, allKept}
 use Rattle.journal.specs.Geometry.{Geometry}
 use Rattle.journal.specs.Layout.{headerAt, isData}
+use Rattle.journal.specs.declared.choice.Choice.the-variants.{Fallback}
 use Rattle.journal.specs.Header.{encode, header}
 use Rattle.journal.specs.Log.{headerOf, entries, sumOf}
+use Rattle.journal.specs.Choice.{choose}
 use Rattle.store.specs.Save as Save
 use Rattle.store.specs.State.{State, openMode}
 use Rattle.store.specs.Causes.{wrongSizes, wrongBlock, wrongRecord}
@@ -41,6 +44,10 @@ module _ (geo : Geometry) where
 
   abbrev pub Safety : Type 0
   Safety = (st : State) → formatCall geo st .answer ≡ 0 → (cs : List Call) → Sound (after geo cs (begun geo st) .store)
+
+  -- W-201: a fallback never meets save number 0, on any card whatever: what it takes as the number, and one, is the header's
+  abbrev pub FallbackNumbered : Type 0
+  FallbackNumbered = (N : ℕ) (s : List ℕ) (n sum c : ℕ) → choose geo N s ≡ Fallback n sum c → headerOf s .save ≡ c + 1
 
   -- ---- Refinement (demand 2)
 
@@ -206,10 +213,10 @@ module _ (geo : Geometry) where
       let g = observe geo c w (stillOpen f) in
       cond (saved c w || madeNew g) 1 0 + groupsLaid cs (next geo c w) g
 
--- old, or new: old with the group over it
-abbrev pub outcome : Fate → Disk → Disk
+-- old, or new: old with the group over it, and one group more
+abbrev pub outcome : Fate → Laid → Laid
 outcome quiet old = old
-outcome (decided G laid all) old = cond laid (overlay G old) old
+outcome (decided G laid all) old = cond laid (layOver G old) old
 
 -- "a sync that had made all its writes and whose next cut kept every one" is new
 abbrev pub WholeIsNew : Fate → Type 0
@@ -221,10 +228,14 @@ module _ (geo : Geometry) where
   abbrev pub FoundIs : ℕ → State → Disk → Type 0
   FoundIs N r d = (x : ℕ) → isData geo N x ≡ true → (dispatch geo (get x) r .answer ≡ 0) × (blockOf geo x r ≡ d x)
 
+  -- W-201: "recover hands back in it the number found"
+  abbrev pub numberFound : World → ℕ
+  numberFound w = storeNext geo recover w .rec .save
+
   -- A recover behind the list cs. The list is a, then b: a is empty or ends in a finished sync or recovery, and b holds none. b holds at
   -- most one sync cut short, and what became of it is known. The disk found is old, the plain disk's S after a, or new, old with that
   -- sync's group over it: new exactly if the next accepted cut kept that sync's own header and the log found there is the log written.
-  -- W-201: the save number found is the number of nonempty groups laid along all of cs
+  -- W-201: the save number found is old's, or one more if new; and it is the number of nonempty groups laid along all of cs
   pub record Atomic (st : State) (cs : List Call) : Type 0 where
     pub a : List Call
     pub b : List Call
@@ -234,9 +245,10 @@ module _ (geo : Geometry) where
     pub one : countShort geo b (after geo a (begun geo st)) ≤ 1
     pub end : Fate
     pub fated : fate geo b (after geo a (begun geo st)) (known quiet) ≡ known end
-    pub found : FoundIs (blocksIn (st .settled)) (storeNext geo recover (after geo cs (begun geo st))) (outcome end (after geo a (begun geo st) .plain .S .disk))
+    pub found : FoundIs (blocksIn (st .settled)) (storeNext geo recover (after geo cs (begun geo st))) (outcome end (after geo a (begun geo st) .plain .S) .disk)
     pub whole : WholeIsNew end
-    pub number : storeNext geo recover (after geo cs (begun geo st)) .rec .save ≡ groupsLaid geo cs (begun geo st) (known quiet)
+    pub number : numberFound (after geo cs (begun geo st)) ≡ outcome end (after geo a (begun geo st) .plain .S) .groups
+    pub counted : numberFound (after geo cs (begun geo st)) ≡ groupsLaid geo cs (begun geo st) (known quiet)
 
   -- At every place of every list at which a recover answers 0 with no exception at a cut before it; cs is the list before that place,
   -- and what follows plays no part

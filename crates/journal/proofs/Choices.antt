@@ -1,12 +1,12 @@
 -- The laws of the choice of recovery.
-use Prim.Native.Nat.{ℕ, _-_, _≤_}
+use Prim.Native.Nat.{ℕ, _+_, _-_, _≤_}
 use mathlib.Core.Path.{_≡_, refl, ap, ap₂, sym, _∙_}
 use mathlib.Core.Logic.{_≢_}
 use mathlib.Core.Bool.{Bool, true, false, true≢false, cond, not, _&&_}
 use mathlib.Core.List.{List}
 use native.Mathlib.Omega.{arith}
-use borrow.Author.Tests.{le-ltb, lt-ltb, eq-eqb, eqb-true, leb-true, leb-false, not-false}
-use lib.Dec.{eqb, leb, ltb}
+use borrow.Author.Tests.{eq-eqb, eqb-true, leb-true, not-false}
+use lib.Dec.{eqb}
 use Rattle.journal.specs.Geometry.{Geometry}
 use Rattle.journal.specs.declared.header.Header.{Header}
 use Rattle.journal.specs.declared.choice.Choice.the-variants.{Whole, Fallback, Foreign, Neither}
@@ -15,15 +15,6 @@ use Rattle.journal.specs.Log.{headerOf, entries, good}
 use Rattle.journal.specs.Choice.{unnumbered, foreign, choose, takenCount}
 pub use Rattle.journal.proofs.Logs.{both}
 use Rattle.journal.proofs.Logs.{neither}
-
--- ---- tests
-
-pub not-leb : (a b : ℕ) → not (leb a b) ≡ ltb b a
-not-leb a b = go (leb a b) refl
-  where
-    go : (t : Bool) → leb a b ≡ t → not t ≡ ltb b a
-    go true e = sym (le-ltb b a (leb-true a b e))
-    go false e = sym (lt-ltb b a (leb-false a b e))
 
 -- ---- a header of this card
 
@@ -97,3 +88,29 @@ module _ (geo : Geometry) where
       go false e true p = ours geo N (headerOf s) e .count
       go false e false true = let o = ours geo N (headerOf s) e in omega (arith, o .count, o .previous)
       go false e false false = omega arith
+
+  -- what a fallback hands back is one less than the header's number
+  pub fallback-number : (N : ℕ) (s : List ℕ) (n sum c : ℕ) → choose geo N s ≡ Fallback n sum c → headerOf s .save ≡ c + 1
+  unfolding choose
+  fallback-number N s n sum c = go (foreign geo N (headerOf s)) refl (good geo N (entries geo s (headerOf s .count)) (headerOf s .sum)) refl (good geo N (entries geo s (headerOf s .previous)) (headerOf s .presum)) refl
+    where
+      go : (f : Bool) → foreign geo N (headerOf s) ≡ f → (a : Bool) → good geo N (entries geo s (headerOf s .count)) (headerOf s .sum) ≡ a
+          → (b : Bool) → good geo N (entries geo s (headerOf s .previous)) (headerOf s .presum) ≡ b
+          → cond f Foreign (cond a (Whole (headerOf s .count) (headerOf s .sum) (headerOf s .save)) (cond b (Fallback (headerOf s .previous) (headerOf s .presum) (headerOf s .save - 1)) Neither)) ≡ Fallback n sum c
+          → headerOf s .save ≡ c + 1
+      go true p a q b z e = absurd (none e)
+        where
+          none : Foreign ≡ Fallback n sum c → ⊥
+          none e = let z : _≡_ {A = ℕ} 0 1 = cc in omega arith
+      go false p true q b z e = absurd (none e)
+        where
+          none : Whole (headerOf s .count) (headerOf s .sum) (headerOf s .save) ≡ Fallback n sum c → ⊥
+          none e = let z : _≡_ {A = ℕ} 0 1 = cc in omega arith
+      go false p false q false z e = absurd (none e)
+        where
+          none : Neither ≡ Fallback n sum c → ⊥
+          none e = let z : _≡_ {A = ℕ} 0 1 = cc in omega arith
+      go false p false q true z e =
+          let some : headerOf s .save ≢ 0 = fallback-numbered N s (headerOf s) p q z in
+          let less : headerOf s .save - 1 ≡ c = cc in
+          omega arith

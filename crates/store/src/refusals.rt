@@ -1,4 +1,4 @@
-// The rows of put, commit, sync and cut that no other call has, behind those of check.rt.
+// The rows of put, commit and cut that no other call has, behind those of check.rt.
 use crate::lists::GROUP;
 use crate::lists::OPEN;
 use crate::lists::address;
@@ -7,7 +7,6 @@ use crate::record::Record;
 use card::marks::fit;
 use cells::BLOCK;
 use journal::SLOTS;
-use journal::header::LAST_SAVE;
 use journal::log::is_data;
 ghost use mathlib.Core.Path.{_≡_};
 ghost use Prim.Native.Nat.{_≤_};
@@ -60,23 +59,6 @@ impl Record {
         let new = newcomers(work, self.grouped, self.opened);
         if SLOTS < self.grouped + new {
             return 7;
-        }
-        0
-    }
-
-    // The cause of a sync.
-    pub(crate) fn sync_number(self, settled: &[u8], waiting: &[u8], work: &[u8]) -> u32
-        ensures { λ r. ⌜ r ≡ cause trap Request.sync (stateOf self (now (settled .entry)) (now (waiting .entry)) (now (work .entry))) ⌝ }
-    {
-        let number = self.not_open(settled, waiting, work);
-        if number != 0 {
-            return number;
-        }
-        if self.grouped == 0 {
-            return 0;
-        }
-        if self.save == LAST_SAVE {
-            return 12;
         }
         0
     }

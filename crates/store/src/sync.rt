@@ -8,6 +8,7 @@ use journal::SLOTS;
 use journal::append::Group;
 use journal::append::Log;
 use journal::append::append;
+use journal::header::LAST_SAVE;
 ghost use mathlib.Core.Path.{_≡_};
 ghost use mathlib.Core.Logic.{_≢_};
 ghost use Prim.Native.Nat.{ℕ, _+_, _≤_, _<_};
@@ -19,7 +20,8 @@ ghost use Rattle.journal.specs.Header.{mostSave};
 ghost use Rattle.journal.specs.Log.{slotAddress};
 ghost use Rattle.store.specs.State.{openMode};
 ghost use Rattle.store.specs.CodeState.{stateOf, outcomeOf};
-ghost use Rattle.store.specs.Causes.{waitingBytes, workBytes};
+ghost use Rattle.store.specs.Request as Request;
+ghost use Rattle.store.specs.Causes.{cause, waitingBytes, workBytes};
 ghost use Rattle.store.specs.Saves.{appending, syncing, syncCall};
 
 impl Record {
@@ -31,6 +33,23 @@ impl Record {
             return self.refused(number);
         }
         self.saved(self.synced(settled, waiting, work))
+    }
+
+    // Its cause. Row 12 is tested behind the others: a group that is not empty would have no number.
+    fn sync_number(self, settled: &[u8], waiting: &[u8], work: &[u8]) -> u32
+        ensures { λ r. ⌜ r ≡ cause trap Request.sync (stateOf self (now (settled .entry)) (now (waiting .entry)) (now (work .entry))) ⌝ }
+    {
+        let earlier = self.not_open(settled, waiting, work);
+        if earlier != 0 {
+            return earlier;
+        }
+        if self.grouped == 0 {
+            return 0;
+        }
+        if self.save == LAST_SAVE {
+            return 12;
+        }
+        0
     }
 
     // Its orders: none for an empty group; an apply first where the log has no room.

@@ -11,7 +11,6 @@ use borrow.Author.Tests.{eq-eqb, ne-eqb, eqb-true}
 use lib.Dec.{eqb, leb}
 use lib.ListN.{length}
 use Rattle.cells.specs.Entry.{Entry}
-use Rattle.card.specs.Disk.{Disk}
 use Rattle.card.specs.Marks.{keptAt, allKept}
 use Rattle.journal.specs.Geometry.{Geometry}
 use Rattle.crash.specs.Laid.{Laid, layOver}
@@ -48,7 +47,7 @@ laid-groups false G S = sym (add-zero (S .groups))
 module _ (geo : Geometry) where
   -- what is watched, whatever S was when it began
   abbrev Watched : Progress → World → Type 0
-  Watched f w = (old : Disk) × Watch geo old f (w .store) (w .ledger) (w .plain)
+  Watched f w = (old : Laid) × Watch geo old f (w .store) (w .ledger) (w .plain)
 
   -- what is decided is watched no longer
   forget : (f : Progress) (w : World) → Watched f w → Watched (stillOpen f) w
@@ -172,7 +171,7 @@ module _ (geo : Geometry) where
   cut-counted ms w m h (known f) x =
       counted geo (cut ms) w (known quiet) (planned geo (w .plain) ms (ShortSyncs.found geo (x .0) ms w m h) .laid) (lays (x .0)) (go (x .1))
     where
-      lays : (old : Disk) → plainNext geo (cut ms) w .S .groups ≡ w .plain .S .groups + cond (planned geo (w .plain) ms (ShortSyncs.found geo old ms w m h) .laid) 1 0
+      lays : (old : Laid) → plainNext geo (cut ms) w .S .groups ≡ w .plain .S .groups + cond (planned geo (w .plain) ms (ShortSyncs.found geo old ms w m h) .laid) 1 0
       lays old = ap (λ (d : Plain). d .S .groups) (ShortSyncs.P geo old ms w m h) ∙ laid-groups (planned geo (w .plain) ms (ShortSyncs.found geo old ms w m h) .laid) (w .plain .G) (w .plain .S)
 
       go : Watch geo (x .0) (known quiet) (w .store) (w .ledger) (w .plain) → planned geo (w .plain) ms (ShortSyncs.found geo (x .0) ms w m h) .laid ≡ false
@@ -236,7 +235,7 @@ module _ (geo : Geometry) where
     where
       go : (t : Bool) → S.finished geo c w ≡ t → Watched geo (observe geo c w (stillOpen f)) (next geo c w)
       go false e = (x .0, watch-step geo (x .0) c w (stillOpen f) m e (x .1))
-      go true e = subst (λ (g : Progress). Watched geo g (next geo c w)) (sym (finished-quiet c w f m e x)) (plainNext geo c w .S .disk, _⊎_.inl (record { mode = finished-opens geo c w m e; S = refl }))
+      go true e = subst (λ (g : Progress). Watched geo g (next geo c w)) (sym (finished-quiet c w f m e x)) (plainNext geo c w .S, _⊎_.inl (record { mode = finished-opens geo c w m e; S = refl }))
 
   -- ---- a list of calls
 

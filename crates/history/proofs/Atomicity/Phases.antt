@@ -9,7 +9,7 @@ use borrow.Author.Tests.{ne-eqb, eqb-true}
 use lib.Dec.{eqb}
 use lib.ListN.{length}
 use Rattle.cells.specs.Entry.{Entry}
-use Rattle.card.specs.Disk.{Disk}
+use Rattle.crash.specs.Laid.{Laid}
 use Rattle.card.specs.Card as Card
 use Rattle.card.specs.Card.{queue}
 use Rattle.card.specs.Marks.{marksFit, keptAt, allKept}
@@ -40,27 +40,27 @@ module _ (geo : Geometry) where
   planned d ms found = verdict geo (d .short) (d .n) (length (d .G)) (d .F) (headerKept ms (d .waiting)) found
 
 -- open: nothing has happened to S
-pub record OpenPhase (old : Disk) (st : State) (d : Plain) : Type 0 where
+pub record OpenPhase (old : Laid) (st : State) (d : Plain) : Type 0 where
   pub mode : st .rec .mode ≡ openMode
-  pub S : d .S .disk ≡ old
+  pub S : d .S ≡ old
 
 module _ (geo : Geometry) where
   -- not open, and no cut lays anything
-  pub record OtherPhase (old : Disk) (f : Fate) (st : State) (d : Plain) : Type 0 where
+  pub record OtherPhase (old : Laid) (f : Fate) (st : State) (d : Plain) : Type 0 where
     pub mode : st .rec .mode ≢ openMode
-    pub S : d .S .disk ≡ outcome f old
+    pub S : d .S ≡ outcome f old
     pub laid : (ms : List ℕ) (found : Bool) → planned geo d ms found .laid ≡ false
     pub whole : WholeIsNew f
 
   -- down by a sync of the group G
-  pub record ShortPhase (old : Disk) (G : List Entry) (place : ℕ) (made : Bool) (st : State) (l : Ledger) (d : Plain) : Type 0 where
+  pub record ShortPhase (old : Laid) (G : List Entry) (place : ℕ) (made : Bool) (st : State) (l : Ledger) (d : Plain) : Type 0 where
     pub mode : st .rec .mode ≡ down
-    pub S : d .S .disk ≡ old
+    pub S : d .S ≡ old
     pub group : d .G ≡ G
     pub laid : (ms : List ℕ) (found : Bool) → planned geo d ms found .laid ≡ made && keptAt ms place && found
     pub whole : made ≡ true → (ms : List ℕ) → marksFit ms (st .rec .waiting) ≡ true → allKept ms ≡ true → (keptAt ms place ≡ true) × (sameLog (foundIn geo (cutSettled ms st)) (cutWritten ms l) ≡ true)
 
-  abbrev pub Watch : Disk → Progress → State → Ledger → Plain → Type 0
+  abbrev pub Watch : Laid → Progress → State → Ledger → Plain → Type 0
   Watch old (known quiet) st l d = OpenPhase old st d ⊎ OtherPhase old quiet st d
   Watch old (undecided G place made) st l d = ShortPhase old G place made st l d
   Watch old (known (decided G laid all)) st l d = OtherPhase old (decided G laid all) st d
@@ -132,10 +132,10 @@ module _ (geo : Geometry) where
   observe-refused c w (undecided G place made) h m = refused-at c w G place made h m
   observe-refused c w (known (decided G laid all)) h m = refl
 
-  pub watch-at : (old : Disk) {f f′ : Progress} {st st′ : State} {l l′ : Ledger} {d d′ : Plain} → f′ ≡ f → st′ ≡ st → l′ ≡ l → d′ ≡ d → Watch geo old f st l d → Watch geo old f′ st′ l′ d′
+  pub watch-at : (old : Laid) {f f′ : Progress} {st st′ : State} {l l′ : Ledger} {d d′ : Plain} → f′ ≡ f → st′ ≡ st → l′ ≡ l → d′ ≡ d → Watch geo old f st l d → Watch geo old f′ st′ l′ d′
   watch-at old a b c e x = rw (a, b, c, e) x
 
-  pub watch-refused : (old : Disk) (c : Call) (w : World) (f : Progress) → refusal geo c (w .plain) ≢ 0 → WorldSim geo w → Watch geo old f (w .store) (w .ledger) (w .plain)
+  pub watch-refused : (old : Laid) (c : Call) (w : World) (f : Progress) → refusal geo c (w .plain) ≢ 0 → WorldSim geo w → Watch geo old f (w .store) (w .ledger) (w .plain)
       → Watch geo old (observe geo c w f) (storeNext geo c w) (ledgerNext geo c w) (plainNext geo c w)
   watch-refused old c w f h m x =
       let k : cause geo (requestOf c) (w .store) ≢ 0 = λ e. h (sym (same-cause geo (w .store) (w .ledger) (w .plain) m c) ∙ e) in
@@ -144,7 +144,7 @@ module _ (geo : Geometry) where
 
   -- ---- a call that is served
 
-  pub power-watch : (old : Disk) (k : ℕ) (f : Progress) (st : State) (l : Ledger) (d : Plain) → Watch geo old f st l d → Watch geo old f (withRecord (withQueue (st .rec .waiting) k (st .rec)) st) l (withPower k d)
+  pub power-watch : (old : Laid) (k : ℕ) (f : Progress) (st : State) (l : Ledger) (d : Plain) → Watch geo old f st l d → Watch geo old f (withRecord (withQueue (st .rec .waiting) k (st .rec)) st) l (withPower k d)
   unfolding Card.cut queue
   power-watch old k (known quiet) st l d (_⊎_.inl x) = _⊎_.inl (record { mode = x .mode; S = x .S })
   power-watch old k (known quiet) st l d (_⊎_.inr x) = _⊎_.inr (record { mode = x .mode; S = x .S; laid = x .laid; whole = x .whole })
@@ -158,31 +158,31 @@ module _ (geo : Geometry) where
   power-same k w (known (decided G laid all)) = refl
 
   -- open: no sync was cut short yet
-  pub open-watch : (old : Disk) (f : Progress) (st : State) (l : Ledger) (d : Plain) → Watch geo old f st l d → st .rec .mode ≡ openMode → (f ≡ known quiet) × (d .S .disk ≡ old)
+  pub open-watch : (old : Laid) (f : Progress) (st : State) (l : Ledger) (d : Plain) → Watch geo old f st l d → st .rec .mode ≡ openMode → (f ≡ known quiet) × (d .S ≡ old)
   open-watch old (known quiet) st l d (_⊎_.inl x) e = (refl, x .S)
   open-watch old (known quiet) st l d (_⊎_.inr x) e = absurd (x .mode e)
   open-watch old (undecided G place made) st l d x e = absurd (omega (arith, x .mode))
   open-watch old (known (decided G laid all)) st l d x e = absurd (x .mode e)
 
   -- closed: what became of it is known
-  pub record Closed (old : Disk) (f : Progress) (st : State) (d : Plain) : Type 0 where
+  pub record Closed (old : Laid) (f : Progress) (st : State) (d : Plain) : Type 0 where
     pub end : Fate
     pub fated : f ≡ known end
     pub phase : OtherPhase geo old end st d
 
-  pub closed-watch : (old : Disk) (f : Progress) (st : State) (l : Ledger) (d : Plain) → Watch geo old f st l d → st .rec .mode ≡ closed → Closed old f st d
+  pub closed-watch : (old : Laid) (f : Progress) (st : State) (l : Ledger) (d : Plain) → Watch geo old f st l d → st .rec .mode ≡ closed → Closed old f st d
   closed-watch old (known quiet) st l d (_⊎_.inl x) e = absurd (omega (arith, x .mode))
   closed-watch old (known quiet) st l d (_⊎_.inr x) e = record { end = quiet; fated = refl; phase = x }
   closed-watch old (undecided G place made) st l d x e = absurd (omega (arith, x .mode))
   closed-watch old (known (decided G laid all)) st l d x e = record { end = decided G laid all; fated = refl; phase = x }
 
-  pub to-watch : (old : Disk) (f : Fate) (st : State) (l : Ledger) (d : Plain) → OtherPhase geo old f st d → Watch geo old (known f) st l d
+  pub to-watch : (old : Laid) (f : Fate) (st : State) (l : Ledger) (d : Plain) → OtherPhase geo old f st d → Watch geo old (known f) st l d
   to-watch old quiet st l d x = _⊎_.inr x
   to-watch old (decided G laid all) st l d x = x
 
   -- a call that needs an open record, keeps it open and leaves S
-  pub open-kept : (old : Disk) (c : Call) (w : World) (f : Progress) → WorldSim geo w → w .store .rec .mode ≡ openMode → Watch geo old f (w .store) (w .ledger) (w .plain)
-      → plainNext geo c w .mode ≡ w .plain .mode → plainNext geo c w .S .disk ≡ w .plain .S .disk → observe geo c w (known quiet) ≡ known quiet
+  pub open-kept : (old : Laid) (c : Call) (w : World) (f : Progress) → WorldSim geo w → w .store .rec .mode ≡ openMode → Watch geo old f (w .store) (w .ledger) (w .plain)
+      → plainNext geo c w .mode ≡ w .plain .mode → plainNext geo c w .S ≡ w .plain .S → observe geo c w (known quiet) ≡ known quiet
       → Watch geo old (observe geo c w f) (storeNext geo c w) (ledgerNext geo c w) (plainNext geo c w)
   open-kept old c w f m o x p s q =
       let y = open-watch old f (w .store) (w .ledger) (w .plain) x o in

@@ -10,7 +10,6 @@ use borrow.Author.Tests.{eq-eqb, ne-eqb, eqb-true, not-true}
 use lib.Dec.{eqb, leb}
 use lib.ListN.{length}
 use Rattle.cells.specs.Entry.{Entry}
-use Rattle.card.specs.Disk.{Disk, overlay}
 use Rattle.crash.specs.Laid.{Laid, layOver}
 use Rattle.card.specs.Marks.{marksFit, keptAt, allKept}
 use Rattle.journal.specs.Geometry.{Geometry}
@@ -43,15 +42,10 @@ use Rattle.history.proofs.Relation.PlainAnswers.{sync-cases, LocalKind,
 use Rattle.history.proofs.Atomicity.ReadsBack.{power-served, cut-accepted}
 use Rattle.history.proofs.Atomicity.Phases.{ShortPhase, Watch, closed-watch, open-kept, open-now, open-watch, planned, power-same, power-watch, to-watch, watch-at, watch-refused}
 
--- the disk of what may be laid
-laid-disk : (t : Bool) (G : List Entry) (S : Laid) → cond t (layOver G S) S .disk ≡ cond t (overlay G (S .disk)) (S .disk)
-laid-disk true G S = refl
-laid-disk false G S = refl
-
 -- ---- sync
 
 module _ (geo : Geometry) where
-  module _ (old : Disk) (w : World) (m : WorldSim geo w) (h : refusal geo sync (w .plain) ≡ 0) (nf : S.finished geo sync w ≡ false) where
+  module _ (old : Laid) (w : World) (m : WorldSim geo w) (h : refusal geo sync (w .plain) ≡ 0) (nf : S.finished geo sync w ≡ false) where
     o : OpenSim geo (w .store) (w .ledger) (w .plain)
     o = open-now geo sync w m refl h
 
@@ -128,7 +122,7 @@ module _ (geo : Geometry) where
 
   -- ---- apply
 
-  apply-watch : (old : Disk) (w : World) (f : Progress) → WorldSim geo w → refusal geo apply (w .plain) ≡ 0 → Watch geo old f (w .store) (w .ledger) (w .plain)
+  apply-watch : (old : Laid) (w : World) (f : Progress) → WorldSim geo w → refusal geo apply (w .plain) ≡ 0 → Watch geo old f (w .store) (w .ledger) (w .plain)
       → Watch geo old (observe geo apply w f) (storeNext geo apply w) (ledgerNext geo apply w) (plainNext geo apply w)
   unfolding observe shortSync
   apply-watch old w f m h x = go (ℕ-discrete (w .plain .n) 0) (decLe (w .plain .n + 3) (w .plain .power))
@@ -139,9 +133,9 @@ module _ (geo : Geometry) where
       P : plainStep geo apply (foundWritten geo apply w) (w .plain) ≡ plainApply (w .plain)
       P = plain-served geo apply (foundWritten geo apply w) (w .plain) h
 
-      kept : (D : Done) → plainApply (w .plain) ≡ D → D .plain .mode ≡ w .plain .mode → D .plain .S .disk ≡ w .plain .S .disk → Watch geo old (observe geo apply w f) (storeNext geo apply w) (ledgerNext geo apply w) (plainNext geo apply w)
+      kept : (D : Done) → plainApply (w .plain) ≡ D → D .plain .mode ≡ w .plain .mode → D .plain .S ≡ w .plain .S → Watch geo old (observe geo apply w f) (storeNext geo apply w) (ledgerNext geo apply w) (plainNext geo apply w)
       kept D e p s =
-          open-kept geo old apply w f m (o .mode) x (ap (λ (z : Done). z .plain .mode) (P ∙ e) ∙ p) (ap (λ (z : Done). z .plain .S .disk) (P ∙ e) ∙ s) refl
+          open-kept geo old apply w f m (o .mode) x (ap (λ (z : Done). z .plain .mode) (P ∙ e) ∙ p) (ap (λ (z : Done). z .plain .S) (P ∙ e) ∙ s) refl
 
       go : Dec (w .plain .n ≡ 0) → Dec (w .plain .n + 3 ≤ w .plain .power) → Watch geo old (observe geo apply w f) (storeNext geo apply w) (ledgerNext geo apply w) (plainNext geo apply w)
       go (yes z) q = kept _ (PlainLaws.apply-nothing (w .plain) z) refl refl
@@ -175,7 +169,7 @@ module _ (geo : Geometry) where
   recover-same w (undecided G place made) = refl
   recover-same w (known (decided G laid all)) = refl
 
-  recover-watch : (old : Disk) (w : World) (f : Progress) → WorldSim geo w → refusal geo recover (w .plain) ≡ 0 → S.finished geo recover w ≡ false → Watch geo old f (w .store) (w .ledger) (w .plain)
+  recover-watch : (old : Laid) (w : World) (f : Progress) → WorldSim geo w → refusal geo recover (w .plain) ≡ 0 → S.finished geo recover w ≡ false → Watch geo old f (w .store) (w .ledger) (w .plain)
       → Watch geo old (observe geo recover w f) (storeNext geo recover w) (ledgerNext geo recover w) (plainNext geo recover w)
   unfolding S.finished
   recover-watch old w f m h nf x = go (w .plain .F) refl (decLe 2 (w .plain .power))
@@ -202,7 +196,7 @@ module _ (geo : Geometry) where
 
   -- ---- cut
 
-  module _ (old : Disk) (ms : List ℕ) (w : World) (m : WorldSim geo w) (h : refusal geo (cut ms) (w .plain) ≡ 0) where
+  module _ (old : Laid) (ms : List ℕ) (w : World) (m : WorldSim geo w) (h : refusal geo (cut ms) (w .plain) ≡ 0) where
     abbrev pub found : Bool
     found = sameLog (foundIn geo (cutSettled ms (w .store))) (cutWritten ms (w .ledger))
 
@@ -214,12 +208,12 @@ module _ (geo : Geometry) where
 
     -- nothing is laid
     cut-still : (f : Fate) → observe geo (cut ms) w (known f) ≡ known f
-        → planned geo (w .plain) ms found .laid ≡ false → w .plain .S .disk ≡ outcome f old → WholeIsNew f
+        → planned geo (w .plain) ms found .laid ≡ false → w .plain .S ≡ outcome f old → WholeIsNew f
         → Watch geo old (observe geo (cut ms) w (known f)) (storeNext geo (cut ms) w) (ledgerNext geo (cut ms) w) (plainNext geo (cut ms) w)
     cut-still f q z s y =
         watch-at geo old q refl refl P
         (to-watch geo old f (storeNext geo (cut ms) w) (ledgerNext geo (cut ms) w) _
-        (record { mode = closed-now; S = ap (λ (t : Bool). cond t (layOver (w .plain .G) (w .plain .S)) (w .plain .S) .disk) z ∙ s; laid = λ ns u. ap (λ (v : Verdict). v .laid) (PlainLaws.choose-none geo _ _ _ _ u); whole = y }))
+        (record { mode = closed-now; S = ap (λ (t : Bool). cond t (layOver (w .plain .G) (w .plain .S)) (w .plain .S)) z ∙ s; laid = λ ns u. ap (λ (v : Verdict). v .laid) (PlainLaws.choose-none geo _ _ _ _ u); whole = y }))
 
     pub cut-observed : (G : List Entry) (place : ℕ) (made : Bool) → observe geo (cut ms) w (undecided G place made) ≡ known (decided G (made && keptAt ms place && found) (made && allKept ms))
     unfolding observe
@@ -233,9 +227,8 @@ module _ (geo : Geometry) where
         watch-at geo old (cut-observed G place made) refl refl P
         (record {
           mode = closed-now;
-          S = ap (λ (t : Bool). cond t (layOver (w .plain .G) (w .plain .S)) (w .plain .S) .disk) (x .laid ms found)
-              ∙ laid-disk (made && keptAt ms place && found) (w .plain .G) (w .plain .S)
-              ∙ ap₂ (λ (g : List Entry) (d : Disk). cond (made && keptAt ms place && found) (overlay g d) d) (x .group) (x .S);
+          S = ap (λ (t : Bool). cond t (layOver (w .plain .G) (w .plain .S)) (w .plain .S)) (x .laid ms found)
+              ∙ ap₂ (λ (g : List Entry) (d : Laid). cond (made && keptAt ms place && found) (layOver g d) d) (x .group) (x .S);
           laid = λ ns u. ap (λ (v : Verdict). v .laid) (PlainLaws.choose-none geo _ _ _ _ u);
           whole = λ e.
               let q = both made (allKept ms) e in
@@ -263,7 +256,7 @@ module _ (geo : Geometry) where
 
   -- ---- every call
 
-  local-watch : (old : Disk) (c : Local) (w : World) (f : Progress) → LocalKind geo c → WorldSim geo w → refusal geo (local c) (w .plain) ≡ 0 → Watch geo old f (w .store) (w .ledger) (w .plain)
+  local-watch : (old : Laid) (c : Local) (w : World) (f : Progress) → LocalKind geo c → WorldSim geo w → refusal geo (local c) (w .plain) ≡ 0 → Watch geo old f (w .store) (w .ledger) (w .plain)
       → Watch geo old (observe geo (local c) w f) (storeNext geo (local c) w) (ledgerNext geo (local c) w) (plainNext geo (local c) w)
   unfolding observe shortSync entered
   local-watch old c w f (powers k) m h x =
@@ -271,9 +264,9 @@ module _ (geo : Geometry) where
       (power-watch geo old k f (w .store) (w .ledger) (w .plain) x)
   local-watch old c w f (opens _ n s) m h x =
       let P = plain-served geo (local c) (foundWritten geo (local c) w) (w .plain) h in
-      open-kept geo old (local c) w f m (open-now geo (local c) w m n h .mode) x (ap (λ (d : Done). d .plain .mode) P ∙ s (w .plain) .mode) (ap (λ (d : Done). d .plain .S .disk) P ∙ ap (λ (S : Laid). S .disk) (s (w .plain) .S)) refl
+      open-kept geo old (local c) w f m (open-now geo (local c) w m n h .mode) x (ap (λ (d : Done). d .plain .mode) P ∙ s (w .plain) .mode) (ap (λ (d : Done). d .plain .S) P ∙ s (w .plain) .S) refl
 
-  served-watch : (old : Disk) (c : Call) (w : World) (f : Progress) → WorldSim geo w → refusal geo c (w .plain) ≡ 0 → S.finished geo c w ≡ false → Watch geo old f (w .store) (w .ledger) (w .plain)
+  served-watch : (old : Laid) (c : Call) (w : World) (f : Progress) → WorldSim geo w → refusal geo c (w .plain) ≡ 0 → S.finished geo c w ≡ false → Watch geo old f (w .store) (w .ledger) (w .plain)
       → Watch geo old (observe geo c w f) (storeNext geo c w) (ledgerNext geo c w) (plainNext geo c w)
   unfolding observe shortSync entered
   served-watch old (local c) w f m h nf x = local-watch old c w f (local-kind geo c) m h x
@@ -282,7 +275,7 @@ module _ (geo : Geometry) where
   served-watch old (save Save.recover) w f m h nf x = recover-watch old w f m h nf x
   served-watch old (cut ms) w f m h nf x = cut-watch old ms w m h f x
 
-  pub watch-step : (old : Disk) (c : Call) (w : World) (f : Progress) → WorldSim geo w → S.finished geo c w ≡ false → Watch geo old f (w .store) (w .ledger) (w .plain)
+  pub watch-step : (old : Laid) (c : Call) (w : World) (f : Progress) → WorldSim geo w → S.finished geo c w ≡ false → Watch geo old f (w .store) (w .ledger) (w .plain)
       → Watch geo old (observe geo c w f) (storeNext geo c w) (ledgerNext geo c w) (plainNext geo c w)
   watch-step old c w f m nf x = go (ℕ-discrete (refusal geo c (w .plain)) 0)
     where
@@ -290,7 +283,7 @@ module _ (geo : Geometry) where
       go (yes h) = served-watch old c w f m h nf x
       go (no h) = watch-refused geo old c w f h m x
 
-  pub watch-list : (old : Disk) (cs : List Call) (w : World) (f : Progress) → WorldSim geo w → noneFinished geo cs w ≡ true → after geo cs w .excepted ≡ false → Watch geo old f (w .store) (w .ledger) (w .plain)
+  pub watch-list : (old : Laid) (cs : List Call) (w : World) (f : Progress) → WorldSim geo w → noneFinished geo cs w ≡ true → after geo cs w .excepted ≡ false → Watch geo old f (w .store) (w .ledger) (w .plain)
       → Watch geo old (fate geo cs w f) (after geo cs w .store) (after geo cs w .ledger) (after geo cs w .plain)
   unfolding after fate noneFinished next
   watch-list old [] w f m n e x = x

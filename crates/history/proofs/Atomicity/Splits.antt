@@ -26,7 +26,7 @@ use Rattle.history.specs.Plain.{Plain, Done, fresh, refusal, plainStep, 
 use Rattle.history.specs.Dispatch.{dispatch, blockOf}
 use Rattle.history.specs.History.{World, begun, next, after, storeNext, ledgerNext, foundWritten}
 use Rattle.history.specs.Statements as S
-use Rattle.history.specs.Statements.{Fate, quiet, known, fate, outcome, WholeIsNew, shortSync, countShort, noneFinished, EndsFinished, groupsLaid, CrashAtomicity}
+use Rattle.history.specs.Statements.{Fate, quiet, known, fate, outcome, WholeIsNew, shortSync, countShort, noneFinished, EndsFinished, groupsLaid, numberFound, CrashAtomicity}
 use Rattle.history.proofs.Relation.PlainLaws as PlainLaws
 use Rattle.history.proofs.Steps.Shown.{plainNext, WorldSim, same-cause, dispatch-refused, plain-refused, plain-served}
 use Rattle.history.proofs.Steps.Cut as CutStep
@@ -127,7 +127,7 @@ module _ (geo : Geometry) where
       let r : refusal geo sync (w .plain) ≡ 0 = short-serves geo w m (s .mode) (s .answer) in
       let f : S.finished geo sync w ≡ false = ap (λ (x : Call). S.finished geo x w) (sym (s .is)) ∙ nf in
       let o : storeNext geo sync w .rec .mode ≡ openMode = ap (λ (x : Call). storeNext geo x w .rec .mode) (sym (s .is)) ∙ e in
-      let k : _≡_ {A = ℕ} 2 1 = sym (step geo sync w m .agrees .mode ∙ ap (λ (x : Done). x .plain .mode) (short-plain geo (w .plain .S .disk) w m r f)) ∙ o in
+      let k : _≡_ {A = ℕ} 2 1 = sym (step geo sync w m .agrees .mode ∙ ap (λ (x : Done). x .plain .mode) (short-plain geo (w .plain .S) w m r f)) ∙ o in
       omega arith
 
   count-one : (cs : List Call) (w : World) → WorldSim geo w → noneFinished geo cs w ≡ true → after geo cs w .excepted ≡ false → countShort geo cs w ≤ 1
@@ -187,7 +187,7 @@ module _ (geo : Geometry) where
         ∙ ap (λ (f : Disk). f x) (overlay-nil (overlay [] (w .plain .S .disk)) ∙ overlay-nil (w .plain .S .disk))
 
     -- the number found
-    pub found-number : storeNext geo recover w .rec .save ≡ w .plain .S .groups
+    pub found-number : numberFound geo w ≡ w .plain .S .groups
     found-number =
         step geo recover w m .agrees .save (recovered-mode geo w m h)
         ∙ ap (λ (d : Plain). d .S .groups) plain-is ∙ ap (λ (S : Laid). S .groups) (plain-same geo w m h)
@@ -205,7 +205,8 @@ module _ (geo : Geometry) where
     pub one : countShort geo b (after geo a (begun geo st)) ≤ 1
     pub end : Fate
     pub fated : fate geo b (after geo a (begun geo st)) (known quiet) ≡ known end
-    pub found : S.FoundIs geo (blocksIn (st .settled)) (storeNext geo recover (after geo b (after geo a (begun geo st)))) (outcome end (after geo a (begun geo st) .plain .S .disk))
+    pub found : S.FoundIs geo (blocksIn (st .settled)) (storeNext geo recover (after geo b (after geo a (begun geo st)))) (outcome end (after geo a (begun geo st) .plain .S) .disk)
+    pub number : numberFound geo (after geo b (after geo a (begun geo st))) ≡ outcome end (after geo a (begun geo st) .plain .S) .groups
     pub whole : WholeIsNew end
 
   pub split-reading : (st : State) → formatCall geo st .answer ≡ 0 → (a b : List Call) → EndsFinished geo a (begun geo st) → noneFinished geo b (after geo a (begun geo st)) ≡ true
@@ -216,16 +217,17 @@ module _ (geo : Geometry) where
       let clean : after geo a (begun geo st) .excepted ≡ false = clean-before geo b (after geo a (begun geo st)) x in
       let m : WorldSim geo (after geo a (begun geo st)) = after-sim geo a (begun geo st) (begun-sim geo st f) clean in
       let m′ : WorldSim geo (after geo b (after geo a (begun geo st))) = after-sim geo b (after geo a (begun geo st)) m x in
-      let start : Watch geo (after geo a (begun geo st) .plain .S .disk) (known quiet) (after geo a (begun geo st) .store) (after geo a (begun geo st) .ledger) (after geo a (begun geo st) .plain) =
+      let start : Watch geo (after geo a (begun geo st) .plain .S) (known quiet) (after geo a (begun geo st) .store) (after geo a (begun geo st) .ledger) (after geo a (begun geo st) .plain) =
       _⊎_.inl (record { mode = ends-open st f a ends clean; S = refl }) in
-      let last = watch-list geo (after geo a (begun geo st) .plain .S .disk) b (after geo a (begun geo st)) (known quiet) m none x start in
-      let o = closed-watch geo (after geo a (begun geo st) .plain .S .disk) (fate geo b (after geo a (begun geo st)) (known quiet)) (after geo b (after geo a (begun geo st)) .store) (after geo b (after geo a (begun geo st)) .ledger) (after geo b (after geo a (begun geo st)) .plain) last
+      let last = watch-list geo (after geo a (begun geo st) .plain .S) b (after geo a (begun geo st)) (known quiet) m none x start in
+      let o = closed-watch geo (after geo a (begun geo st) .plain .S) (fate geo b (after geo a (begun geo st)) (known quiet)) (after geo b (after geo a (begun geo st)) .store) (after geo b (after geo a (begun geo st)) .ledger) (after geo b (after geo a (begun geo st)) .plain) last
       (found-closed geo (after geo b (after geo a (begun geo st))) m′ h .mode) in
       record {
         one = count-one b (after geo a (begun geo st)) m none x;
         end = o .end;
         fated = o .fated;
-        found = found-is (after geo b (after geo a (begun geo st))) m′ h (blocksIn (st .settled)) _ (sym (after-N b (after geo a (begun geo st)) ∙ after-N a (begun geo st))) (o .phase .S);
+        found = found-is (after geo b (after geo a (begun geo st))) m′ h (blocksIn (st .settled)) _ (sym (after-N b (after geo a (begun geo st)) ∙ after-N a (begun geo st))) (ap (λ (S : Laid). S .disk) (o .phase .S));
+        number = found-number (after geo b (after geo a (begun geo st))) m′ h ∙ ap (λ (S : Laid). S .groups) (o .phase .S);
         whole = o .phase .whole;
       }
 
@@ -277,12 +279,12 @@ module _ (geo : Geometry) where
   -- ---- the number found
 
   pub found-counted : (st : State) → formatCall geo st .answer ≡ 0 → (cs : List Call) → dispatch geo recover (after geo cs (begun geo st) .store) .answer ≡ 0 → after geo cs (begun geo st) .excepted ≡ false
-      → storeNext geo recover (after geo cs (begun geo st)) .rec .save ≡ groupsLaid geo cs (begun geo st) (known quiet)
+      → numberFound geo (after geo cs (begun geo st)) ≡ groupsLaid geo cs (begun geo st) (known quiet)
   unfolding begun fresh
   found-counted st f cs h x =
       let m : WorldSim geo (after geo cs (begun geo st)) = after-sim geo cs (begun geo st) (begun-sim geo st f) x in
       found-number (after geo cs (begun geo st)) m h
-      ∙ groups-counted geo cs (begun geo st) (known quiet) (begun-sim geo st f) x (begun geo st .plain .S .disk, _⊎_.inl (record { mode = begun-open st f; S = refl }))
+      ∙ groups-counted geo cs (begun geo st) (known quiet) (begun-sim geo st f) x (begun geo st .plain .S, _⊎_.inl (record { mode = begun-open st f; S = refl }))
       ∙ zero-add _
 
   -- ---- the theorem
@@ -303,7 +305,8 @@ module _ (geo : Geometry) where
         one = r .one;
         end = r .end;
         fated = r .fated;
-        found = λ y d. subst (λ (w : World). (dispatch geo (get y) (storeNext geo recover w) .answer ≡ 0) × (blockOf geo y (storeNext geo recover w) ≡ outcome (r .end) (after geo (s .a) (begun geo st) .plain .S .disk) y)) (sym same) (r .found y d);
+        found = λ y d. subst (λ (w : World). (dispatch geo (get y) (storeNext geo recover w) .answer ≡ 0) × (blockOf geo y (storeNext geo recover w) ≡ outcome (r .end) (after geo (s .a) (begun geo st) .plain .S) .disk y)) (sym same) (r .found y d);
         whole = r .whole;
-        number = found-counted st f cs h x;
+        number = ap (numberFound geo) same ∙ r .number;
+        counted = found-counted st f cs h x;
       }

@@ -364,7 +364,7 @@ module _ (st : State) (f : formatCall trap st .answer ≡ 0) (size : blocksIn (s
     unfolding noCut acceptedCut
     last-cut = refl
 
-    script : (new all : Bool) (b : List ℕ) → keptAt ms 2 && same ≡ new → allKept ms ≡ all → outcome (decided (at40 nines ∷ []) new all) (old .disk) 40 ≡ b → Script st ms same new all k (c .S .groups) b
+    script : (new all : Bool) (b : List ℕ) → keptAt ms 2 && same ≡ new → allKept ms ≡ all → outcome (decided (at40 nines ∷ []) new all) old .disk 40 ≡ b → Script st ms same new all k (c .S .groups) b
     unfolding after answers next
     script new all b p q e =
         let x = read .found 40 is-40 in
@@ -387,7 +387,7 @@ module _ (st : State) (f : formatCall trap st .answer ≡ 0) (size : blocksIn (s
           groups =
               sym (found-counted trap st f (filed ++ crashed ms) (t₇ w₃ all-filed ms same k c .answer) (all-clean w₃ all-filed ms same k c))
               ∙ number w₃ all-filed ms same k c;
-          block = x .1 ∙ ap₂ (λ (u : Fate) (d : Plain). outcome u (d .S .disk) 40) z (s₃ .plain) ∙ e;
+          block = x .1 ∙ ap₂ (λ (u : Fate) (d : Plain). outcome u (d .S) .disk 40) z (s₃ .plain) ∙ e;
         }
 
   torn : Script st cut101 false false false 2 1 sevens

@@ -4,14 +4,18 @@ use mathlib.Core.Bool.{true, false, or-true}
 use native.Mathlib.Omega.{arith}
 use borrow.Author.Needs.{needs}
 use borrow.Author.Tests.{eq-eqb, ne-eqb, le-leb, lt-leb}
-use lib.Dec.{leb}
+use lib.Dec.{eqb, leb}
 use Rattle.journal.specs.Geometry.Laws.{trap-slots}
 use Rattle.journal.specs.Geometry.{trap}
+use Rattle.journal.specs.Header.{formatNumber}
 use Rattle.journal.proofs.choice.is_foreign.Statement.{statement}
 use Rattle.journal.proofs.choice.is_foreign.Tie as tie
 
 returns : tie.Need-returns
-returns c = rw (ne-eqb _ _ (c .if1 .taken))
+returns c =
+    let h = c .before .before .args .h in
+    let other : eqb (h .format) formatNumber ≡ false = ne-eqb _ _ (c .if1 .taken) in
+    rw other
 
 returns-2 : tie.Need-returns-2
 returns-2 c = rw (eq-eqb _ _ (c .before .before .if1 .left), ne-eqb _ _ (c .if2 .taken))

@@ -1,9 +1,10 @@
 -- `store::record::Record::sync_number` meets its contract.
 use mathlib.Core.Path.{_≡_, refl}
-use mathlib.Core.Bool.{cond}
+use mathlib.Core.Bool.{true, false, cond}
 use borrow.Author.Tests.{eq-eqb, ne-eqb}
 use lib.Dec.{eqb}
 use Rattle.journal.specs.Geometry.{trap}
+use Rattle.journal.specs.Header.{mostSave}
 use Rattle.store.specs.State.{State}
 use Rattle.store.specs.CodeState.{stateOf}
 use Rattle.store.specs.Request.{sync}
@@ -27,13 +28,24 @@ returns : tie.Need-returns
 returns c = rw (table-of (c .before), ne-eqb _ _ (c .if1 .taken))
 
 returns-2 : tie.Need-returns-2
-returns-2 c = rw (table-of (c .before .before .before), eq-eqb _ _ (c .before .before .if1 .left), eq-eqb _ _ (c .if2 .taken))
+returns-2 c =
+    let st = given (c .before .before .before .before .before .before .before) in
+    let none : eqb (st .rec .grouped) 0 ≡ true = eq-eqb _ _ (c .if2 .taken) in
+    rw (table-of (c .before .before .before), eq-eqb _ _ (c .before .before .if1 .left), none)
 
 returns-3 : tie.Need-returns-3
-returns-3 c = rw (table-of (c .before .before .before .before .before), eq-eqb _ _ (c .before .before .before .before .if1 .left), ne-eqb _ _ (c .before .before .if2 .left), eq-eqb _ _ (c .if3 .taken))
+returns-3 c =
+    let st = given (c .before .before .before .before .before .before .before .before .before) in
+    let some : eqb (st .rec .grouped) 0 ≡ false = ne-eqb _ _ (c .before .before .if2 .left) in
+    let last : eqb (st .rec .save) mostSave ≡ true = eq-eqb _ _ (c .if3 .taken) in
+    rw (table-of (c .before .before .before .before .before), eq-eqb _ _ (c .before .before .before .before .if1 .left), some, last)
 
 returns-4 : tie.Need-returns-4
-returns-4 c = rw (table-of (c .before .before .before .before .before), eq-eqb _ _ (c .before .before .before .before .if1 .left), ne-eqb _ _ (c .before .before .if2 .left), ne-eqb _ _ (c .if3 .left))
+returns-4 c =
+    let st = given (c .before .before .before .before .before .before .before .before .before) in
+    let some : eqb (st .rec .grouped) 0 ≡ false = ne-eqb _ _ (c .before .before .if2 .left) in
+    let free : eqb (st .rec .save) mostSave ≡ false = ne-eqb _ _ (c .if3 .left) in
+    rw (table-of (c .before .before .before .before .before), eq-eqb _ _ (c .before .before .before .before .if1 .left), some, free)
 
 pub sync-number-spec : {M : Type 1} → statement M
 sync-number-spec = tie.close (tie.spec not-open-requires returns returns-2 returns-3 returns-4)
