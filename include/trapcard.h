@@ -14,8 +14,8 @@
  * call that takes one.
  *
  * The save number counts the saves of a card, in its header and in the record (trapcard_save): 0 after trapcard_format, one more
- * after each sync of a group that is not empty and that returned 0. A sync that power ended leaves the record's number, and a power
- * loss forgets it, as it does the rest of the record. trapcard_recover hands back the number of the save it found: it counts the
+ * after each sync of a group that is not empty and that returned 0. A sync that power ended leaves the record's number; in the
+ * record of a boot, and of a cut, it is 0. trapcard_recover hands back the number of the save it found: it counts the
  * saves that are in the disk found, those that returned 0 and each that power ended and a recovery found new, checksum collisions
  * apart. So after a power loss in save k + 1 it is k + 1 if that save is found and k if it is not. trapcard_apply keeps the number.
  *
@@ -80,7 +80,7 @@ extern "C" {
 #define TRAPCARD_ERR_OPEN 5u     /* recover when open */
 #define TRAPCARD_ERR_ADDRESS 6u  /* not a data block */
 #define TRAPCARD_ERR_FULL 7u     /* over 32 entries in open or group */
-#define TRAPCARD_ERR_FOREIGN 8u  /* the header is not this card's, or of another format */
+#define TRAPCARD_ERR_FOREIGN 8u  /* the header is not this card's, of another format, or of a save without a number */
 #define TRAPCARD_ERR_UNSOUND 9u  /* neither list is good */
 #define TRAPCARD_ERR_MARKS 10u   /* marks not as many as waiting, or a mark over 1 */
 #define TRAPCARD_ERR_LAST 12u    /* sync of a group that is not empty, at the largest save number, 2^64 - 1 */

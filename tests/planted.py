@@ -40,7 +40,7 @@ FAULTS = (
     Fault("a sync cut short takes the next save number", "store/sync", "self.after(ordered, done)", "self.with_save(self.save + 1).after(ordered, done)"),
     Fault("a cut keeps the record's save number", "store/cut", "self.with_save(0)", "self.with_save(self.save)"),
     Fault("a header with save number 0 and unlike sums is not foreign", "journal/choice", "h.presum != h.sum", "false"),
-    Fault("the largest save number refuses an empty group too", "store/refusals", "if self.grouped == 0 {\n            return 0;", "if false {\nreturn 0;"),
+    Fault("the largest save number refuses an empty group too", "store/sync", "if self.grouped == 0 {\n            return 0;", "if false {\nreturn 0;"),
     Fault("put reads a byte behind its block", "firmware/calls", "let placed = decode(rec)",
           "unsafe { std::ptr::read_volatile(block.as_ptr().add(block.len())) };\nlet placed = decode(rec)"),
     Fault("commit writes a const byte with itself", "firmware/calls", "let committed = decode(rec)",

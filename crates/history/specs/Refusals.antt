@@ -58,8 +58,8 @@ module _ (geo : Geometry) where
 
   -- "power gone in the call": 4, the power there was as orders. "the record is down, its n and sum as before the call, or as a sync's
   -- apply left them if all that apply's orders happened"; N stays, the save number too ("a call cut short leaves it"), and the power is
-  -- gone. The card is what the orders carried out made of
-  -- it. Left are "group, open, and each block no order touched", of these: with no power every lent byte, and the record but for its mode
+  -- gone. The card is what the orders carried out made of it. Left are "group, open, and each block no order touched", of these: with no
+  -- power every lent byte, and the record but for its mode
   pub record Gone (q : Request.Request) (st : State) : Type 0 where
     pub answer : called geo q st .answer ≡ 4
     pub orders : called geo q st .orders ≡ st .rec .power

@@ -20,7 +20,7 @@ use Rattle.journal.specs.Header.{encode, header}
 use Rattle.journal.specs.Log.{headerOf, entries, sumOf}
 use Rattle.journal.specs.Choice.{choose}
 use Rattle.store.specs.Save as Save
-use Rattle.store.specs.State.{State, openMode}
+use Rattle.store.specs.State.{State, closed, openMode}
 use Rattle.store.specs.Causes.{wrongSizes, wrongBlock, wrongRecord}
 use Rattle.store.specs.Format.{formatCall}
 use Rattle.store.specs.Saves.{groupOf}
@@ -52,7 +52,7 @@ module _ (geo : Geometry) where
   -- ---- Refinement (demand 2)
 
   -- "At each call of a list the store gives the plain disk's answer, orders handed back […], block from a get and, when open, n". W-201:
-  -- when open, the record's save number is the number of nonempty groups laid into S
+  -- when open, the record's save number is the number of nonempty groups laid into S; it is "0 after a cut", until a recover is done
   pub record Agrees (c : Call) (w : World) : Type 0 where
     pub answer : dispatch geo c (w .store) .answer ≡ plainStep geo c (foundWritten geo c w) (w .plain) .answer
     pub orders : dispatch geo c (w .store) .orders ≡ plainStep geo c (foundWritten geo c w) (w .plain) .orders
@@ -62,6 +62,7 @@ module _ (geo : Geometry) where
     pub waiting : storeNext geo c w .rec .waiting ≡ plainStep geo c (foundWritten geo c w) (w .plain) .plain .waiting
     pub n : storeNext geo c w .rec .mode ≡ openMode → storeNext geo c w .rec .logged ≡ plainStep geo c (foundWritten geo c w) (w .plain) .plain .n
     pub save : storeNext geo c w .rec .mode ≡ openMode → storeNext geo c w .rec .save ≡ plainStep geo c (foundWritten geo c w) (w .plain) .plain .S .groups
+    pub no-save : storeNext geo c w .rec .mode ≡ closed → storeNext geo c w .rec .save ≡ 0
 
   -- "the exception of demand 3 apart": at every call with no exception at a cut before it
   abbrev pub Refinement : Type 0
@@ -186,10 +187,10 @@ module _ (geo : Geometry) where
 
 -- ---- the groups laid, counted along a list
 
--- a sync cut short that is not decided yet is watched on, and a decided one no longer
-abbrev pub stillOpen : Progress → Progress
-stillOpen (known f) = known quiet
-stillOpen (undecided G place made) = undecided G place made
+-- a sync cut short that is not decided yet; one that is, is watched no longer
+abbrev pub stillUndecided : Progress → Progress
+stillUndecided (known f) = known quiet
+stillUndecided (undecided G place made) = undecided G place made
 
 -- decided, and new
 abbrev pub madeNew : Progress → Bool
@@ -206,11 +207,12 @@ module _ (geo : Geometry) where
   saved (save Save.recover) w = false
   saved (cut ms) w = false
 
-  -- from the calls: every finished sync of a nonempty group, and every sync cut short that its next accepted cut made new
+  -- every finished sync of a nonempty group, and every sync cut short that its next accepted cut made new: by the calls and what the store
+  -- made of them, as `fate` goes, and not by any number on the card or in the record
   unfoldable pub groupsLaid : List Call → World → Progress → ℕ
   groupsLaid [] w f = 0
   groupsLaid (c ∷ cs) w f =
-      let g = observe geo c w (stillOpen f) in
+      let g = observe geo c w (stillUndecided f) in
       cond (saved c w || madeNew g) 1 0 + groupsLaid cs (next geo c w) g
 
 -- old, or new: old with the group over it, and one group more

@@ -24,7 +24,7 @@ module _ (geo : Geometry) where
       || unnumbered h
 
   -- "if the first n entries are good, they are the log […] Else if the first p are good"; W-201: "a fallback in recovery lowers it by
-  -- one". The header of a fallback never has save number 0 (`fallback-numbered`)
+  -- one". The header that a fallback meets never has save number 0 (`fallback-numbered`)
   unfoldable pub choose : ℕ → List ℕ → Choice
   choose N s =
       let h = headerOf s in

@@ -23,6 +23,7 @@ ghost use Rattle.card.specs.Card.{mostPlaces, blocksIn, blockAt, run, write};
 ghost use Rattle.card.specs.CodeQueue.{cardOf, Below};
 ghost use Rattle.journal.specs.Geometry.{trap};
 ghost use Rattle.journal.specs.Layout.{descriptorAt, firstData};
+ghost use Rattle.journal.specs.Header.{header};
 ghost use Rattle.journal.specs.Log.{entriesFrom, sumOf};
 ghost use Rattle.journal.specs.Orders as Orders;
 ghost use Rattle.journal.specs.Orders.{slotWrites, addressBytes, appendOrders};
@@ -33,6 +34,15 @@ pub struct Log {
     pub count: u32,
     pub sum: u64,
     pub save: u64,
+}
+
+impl Log {
+    // The header of a log that is longer than this one: count entries, with their sum.
+    fn header(self, count: u32, sum: u64) -> Header
+        ensures { λ r. ⌜ r ≡ header (self .blocks) (self .count) (self .sum) count sum (self .save) ⌝ }
+    {
+        Header::new(self.blocks, self.count, self.sum, count, sum, self.save)
+    }
 }
 
 // Entries in work memory: count of them, from place `from` on.
@@ -181,14 +191,7 @@ pub fn append(
             sum,
         };
     }
-    let h = Header::new(
-        log.blocks,
-        log.count,
-        log.sum,
-        log.count + group.count,
-        sum,
-        log.save,
-    );
+    let h = log.header(log.count + group.count, sum);
     let o = h.order(q, settled, waiting);
     let after = o.queue;
     Appended {

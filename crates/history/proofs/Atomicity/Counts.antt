@@ -25,7 +25,7 @@ use Rattle.history.specs.Plain.{Plain, Done, ofApply, ofRecover, applyTa
 use Rattle.history.specs.Dispatch.{dispatch}
 use Rattle.history.specs.History.{World, next, after, storeNext, ledgerNext, foundWritten}
 use Rattle.history.specs.Statements as S
-use Rattle.history.specs.Statements.{Fate, quiet, decided, Progress, known, undecided, observe, outcome, shortSync, headed, stillOpen, madeNew, saved, groupsLaid}
+use Rattle.history.specs.Statements.{Fate, quiet, decided, Progress, known, undecided, observe, outcome, shortSync, headed, stillUndecided, madeNew, saved, groupsLaid}
 use Rattle.history.proofs.Relation.PlainLaws as PlainLaws
 use Rattle.history.proofs.Relation.PlainAnswers.{sync-cases, LocalKind, powers, opens, local-kind}
 use Rattle.history.proofs.Relation.OpenFacts as Facts
@@ -50,7 +50,7 @@ module _ (geo : Geometry) where
   Watched f w = (old : Laid) × Watch geo old f (w .store) (w .ledger) (w .plain)
 
   -- what is decided is watched no longer
-  forget : (f : Progress) (w : World) → Watched f w → Watched (stillOpen f) w
+  forget : (f : Progress) (w : World) → Watched f w → Watched (stillUndecided f) w
   forget (known quiet) w x = x
   forget (known (decided G laid all)) w x =
       (outcome (decided G laid all) (x .0), _⊎_.inr (record { mode = x .1 .mode; S = x .1 .S; laid = x .1 .laid; whole = tt }))
@@ -69,16 +69,16 @@ module _ (geo : Geometry) where
 
   -- ---- no call but a cut makes one new
 
-  still-none : (f : Progress) → madeNew (stillOpen f) ≡ false
+  still-none : (f : Progress) → madeNew (stillUndecided f) ≡ false
   still-none (known f) = refl
   still-none (undecided G place made) = refl
 
-  local-new : (c : Local) (w : World) (f : Progress) → madeNew (observe geo (local c) w (stillOpen f)) ≡ false
+  local-new : (c : Local) (w : World) (f : Progress) → madeNew (observe geo (local c) w (stillUndecided f)) ≡ false
   unfolding observe shortSync
   local-new c w (known f) = refl
   local-new c w (undecided G place made) = refl
 
-  save-new : (c : Save) (w : World) (f : Progress) → madeNew (observe geo (save c) w (stillOpen f)) ≡ false
+  save-new : (c : Save) (w : World) (f : Progress) → madeNew (observe geo (save c) w (stillUndecided f)) ≡ false
   unfolding observe
   save-new c w (known f) = go (shortSync geo (save c) w)
     where
@@ -100,10 +100,10 @@ module _ (geo : Geometry) where
   refused-saved (save Save.recover) w m h = refl
   refused-saved (cut ms) w m h = refl
 
-  refused-counted : (c : Call) (w : World) (f : Progress) → WorldSim geo w → refusal geo c (w .plain) ≢ 0 → Counted c w (stillOpen f)
+  refused-counted : (c : Call) (w : World) (f : Progress) → WorldSim geo w → refusal geo c (w .plain) ≢ 0 → Counted c w (stillUndecided f)
   refused-counted c w f m h =
-      none-counted c w (stillOpen f) (ap (λ (d : Done). d .plain .S) (plain-refused geo c (foundWritten geo c w) (w .plain) h)) (refused-saved c w m h)
-      (ap madeNew (observe-refused geo c w (stillOpen f) h m) ∙ still-none f)
+      none-counted c w (stillUndecided f) (ap (λ (d : Done). d .plain .S) (plain-refused geo c (foundWritten geo c w) (w .plain) h)) (refused-saved c w m h)
+      (ap madeNew (observe-refused geo c w (stillUndecided f) h m) ∙ still-none f)
 
   -- ---- a sync
 
@@ -121,20 +121,20 @@ module _ (geo : Geometry) where
     unfolding saved S.finished
     saved-is t u a g = ap₂ (λ (x y : Bool). x && not y) a g
 
-    sync-counted : Counted sync w (stillOpen f)
+    sync-counted : Counted sync w (stillUndecided f)
     sync-counted =
-        sync-cases geo (λ d. Counted sync w (stillOpen f)) (w .plain)
+        sync-cases geo (λ d. Counted sync w (stillUndecided f)) (w .plain)
         (λ z.
-        none-counted sync w (stillOpen f) (ap (λ (d : Plain). d .S) P ∙ ap (λ (d : Done). d .plain .S) (PlainLaws.sync-nothing geo (w .plain) z))
+        none-counted sync w (stillUndecided f) (ap (λ (d : Plain). d .S) P ∙ ap (λ (d : Done). d .plain .S) (PlainLaws.sync-nothing geo (w .plain) z))
         (saved-is _ true refl (eq-eqb _ 0 (sym size ∙ z)) ∙ and-false (eqb (dispatch geo sync (w .store) .answer) 0)) (save-new Save.sync w f))
         (λ z p.
         let all = PlainLaws.sync-finished geo (w .plain) z p in
-        counted sync w (stillOpen f) true (ap (λ (d : Plain). d .S .groups) P ∙ ap (λ (d : Done). d .plain .S .groups) all)
-        (sym (ap (λ (t : Bool). t || madeNew (observe geo sync w (stillOpen f))) (saved-is true false (eq-eqb _ 0 (answer ∙ ap (λ (d : Done). d .answer) all)) (ne-eqb _ 0 (λ e. z (size ∙ e)))))))
+        counted sync w (stillUndecided f) true (ap (λ (d : Plain). d .S .groups) P ∙ ap (λ (d : Done). d .plain .S .groups) all)
+        (sym (ap (λ (t : Bool). t || madeNew (observe geo sync w (stillUndecided f))) (saved-is true false (eq-eqb _ 0 (answer ∙ ap (λ (d : Done). d .answer) all)) (ne-eqb _ 0 (λ e. z (size ∙ e)))))))
         (λ z p.
         let short = PlainLaws.sync-short geo (w .plain) z p in
         let four : dispatch geo sync (w .store) .answer ≡ 4 = answer ∙ ap (λ (d : Done). d .answer) short in
-        none-counted sync w (stillOpen f) (ap (λ (d : Plain). d .S) P ∙ ap (λ (d : Done). d .plain .S) short) (saved-is false _ (ne-eqb (dispatch geo sync (w .store) .answer) 0 (λ e. omega arith)) refl) (save-new Save.sync w f))
+        none-counted sync w (stillUndecided f) (ap (λ (d : Plain). d .S) P ∙ ap (λ (d : Done). d .plain .S) short) (saved-is false _ (ne-eqb (dispatch geo sync (w .store) .answer) 0 (λ e. omega arith)) refl) (save-new Save.sync w f))
 
 -- ---- apply and recover leave S
 
@@ -166,7 +166,7 @@ module _ (geo : Geometry) where
 
   -- ---- a cut
 
-  cut-counted : (ms : List ℕ) (w : World) (m : WorldSim geo w) (h : refusal geo (cut ms) (w .plain) ≡ 0) (f : Progress) → Watched geo (stillOpen f) w → Counted geo (cut ms) w (stillOpen f)
+  cut-counted : (ms : List ℕ) (w : World) (m : WorldSim geo w) (h : refusal geo (cut ms) (w .plain) ≡ 0) (f : Progress) → Watched geo (stillUndecided f) w → Counted geo (cut ms) w (stillUndecided f)
   unfolding observe shortSync saved
   cut-counted ms w m h (known f) x =
       counted geo (cut ms) w (known quiet) (planned geo (w .plain) ms (ShortSyncs.found geo (x .0) ms w m h) .laid) (lays (x .0)) (go (x .1))
@@ -184,18 +184,18 @@ module _ (geo : Geometry) where
 
   -- ---- every call
 
-  served-counted : (c : Call) (w : World) (f : Progress) → WorldSim geo w → refusal geo c (w .plain) ≡ 0 → Watched geo (stillOpen f) w → Counted geo c w (stillOpen f)
+  served-counted : (c : Call) (w : World) (f : Progress) → WorldSim geo w → refusal geo c (w .plain) ≡ 0 → Watched geo (stillUndecided f) w → Counted geo c w (stillUndecided f)
   unfolding saved
-  served-counted (local c) w f m h x = none-counted geo (local c) w (stillOpen f) (served-S (local c) w h _ (local-same c (w .plain) (local-kind geo c))) refl (local-new geo c w f)
+  served-counted (local c) w f m h x = none-counted geo (local c) w (stillUndecided f) (served-S (local c) w h _ (local-same c (w .plain) (local-kind geo c))) refl (local-new geo c w f)
   served-counted (save Save.sync) w f m h x = sync-counted geo w m h f
-  served-counted (save Save.apply) w f m h x = none-counted geo apply w (stillOpen f) (served-S apply w h _ (apply-same (w .plain))) refl (save-new geo Save.apply w f)
-  served-counted (save Save.recover) w f m h x = none-counted geo recover w (stillOpen f) (served-S recover w h _ (recover-same (w .plain))) refl (save-new geo Save.recover w f)
+  served-counted (save Save.apply) w f m h x = none-counted geo apply w (stillUndecided f) (served-S apply w h _ (apply-same (w .plain))) refl (save-new geo Save.apply w f)
+  served-counted (save Save.recover) w f m h x = none-counted geo recover w (stillUndecided f) (served-S recover w h _ (recover-same (w .plain))) refl (save-new geo Save.recover w f)
   served-counted (cut ms) w f m h x = cut-counted ms w m h f x
 
-  step-counted : (c : Call) (w : World) (f : Progress) → WorldSim geo w → Watched geo (stillOpen f) w → Counted geo c w (stillOpen f)
+  step-counted : (c : Call) (w : World) (f : Progress) → WorldSim geo w → Watched geo (stillUndecided f) w → Counted geo c w (stillUndecided f)
   step-counted c w f m x = go (ℕ-discrete (refusal geo c (w .plain)) 0)
     where
-      go : Dec (refusal geo c (w .plain) ≡ 0) → Counted geo c w (stillOpen f)
+      go : Dec (refusal geo c (w .plain) ≡ 0) → Counted geo c w (stillUndecided f)
       go (yes h) = served-counted c w f m h x
       go (no h) = refused-counted geo c w f m h
 
@@ -214,13 +214,13 @@ module _ (geo : Geometry) where
   recover-quiet w = refl
 
   -- a finished sync or recovery leaves nothing undecided
-  finished-quiet : (c : Call) (w : World) (f : Progress) → WorldSim geo w → S.finished geo c w ≡ true → Watched geo (stillOpen f) w → observe geo c w (stillOpen f) ≡ known quiet
+  finished-quiet : (c : Call) (w : World) (f : Progress) → WorldSim geo w → S.finished geo c w ≡ true → Watched geo (stillUndecided f) w → observe geo c w (stillUndecided f) ≡ known quiet
   unfolding S.finished observe
   finished-quiet (local c) w f m h x = absurd (mathlib.Core.Bool.false≢true h)
   finished-quiet (save Save.sync) w f m h x =
       let zero : dispatch geo sync (w .store) .answer ≡ 0 = eqb-true _ _ h in
       let o = open-now geo sync w m refl (served-of geo sync w m zero) in
-      let q = open-watch geo (x .0) (stillOpen f) (w .store) (w .ledger) (w .plain) (x .1) (o .mode) in
+      let q = open-watch geo (x .0) (stillUndecided f) (w .store) (w .ledger) (w .plain) (x .1) (o .mode) in
       ap (observe geo sync w) (q .0) ∙ ap (λ (t : Bool). cond t (undecided (groupOf geo (w .store)) (w .store .rec .grouped + geo .descriptors) (headed geo w)) (known quiet)) (done-short w zero)
   finished-quiet (save Save.apply) w f m h x = absurd (mathlib.Core.Bool.false≢true h)
   finished-quiet (save Save.recover) w (known f) m h x = recover-quiet w
@@ -229,12 +229,12 @@ module _ (geo : Geometry) where
       absurd (omega (arith, c .mode, x .1 .mode))
   finished-quiet (cut ms) w f m h x = absurd (mathlib.Core.Bool.false≢true h)
 
-  step-watched : (c : Call) (w : World) (f : Progress) → WorldSim geo w → Watched geo (stillOpen f) w → Watched geo (observe geo c w (stillOpen f)) (next geo c w)
+  step-watched : (c : Call) (w : World) (f : Progress) → WorldSim geo w → Watched geo (stillUndecided f) w → Watched geo (observe geo c w (stillUndecided f)) (next geo c w)
   unfolding next
   step-watched c w f m x = go (S.finished geo c w) refl
     where
-      go : (t : Bool) → S.finished geo c w ≡ t → Watched geo (observe geo c w (stillOpen f)) (next geo c w)
-      go false e = (x .0, watch-step geo (x .0) c w (stillOpen f) m e (x .1))
+      go : (t : Bool) → S.finished geo c w ≡ t → Watched geo (observe geo c w (stillUndecided f)) (next geo c w)
+      go false e = (x .0, watch-step geo (x .0) c w (stillUndecided f) m e (x .1))
       go true e = subst (λ (g : Progress). Watched geo g (next geo c w)) (sym (finished-quiet c w f m e x)) (plainNext geo c w .S, _⊎_.inl (record { mode = finished-opens geo c w m e; S = refl }))
 
   -- ---- a list of calls
@@ -245,6 +245,6 @@ module _ (geo : Geometry) where
   groups-counted [] w f m e x = sym (add-zero (w .plain .S .groups))
   groups-counted (c ∷ cs) w f m e x =
       let y = forget geo f w x in
-      let rest = groups-counted cs (next geo c w) (observe geo c w (stillOpen f)) (next-sim geo c w m (clean-first geo c cs w e)) e (step-watched c w f m y) in
-      let one : plainNext geo c w .S .groups ≡ w .plain .S .groups + cond (saved geo c w || madeNew (observe geo c w (stillOpen f))) 1 0 = step-counted c w f m y in
+      let rest = groups-counted cs (next geo c w) (observe geo c w (stillUndecided f)) (next-sim geo c w m (clean-first geo c cs w e)) e (step-watched c w f m y) in
+      let one : plainNext geo c w .S .groups ≡ w .plain .S .groups + cond (saved geo c w || madeNew (observe geo c w (stillUndecided f))) 1 0 = step-counted c w f m y in
       rest ∙ (omega arith)

@@ -47,6 +47,7 @@ module _ (geo : Geometry) where
     pub G : d .G ≡ []
     pub short : d .short ≡ none
     pub pending : l .pending ≡ nothing
+    pub save : st .rec .save ≡ 0
     pub card : ClosedCard geo Every (st .rec .blocks) (blockAt (st .settled)) (l .written) (d .S) (d .n) (d .F)
 
 -- what a cut by these marks would leave, and what the plain disk would choose

@@ -112,7 +112,7 @@ module _ (geo : Geometry) where
       → Sim geo (afterCut ms st) (settledBy w) (plainAt st d S n F)
   cut-sim ms st d w S n F b r = record {
     basics = cut-basics ms st d S n F b;
-    phase = _⊎_.inr (_⊎_.inl (record { mode = refl; T = refl; G = refl; short = refl; pending = refl; card = r }));
+    phase = _⊎_.inr (_⊎_.inl (record { mode = refl; T = refl; G = refl; short = refl; pending = refl; save = refl; card = r }));
   }
 
   -- ---- the step
@@ -180,6 +180,7 @@ module _ (geo : Geometry) where
             waiting = ap (λ (s : State). s .rec .waiting) store-cut ∙ sym (ap (λ (o : Done). o .plain .waiting) plain-cut);
             n = λ z. absurd (omega (arith, sym (ap (λ (s : State). s .rec .mode) store-cut) ∙ z));
             save = λ z. absurd (omega (arith, sym (ap (λ (s : State). s .rec .mode) store-cut) ∙ z));
+            no-save = λ z. ap (λ (s : State). s .rec .save) store-cut;
           };
           sim = λ e. sim-at geo store-cut ledger-cut (ap (λ (o : Done). o .plain) plain-cut) (cut-sim geo ms (w .store) (w .plain) _ _ _ _ b (leads-cut .clean (sym exception-cut ∙ e)));
           safe =

@@ -50,13 +50,22 @@ module _ (geo : Geometry) where
     pub sim : exception geo c w ≡ false → Sim geo (storeNext geo c w) (ledgerNext geo c w) (plainNext c w)
     pub safe : Safe geo (storeNext geo c w) (ledgerNext geo c w)
 
-  -- n and the save number, when open
+  -- n, when open
   pub sim-n : (st : State) (l : Ledger) (d : Plain) → Sim geo st l d → st .rec .mode ≡ openMode → st .rec .logged ≡ d .n
   sim-n st l d m h = go (m .phase)
     where
       go : OpenSim geo st l d ⊎ (ClosedSim geo st l d ⊎ DownSim geo st l d) → st .rec .logged ≡ d .n
       go (_⊎_.inl o) = sym (o .n)
       go (_⊎_.inr (_⊎_.inl o)) = absurd (omega (arith, o .mode))
+      go (_⊎_.inr (_⊎_.inr o)) = absurd (omega (arith, o .mode))
+
+  -- no save number, when closed
+  sim-no-save : (st : State) (l : Ledger) (d : Plain) → Sim geo st l d → st .rec .mode ≡ closed → st .rec .save ≡ 0
+  sim-no-save st l d m h = go (m .phase)
+    where
+      go : OpenSim geo st l d ⊎ (ClosedSim geo st l d ⊎ DownSim geo st l d) → st .rec .save ≡ 0
+      go (_⊎_.inl o) = absurd (omega (arith, o .mode))
+      go (_⊎_.inr (_⊎_.inl o)) = o .save
       go (_⊎_.inr (_⊎_.inr o)) = absurd (omega (arith, o .mode))
 
   -- what a step shows: the answer, the orders, the block of a get; and the relation after it, whatever was found
@@ -79,6 +88,7 @@ module _ (geo : Geometry) where
           waiting = sym (m .waiting);
           n = sim-n (storeNext geo c w) (ledgerNext geo c w) (plainNext c w) (s .sim);
           save = λ h. sym (m .save h);
+          no-save = sim-no-save (storeNext geo c w) (ledgerNext geo c w) (plainNext c w) (s .sim);
         };
         sim = λ e. s .sim;
         safe = record { ledger = ledgerNext geo c w; plain = plainNext c w; sim = s .sim; even = even-refl (ledgerNext geo c w) };

@@ -121,5 +121,5 @@ module _ (geo : Geometry) where
         mirrors = record { mode = sym (o .mode); N = refl; waiting = sym idle-closed; T = λ z. absurd (omega (arith, o .mode)); G = λ z. absurd (omega (arith, o .mode)); save = λ z. absurd (omega (arith, o .mode)) };
         power = refl;
       };
-      sim = record { mode = o .mode; T = refl; G = refl; short = refl; pending = refl; card = o .card };
+      sim = record { mode = o .mode; T = refl; G = refl; short = refl; pending = refl; save = o .save; card = o .card };
     }

@@ -61,11 +61,11 @@ returns c =
     (cardOf (a .settled .now) (a .waiting .now) (a .queue)) _ (w .write-list .ensures .1 .0 (a .settled .now)) _ (w .write-list .ensures .0) e in
     (sym e ∙ o .0, (o .1, w .before .before .before .sum-group .ensures))
 
-add-new : tie.Need-add-new
-add-new c = omega (arith, trap .addressed)
+add-header : tie.Need-add-header
+add-header c = omega (arith, trap .addressed)
 
-new-requires : tie.Need-new-requires
-new-requires c κs = search needs
+header-requires : tie.Need-header-requires
+header-requires c κs = search needs
 
 order-requires : tie.Need-order-requires
 order-requires c κs =
@@ -101,8 +101,8 @@ returns-2 c =
     let w = h .before .before .before .before .before .before .before .before in
     let a = w .before .before .before .before .before .before .before .args in
     let es = entriesFrom (a .work .now) (a .group .from) (a .group .count) in
-    let new : h .new .result ≡ header (a .log .blocks) (a .log .count) (a .log .sum) (a .log .count + length es) (sumOf (a .log .sum) es) (a .log .save) =
-    h .new .ensures ∙ ap₂ (λ (k x : ℕ). header (a .log .blocks) (a .log .count) (a .log .sum) (a .log .count + k) x (a .log .save)) (sym (length-from (a .work .now) (a .group .from) (a .group .count))) (w .before .before .before .sum-group .ensures) in
+    let new : h .header .result ≡ header (a .log .blocks) (a .log .count) (a .log .sum) (a .log .count + length es) (sumOf (a .log .sum) es) (a .log .save) =
+    h .header .ensures ∙ ap₂ (λ (k x : ℕ). header (a .log .blocks) (a .log .count) (a .log .sum) (a .log .count + k) x (a .log .save)) (sym (length-from (a .work .now) (a .group .from) (a .group .count))) (w .before .before .before .sum-group .ensures) in
     let p = resumed _ (listed (a .settled .now) (a .log .count) es) (last (a .log) es) (split (a .log) (a .settled .now) es) (a .group .count + 1) 2 (a .group .count + 3) (size (a .settled .now) (a .log .count) es (a .group .count) (length-from (a .work .now) (a .group .from) (a .group .count))) (omega arith)
     (cardOf (a .settled .now) (a .waiting .now) (a .queue)) _ (w .write-list .ensures .1 .0 (a .settled .now)) _ (w .write-list .ensures .0) (not-false _ (h .before .before .before .if1 .left))
     _ _ (o .order .ensures .1 ∙ ap (λ (x : Header). run (headerWrite x ∷ flush ∷ []) (cardOf (a .settled .now) (w .write-list .last .1 .1 .0) (w .write-list .result .queue))) new) (o .order .ensures .0) in
@@ -117,8 +117,8 @@ append-spec =
     same-length
     same-length-2
     returns
-    add-new
-    new-requires
+    add-header
+    header-requires
     order-requires
     same-length-3
     same-length-4
