@@ -15,7 +15,7 @@ use Rattle.history.specs.Call.{Call, power, put, get, commit, sync, reco
 use Rattle.history.specs.Dispatch.{dispatch, blockOf}
 use Rattle.history.specs.History.{World, begun, next, after, storeNext, foundWritten, acceptedCut, exception}
 use Rattle.history.specs.Linked.{AllPassable}
-use Rattle.history.specs.Statements.{EndsFinished, noneFinished, quiet, decided, known, fate, groupsLaid, noCut}
+use Rattle.history.specs.Statements.{EndsFinished, noneFinished, quiet, decided, known, fate, groupsLaid, numberFound, noCut}
 
 -- "byte filling the block"
 unfoldable pub sevens : List ℕ
@@ -75,7 +75,7 @@ pub record Script (st : State) (ms : List ℕ) (same new all : Bool) (k c : ℕ)
   pub answer : dispatch trap recover (metByRecover ms st .store) .answer ≡ 0
   pub orders : dispatch trap recover (metByRecover ms st .store) .orders ≡ k
   pub fated : fate trap (crashed ms) (after trap filed (begun trap st)) (known quiet) ≡ known (decided (at40 nines ∷ []) new all)
-  pub number : storeNext trap recover (metByRecover ms st) .rec .save ≡ c
+  pub number : numberFound trap (metByRecover ms st) ≡ c
   pub groups : groupsLaid trap (filed ++ crashed ms) (begun trap st) (known quiet) ≡ c
   pub block : blockOf trap 40 (storeNext trap recover (metByRecover ms st)) ≡ b
 

@@ -2,13 +2,14 @@
 use Prim.Native.Nat.{ℕ, _+_, _-_, _≤_}
 use mathlib.Core.Path.{_≡_, refl, ap, ap₂, sym, _∙_}
 use mathlib.Core.Logic.{_≢_}
-use mathlib.Core.Bool.{Bool, true, false, true≢false, cond, not, _&&_}
+use mathlib.Core.Bool.{Bool, true, false, true≢false, false≢true, cond, not, _&&_}
 use mathlib.Core.List.{List}
 use native.Mathlib.Omega.{arith}
 use borrow.Author.Tests.{eq-eqb, eqb-true, leb-true, not-false}
 use lib.Dec.{eqb}
 use Rattle.journal.specs.Geometry.{Geometry}
 use Rattle.journal.specs.declared.header.Header.{Header}
+use Rattle.journal.specs.declared.choice.Choice.{Choice}
 use Rattle.journal.specs.declared.choice.Choice.the-variants.{Whole, Fallback, Foreign, Neither}
 use Rattle.journal.specs.Header.{formatNumber}
 use Rattle.journal.specs.Log.{headerOf, entries, good}
@@ -48,11 +49,18 @@ alike-zero h e z =
     let p = both _ _ (not-false _ same) in
     (eqb-true _ _ (p .0), eqb-true _ _ (p .1))
 
+-- the choice falls back
+abbrev falls : Choice → Bool
+falls (Whole n sum save) = false
+falls (Fallback n sum save) = true
+falls Foreign = false
+falls Neither = false
+
 module _ (geo : Geometry) where
   -- a fallback never meets save number 0, on any card whatever: with it both lists and both sums would be the same
-  pub fallback-numbered : (N : ℕ) (s : List ℕ) (h : Header) → foreign geo N h ≡ false → good geo N (entries geo s (h .count)) (h .sum) ≡ false → good geo N (entries geo s (h .previous)) (h .presum) ≡ true
+  pub fallback-over-zero : (N : ℕ) (s : List ℕ) (h : Header) → foreign geo N h ≡ false → good geo N (entries geo s (h .count)) (h .sum) ≡ false → good geo N (entries geo s (h .previous)) (h .presum) ≡ true
       → h .save ≢ 0
-  fallback-numbered N s h f n p z =
+  fallback-over-zero N s h f n p z =
       let same = alike-zero h (ours geo N h f .numbered) z in
       true≢false (sym p ∙ ap₂ (λ (k x : ℕ). good geo N (entries geo s k) x) (same .0) (same .1) ∙ n)
 
@@ -89,7 +97,7 @@ module _ (geo : Geometry) where
       go false e false true = let o = ours geo N (headerOf s) e in omega (arith, o .count, o .previous)
       go false e false false = omega arith
 
-  -- what a fallback hands back is one less than the header's number
+  -- what a fallback hands back is one less than the number of the header that it meets
   pub fallback-number : (N : ℕ) (s : List ℕ) (n sum c : ℕ) → choose geo N s ≡ Fallback n sum c → headerOf s .save ≡ c + 1
   unfolding choose
   fallback-number N s n sum c = go (foreign geo N (headerOf s)) refl (good geo N (entries geo s (headerOf s .count)) (headerOf s .sum)) refl (good geo N (entries geo s (headerOf s .previous)) (headerOf s .presum)) refl
@@ -98,19 +106,10 @@ module _ (geo : Geometry) where
           → (b : Bool) → good geo N (entries geo s (headerOf s .previous)) (headerOf s .presum) ≡ b
           → cond f Foreign (cond a (Whole (headerOf s .count) (headerOf s .sum) (headerOf s .save)) (cond b (Fallback (headerOf s .previous) (headerOf s .presum) (headerOf s .save - 1)) Neither)) ≡ Fallback n sum c
           → headerOf s .save ≡ c + 1
-      go true p a q b z e = absurd (none e)
-        where
-          none : Foreign ≡ Fallback n sum c → ⊥
-          none e = let z : _≡_ {A = ℕ} 0 1 = cc in omega arith
-      go false p true q b z e = absurd (none e)
-        where
-          none : Whole (headerOf s .count) (headerOf s .sum) (headerOf s .save) ≡ Fallback n sum c → ⊥
-          none e = let z : _≡_ {A = ℕ} 0 1 = cc in omega arith
-      go false p false q false z e = absurd (none e)
-        where
-          none : Neither ≡ Fallback n sum c → ⊥
-          none e = let z : _≡_ {A = ℕ} 0 1 = cc in omega arith
+      go true p a q b z e = absurd (false≢true (ap falls e))
+      go false p true q b z e = absurd (false≢true (ap falls e))
+      go false p false q false z e = absurd (false≢true (ap falls e))
       go false p false q true z e =
-          let some : headerOf s .save ≢ 0 = fallback-numbered N s (headerOf s) p q z in
+          let some : headerOf s .save ≢ 0 = fallback-over-zero N s (headerOf s) p q z in
           let less : headerOf s .save - 1 ≡ c = cc in
           omega arith

@@ -8,33 +8,30 @@ use native.Mathlib.Omega.{arith}
 use native.Mathlib.Nat.{add-zero}
 use native.Mathlib.Decide.{ℕ-discrete}
 use borrow.Author.Tests.{eq-eqb, ne-eqb, eqb-true}
-use lib.Dec.{eqb, leb}
+use lib.Dec.{eqb}
 use lib.ListN.{length}
 use Rattle.cells.specs.Entry.{Entry}
-use Rattle.card.specs.Marks.{keptAt, allKept}
+use Rattle.card.specs.Marks.{keptAt}
 use Rattle.journal.specs.Geometry.{Geometry}
 use Rattle.crash.specs.Laid.{Laid, layOver}
 use Rattle.store.specs.Local.{Local}
 use Rattle.store.specs.Save as Save
 use Rattle.store.specs.Save.{Save}
-use Rattle.store.specs.State.{Outcome, openMode}
-use Rattle.store.specs.Causes.{cause}
 use Rattle.store.specs.Saves.{groupOf}
-use Rattle.history.specs.Call.{Call, requestOf, local, save, cut, sync, apply, recover}
-use Rattle.history.specs.Plain.{Plain, Done, ofApply, ofRecover, applyTakes, applyWaits, done, still, cutShort, cleared, recovered, refusal, plainSync, plainApply, plainRecover}
+use Rattle.history.specs.Call.{Call, local, save, cut, sync, apply, recover}
+use Rattle.history.specs.Plain.{Plain, Done, refusal, plainSync, locally, served}
 use Rattle.history.specs.Dispatch.{dispatch}
-use Rattle.history.specs.History.{World, next, after, storeNext, ledgerNext, foundWritten}
+use Rattle.history.specs.History.{World, next, after, foundWritten}
 use Rattle.history.specs.Statements as S
-use Rattle.history.specs.Statements.{Fate, quiet, decided, Progress, known, undecided, observe, outcome, shortSync, headed, stillUndecided, madeNew, saved, groupsLaid}
+use Rattle.history.specs.Statements.{quiet, decided, Progress, known, undecided, observe, outcome, shortSync, headed, stillUndecided, madeNew, saved, groupsLaid}
 use Rattle.history.proofs.Relation.PlainLaws as PlainLaws
 use Rattle.history.proofs.Relation.PlainAnswers.{sync-cases, LocalKind, powers, opens, local-kind}
 use Rattle.history.proofs.Relation.OpenFacts as Facts
-use Rattle.history.proofs.Steps.Shown.{plainNext, WorldSim, same-cause, dispatch-refused, plain-refused, plain-served}
+use Rattle.history.proofs.Steps.Shown.{plainNext, WorldSim, plain-refused, plain-served}
 use Rattle.history.proofs.Steps.ListInduction.{step, next-sim, clean-first}
 use Rattle.history.proofs.Atomicity.ReadsBack.{found-closed}
 use Rattle.history.proofs.Atomicity.Phases.{Watch, short-is, observe-refused, open-now, open-watch, planned}
-use Rattle.history.proofs.Atomicity.ShortSyncs as ShortSyncs
-use Rattle.history.proofs.Atomicity.ShortSyncs.{watch-step}
+use Rattle.history.proofs.Atomicity.ShortSyncs.{recover-same, cut-found, cut-plain, cut-observed, open-lays-none, watch-step}
 use Rattle.history.proofs.Atomicity.Finished.{served-of, finished-opens}
 
 -- ---- what a call lays
@@ -93,9 +90,7 @@ module _ (geo : Geometry) where
   unfolding saved S.finished
   refused-saved (local c) w m h = refl
   refused-saved (save Save.sync) w m h =
-      let k : cause geo (requestOf sync) (w .store) ≢ 0 = λ e. h (sym (same-cause geo (w .store) (w .ledger) (w .plain) m sync) ∙ e) in
-      let a : dispatch geo sync (w .store) .answer ≢ 0 = λ e. k (sym (ap (λ (o : Outcome). o .answer) (dispatch-refused geo sync (w .store) k)) ∙ e) in
-      ap (λ (t : Bool). t && not (eqb (w .store .rec .grouped) 0)) (ne-eqb _ 0 a)
+      ap (λ (t : Bool). t && not (eqb (w .store .rec .grouped) 0)) (ne-eqb (dispatch geo sync (w .store) .answer) 0 (λ e. h (served-of geo sync w m e)))
   refused-saved (save Save.apply) w m h = refl
   refused-saved (save Save.recover) w m h = refl
   refused-saved (cut ms) w m h = refl
@@ -136,60 +131,42 @@ module _ (geo : Geometry) where
         let four : dispatch geo sync (w .store) .answer ≡ 4 = answer ∙ ap (λ (d : Done). d .answer) short in
         none-counted sync w (stillUndecided f) (ap (λ (d : Plain). d .S) P ∙ ap (λ (d : Done). d .plain .S) short) (saved-is false _ (ne-eqb (dispatch geo sync (w .store) .answer) 0 (λ e. omega arith)) refl) (save-new Save.sync w f))
 
--- ---- apply and recover leave S
-
-apply-same : (d : Plain) → plainApply d .plain .S ≡ d .S
-unfolding plainApply
-apply-same d = go (eqb (d .n) 0) (leb (d .n + 3) (d .power))
-  where
-    go : (s t : Bool)
-        → cond {A = Done} s (still d) (cond t (done (applyTakes (d .n)) (cleared d)) (cutShort (ofApply (d .power)) (applyWaits (d .n) (d .power)) d)) .plain .S ≡ d .S
-    go true t = refl
-    go false true = refl
-    go false false = refl
-
-recover-same : (d : Plain) → plainRecover d .plain .S ≡ d .S
-unfolding plainRecover
-recover-same d = go (leb (cond (d .F) 2 0) (d .power))
-  where
-    go : (t : Bool) → cond {A = Done} t (done (cond (d .F) 2 0) (recovered (cond (d .F) 2 0) d)) (cutShort (ofRecover (d .power)) (d .power) d) .plain .S ≡ d .S
-    go true = refl
-    go false = refl
-
 module _ (geo : Geometry) where
-  served-S : (c : Call) (w : World) (h : refusal geo c (w .plain) ≡ 0) (S : Laid) → Rattle.history.specs.Plain.served geo c (foundWritten geo c w) (w .plain) .plain .S ≡ S → plainNext geo c w .S ≡ S
-  served-S c w h S e = ap (λ (d : Done). d .plain .S) (plain-served geo c (foundWritten geo c w) (w .plain) h) ∙ e
+  -- a call that leaves S
+  leaves-S : (c : Call) (w : World) → refusal geo c (w .plain) ≡ 0 → served geo c (foundWritten geo c w) (w .plain) .plain .S ≡ w .plain .S → plainNext geo c w .S ≡ w .plain .S
+  leaves-S c w h e = ap (λ (d : Done). d .plain .S) (plain-served geo c (foundWritten geo c w) (w .plain) h) ∙ e
 
-  local-same : (c : Local) (d : Plain) → LocalKind geo c → Rattle.history.specs.Plain.locally c d .S ≡ d .S
-  local-same c d (powers k) = refl
-  local-same c d (opens _ n s) = s d .S
+  local-S : (c : Local) (d : Plain) → LocalKind geo c → locally c d .S ≡ d .S
+  local-S c d (powers k) = refl
+  local-S c d (opens _ n s) = s d .S
 
   -- ---- a cut
 
+  cut-lays : (ms : List ℕ) (w : World) (m : WorldSim geo w) (h : refusal geo (cut ms) (w .plain) ≡ 0)
+      → plainNext geo (cut ms) w .S .groups ≡ w .plain .S .groups + cond (planned geo (w .plain) ms (cut-found geo ms w) .laid) 1 0
+  cut-lays ms w m h =
+      ap (λ (d : Plain). d .S .groups) (cut-plain geo ms w m h) ∙ laid-groups (planned geo (w .plain) ms (cut-found geo ms w) .laid) (w .plain .G) (w .plain .S)
+
   cut-counted : (ms : List ℕ) (w : World) (m : WorldSim geo w) (h : refusal geo (cut ms) (w .plain) ≡ 0) (f : Progress) → Watched geo (stillUndecided f) w → Counted geo (cut ms) w (stillUndecided f)
   unfolding observe shortSync saved
-  cut-counted ms w m h (known f) x =
-      counted geo (cut ms) w (known quiet) (planned geo (w .plain) ms (ShortSyncs.found geo (x .0) ms w m h) .laid) (lays (x .0)) (go (x .1))
+  cut-counted ms w m h (known f) x = counted geo (cut ms) w (known quiet) (planned geo (w .plain) ms (cut-found geo ms w) .laid) (cut-lays ms w m h) (go (x .1))
     where
-      lays : (old : Laid) → plainNext geo (cut ms) w .S .groups ≡ w .plain .S .groups + cond (planned geo (w .plain) ms (ShortSyncs.found geo old ms w m h) .laid) 1 0
-      lays old = ap (λ (d : Plain). d .S .groups) (ShortSyncs.P geo old ms w m h) ∙ laid-groups (planned geo (w .plain) ms (ShortSyncs.found geo old ms w m h) .laid) (w .plain .G) (w .plain .S)
-
-      go : Watch geo (x .0) (known quiet) (w .store) (w .ledger) (w .plain) → planned geo (w .plain) ms (ShortSyncs.found geo (x .0) ms w m h) .laid ≡ false
-      go (_⊎_.inl y) = ShortSyncs.open-lays-none geo (x .0) ms w m h (y .mode)
-      go (_⊎_.inr y) = y .laid ms (ShortSyncs.found geo (x .0) ms w m h)
+      go : Watch geo (x .0) (known quiet) (w .store) (w .ledger) (w .plain) → planned geo (w .plain) ms (cut-found geo ms w) .laid ≡ false
+      go (_⊎_.inl y) = open-lays-none geo ms w m h (y .mode)
+      go (_⊎_.inr y) = y .laid ms (cut-found geo ms w)
   cut-counted ms w m h (undecided G place made) x =
-      counted geo (cut ms) w (undecided G place made) (made && keptAt ms place && ShortSyncs.found geo (x .0) ms w m h)
-      (ap (λ (d : Plain). d .S .groups) (ShortSyncs.P geo (x .0) ms w m h) ∙ laid-groups (planned geo (w .plain) ms (ShortSyncs.found geo (x .0) ms w m h) .laid) (w .plain .G) (w .plain .S) ∙ ap (λ (t : Bool). w .plain .S .groups + cond t 1 0) (x .1 .laid ms (ShortSyncs.found geo (x .0) ms w m h)))
-      (sym (ap madeNew (ShortSyncs.cut-observed geo (x .0) ms w m h G place made)))
+      counted geo (cut ms) w (undecided G place made) (made && keptAt ms place && cut-found geo ms w)
+      (cut-lays ms w m h ∙ ap (λ (t : Bool). w .plain .S .groups + cond t 1 0) (x .1 .laid ms (cut-found geo ms w)))
+      (sym (ap madeNew (cut-observed geo ms w m h G place made)))
 
   -- ---- every call
 
   served-counted : (c : Call) (w : World) (f : Progress) → WorldSim geo w → refusal geo c (w .plain) ≡ 0 → Watched geo (stillUndecided f) w → Counted geo c w (stillUndecided f)
   unfolding saved
-  served-counted (local c) w f m h x = none-counted geo (local c) w (stillUndecided f) (served-S (local c) w h _ (local-same c (w .plain) (local-kind geo c))) refl (local-new geo c w f)
+  served-counted (local c) w f m h x = none-counted geo (local c) w (stillUndecided f) (leaves-S (local c) w h (local-S c (w .plain) (local-kind geo c))) refl (local-new geo c w f)
   served-counted (save Save.sync) w f m h x = sync-counted geo w m h f
-  served-counted (save Save.apply) w f m h x = none-counted geo apply w (stillUndecided f) (served-S apply w h _ (apply-same (w .plain))) refl (save-new geo Save.apply w f)
-  served-counted (save Save.recover) w f m h x = none-counted geo recover w (stillUndecided f) (served-S recover w h _ (recover-same (w .plain))) refl (save-new geo Save.recover w f)
+  served-counted (save Save.apply) w f m h x = none-counted geo apply w (stillUndecided f) (leaves-S apply w h (PlainLaws.apply-S (w .plain))) refl (save-new geo Save.apply w f)
+  served-counted (save Save.recover) w f m h x = none-counted geo recover w (stillUndecided f) (leaves-S recover w h (PlainLaws.recover-S (w .plain))) refl (save-new geo Save.recover w f)
   served-counted (cut ms) w f m h x = cut-counted ms w m h f x
 
   step-counted : (c : Call) (w : World) (f : Progress) → WorldSim geo w → Watched geo (stillUndecided f) w → Counted geo c w (stillUndecided f)
@@ -209,10 +186,6 @@ module _ (geo : Geometry) where
       go false p = refl
       go true p = absurd (omega (arith, short-is geo sync w p .answer))
 
-  recover-quiet : (w : World) → observe geo recover w (known quiet) ≡ known quiet
-  unfolding observe shortSync
-  recover-quiet w = refl
-
   -- a finished sync or recovery leaves nothing undecided
   finished-quiet : (c : Call) (w : World) (f : Progress) → WorldSim geo w → S.finished geo c w ≡ true → Watched geo (stillUndecided f) w → observe geo c w (stillUndecided f) ≡ known quiet
   unfolding S.finished observe
@@ -223,7 +196,7 @@ module _ (geo : Geometry) where
       let q = open-watch geo (x .0) (stillUndecided f) (w .store) (w .ledger) (w .plain) (x .1) (o .mode) in
       ap (observe geo sync w) (q .0) ∙ ap (λ (t : Bool). cond t (undecided (groupOf geo (w .store)) (w .store .rec .grouped + geo .descriptors) (headed geo w)) (known quiet)) (done-short w zero)
   finished-quiet (save Save.apply) w f m h x = absurd (mathlib.Core.Bool.false≢true h)
-  finished-quiet (save Save.recover) w (known f) m h x = recover-quiet w
+  finished-quiet (save Save.recover) w (known f) m h x = recover-same geo w (known quiet)
   finished-quiet (save Save.recover) w (undecided G place made) m h x =
       let c = found-closed geo w m (eqb-true _ _ h) in
       absurd (omega (arith, c .mode, x .1 .mode))

@@ -180,9 +180,6 @@ module _ (geo : Geometry) where
     plain-open : plainRecover (w .plain) .plain .mode ≡ openMode
     plain-open = done-by (λ o. o .plain .mode ≡ openMode) (λ f. ap (λ (o : Done). o .plain .mode) (recover-whole (w .plain) f)) (λ f p. ap (λ (o : Done). o .plain .mode) (recover-fallback (w .plain) f p))
 
-    pub plain-same : plainRecover (w .plain) .plain .S ≡ w .plain .S
-    plain-same = done-by (λ o. o .plain .S ≡ w .plain .S) (λ f. ap (λ (o : Done). o .plain .S) (recover-whole (w .plain) f)) (λ f p. ap (λ (o : Done). o .plain .S) (recover-fallback (w .plain) f p))
-
     pub recovered-sim : Sim geo (storeNext geo recover w) (ledgerNext geo recover w) (plainNext geo recover w)
     recovered-sim = step geo recover w m .sim no-exception
 

@@ -45,7 +45,7 @@ use Rattle.history.proofs.Atomicity.Phases.{ShortPhase, Watch, closed-w
 -- ---- sync
 
 module _ (geo : Geometry) where
-  module _ (old : Laid) (w : World) (m : WorldSim geo w) (h : refusal geo sync (w .plain) ≡ 0) (nf : S.finished geo sync w ≡ false) where
+  module _ (w : World) (m : WorldSim geo w) (h : refusal geo sync (w .plain) ≡ 0) (nf : S.finished geo sync w ≡ false) where
     o : OpenSim geo (w .store) (w .ledger) (w .plain)
     o = open-now geo sync w m refl h
 
@@ -103,8 +103,8 @@ module _ (geo : Geometry) where
         let e : eqb (w .store .rec .mode) openMode && eqb (dispatch geo sync (w .store) .answer) 4 ≡ true = rw (eq-eqb _ _ (o .mode), eq-eqb _ 4 answer-four) in
         ap (λ (t : Bool). cond t (undecided (groupOf geo (w .store)) (w .store .rec .grouped + geo .descriptors) (headed geo w)) (known quiet)) e
 
-    sync-watch : (f : Progress) → Watch geo old f (w .store) (w .ledger) (w .plain) → Watch geo old (observe geo sync w f) (storeNext geo sync w) (ledgerNext geo sync w) (plainNext geo sync w)
-    sync-watch f x =
+    sync-watch : (old : Laid) (f : Progress) → Watch geo old f (w .store) (w .ledger) (w .plain) → Watch geo old (observe geo sync w f) (storeNext geo sync w) (ledgerNext geo sync w) (plainNext geo sync w)
+    sync-watch old f x =
         let y = open-watch geo old f (w .store) (w .ledger) (w .plain) x (o .mode) in
         let P : plainNext geo sync w ≡ Plain.cutShort (ofSync (w .plain .power)) (syncWaits geo (w .plain .n) (length (w .plain .G)) (w .plain .power)) (w .plain) .plain = ap (λ (z : Done). z .plain) short-plain in
         watch-at geo old (ap (observe geo sync w) (y .0) ∙ observed) refl refl P
@@ -163,7 +163,7 @@ module _ (geo : Geometry) where
       go true = refl
       go false = refl
 
-  recover-same : (w : World) (f : Progress) → observe geo recover w f ≡ f
+  pub recover-same : (w : World) (f : Progress) → observe geo recover w f ≡ f
   unfolding observe shortSync
   recover-same w (known quiet) = refl
   recover-same w (undecided G place made) = refl
@@ -196,39 +196,40 @@ module _ (geo : Geometry) where
 
   -- ---- cut
 
-  module _ (old : Laid) (ms : List ℕ) (w : World) (m : WorldSim geo w) (h : refusal geo (cut ms) (w .plain) ≡ 0) where
-    abbrev pub found : Bool
-    found = sameLog (foundIn geo (cutSettled ms (w .store))) (cutWritten ms (w .ledger))
+  -- whether the log found after the cut is the log written
+  abbrev pub cut-found : List ℕ → World → Bool
+  cut-found ms w = sameLog (foundIn geo (cutSettled ms (w .store))) (cutWritten ms (w .ledger))
 
-    pub P : plainNext geo (cut ms) w ≡ CutStep.plainAt (w .store) (w .plain) (cond (planned geo (w .plain) ms found .laid) (layOver (w .plain .G) (w .plain .S)) (w .plain .S)) (planned geo (w .plain) ms found .n) (planned geo (w .plain) ms found .F)
-    P = ap (λ (d : Done). d .plain) (CutStep.plain-cut geo ms w m h)
+  module _ (ms : List ℕ) (w : World) (m : WorldSim geo w) (h : refusal geo (cut ms) (w .plain) ≡ 0) where
+    pub cut-plain : plainNext geo (cut ms) w ≡ CutStep.plainAt (w .store) (w .plain) (cond (planned geo (w .plain) ms (cut-found ms w) .laid) (layOver (w .plain .G) (w .plain .S)) (w .plain .S)) (planned geo (w .plain) ms (cut-found ms w) .n) (planned geo (w .plain) ms (cut-found ms w) .F)
+    cut-plain = ap (λ (d : Done). d .plain) (CutStep.plain-cut geo ms w m h)
 
     closed-now : storeNext geo (cut ms) w .rec .mode ≢ openMode
     closed-now e = let k : storeNext geo (cut ms) w .rec .mode ≡ 0 = ap (λ (s : State). s .rec .mode) (CutStep.store-cut geo ms w m h) in omega arith
 
     -- nothing is laid
-    cut-still : (f : Fate) → observe geo (cut ms) w (known f) ≡ known f
-        → planned geo (w .plain) ms found .laid ≡ false → w .plain .S ≡ outcome f old → WholeIsNew f
+    cut-still : (old : Laid) (f : Fate) → observe geo (cut ms) w (known f) ≡ known f
+        → planned geo (w .plain) ms (cut-found ms w) .laid ≡ false → w .plain .S ≡ outcome f old → WholeIsNew f
         → Watch geo old (observe geo (cut ms) w (known f)) (storeNext geo (cut ms) w) (ledgerNext geo (cut ms) w) (plainNext geo (cut ms) w)
-    cut-still f q z s y =
-        watch-at geo old q refl refl P
+    cut-still old f q z s y =
+        watch-at geo old q refl refl cut-plain
         (to-watch geo old f (storeNext geo (cut ms) w) (ledgerNext geo (cut ms) w) _
         (record { mode = closed-now; S = ap (λ (t : Bool). cond t (layOver (w .plain .G) (w .plain .S)) (w .plain .S)) z ∙ s; laid = λ ns u. ap (λ (v : Verdict). v .laid) (PlainLaws.choose-none geo _ _ _ _ u); whole = y }))
 
-    pub cut-observed : (G : List Entry) (place : ℕ) (made : Bool) → observe geo (cut ms) w (undecided G place made) ≡ known (decided G (made && keptAt ms place && found) (made && allKept ms))
+    pub cut-observed : (G : List Entry) (place : ℕ) (made : Bool) → observe geo (cut ms) w (undecided G place made) ≡ known (decided G (made && keptAt ms place && cut-found ms w) (made && allKept ms))
     unfolding observe
     cut-observed G place made =
         ap (λ (t : Bool). cond t (known (decided G (made && keptAt ms place && foundWritten geo (cut ms) w) (made && allKept ms))) (undecided G place made)) (cut-accepted geo ms w m h)
         ∙ ap (λ (t : Bool). known (decided G (made && keptAt ms place && t) (made && allKept ms))) (CutStep.found-cut geo ms w m h)
 
-    cut-decides : (G : List Entry) (place : ℕ) (made : Bool) → ShortPhase geo old G place made (w .store) (w .ledger) (w .plain)
+    cut-decides : (old : Laid) (G : List Entry) (place : ℕ) (made : Bool) → ShortPhase geo old G place made (w .store) (w .ledger) (w .plain)
         → Watch geo old (observe geo (cut ms) w (undecided G place made)) (storeNext geo (cut ms) w) (ledgerNext geo (cut ms) w) (plainNext geo (cut ms) w)
-    cut-decides G place made x =
-        watch-at geo old (cut-observed G place made) refl refl P
+    cut-decides old G place made x =
+        watch-at geo old (cut-observed G place made) refl refl cut-plain
         (record {
           mode = closed-now;
-          S = ap (λ (t : Bool). cond t (layOver (w .plain .G) (w .plain .S)) (w .plain .S)) (x .laid ms found)
-              ∙ ap₂ (λ (g : List Entry) (d : Laid). cond (made && keptAt ms place && found) (layOver g d) d) (x .group) (x .S);
+          S = ap (λ (t : Bool). cond t (layOver (w .plain .G) (w .plain .S)) (w .plain .S)) (x .laid ms (cut-found ms w))
+              ∙ ap₂ (λ (g : List Entry) (d : Laid). cond (made && keptAt ms place && cut-found ms w) (layOver g d) d) (x .group) (x .S);
           laid = λ ns u. ap (λ (v : Verdict). v .laid) (PlainLaws.choose-none geo _ _ _ _ u);
           whole = λ e.
               let q = both made (allKept ms) e in
@@ -237,22 +238,22 @@ module _ (geo : Geometry) where
         })
 
     -- on an open record no cut lays anything
-    pub open-lays-none : w .store .rec .mode ≡ openMode → planned geo (w .plain) ms found .laid ≡ false
+    pub open-lays-none : w .store .rec .mode ≡ openMode → planned geo (w .plain) ms (cut-found ms w) .laid ≡ false
     open-lays-none z = go (m .phase)
       where
-        go : OpenSim geo (w .store) (w .ledger) (w .plain) ⊎ (ClosedSim geo (w .store) (w .ledger) (w .plain) ⊎ DownSim geo (w .store) (w .ledger) (w .plain)) → planned geo (w .plain) ms found .laid ≡ false
+        go : OpenSim geo (w .store) (w .ledger) (w .plain) ⊎ (ClosedSim geo (w .store) (w .ledger) (w .plain) ⊎ DownSim geo (w .store) (w .ledger) (w .plain)) → planned geo (w .plain) ms (cut-found ms w) .laid ≡ false
         go (_⊎_.inl o) =
-            ap (λ (s : Short). verdict geo s (w .plain .n) (length (w .plain .G)) (w .plain .F) (headerKept ms (w .plain .waiting)) found .laid) (o .short)
-            ∙ ap (λ (v : Verdict). v .laid) (PlainLaws.choose-none geo (w .plain .n) (length (w .plain .G)) (w .plain .F) (headerKept ms (w .plain .waiting)) found)
+            ap (λ (s : Short). verdict geo s (w .plain .n) (length (w .plain .G)) (w .plain .F) (headerKept ms (w .plain .waiting)) (cut-found ms w) .laid) (o .short)
+            ∙ ap (λ (v : Verdict). v .laid) (PlainLaws.choose-none geo (w .plain .n) (length (w .plain .G)) (w .plain .F) (headerKept ms (w .plain .waiting)) (cut-found ms w))
         go (_⊎_.inr (_⊎_.inl o)) = absurd (omega (arith, o .mode))
         go (_⊎_.inr (_⊎_.inr o)) = absurd (omega (arith, o .mode))
 
-    cut-watch : (f : Progress) → Watch geo old f (w .store) (w .ledger) (w .plain) → Watch geo old (observe geo (cut ms) w f) (storeNext geo (cut ms) w) (ledgerNext geo (cut ms) w) (plainNext geo (cut ms) w)
+    cut-watch : (old : Laid) (f : Progress) → Watch geo old f (w .store) (w .ledger) (w .plain) → Watch geo old (observe geo (cut ms) w f) (storeNext geo (cut ms) w) (ledgerNext geo (cut ms) w) (plainNext geo (cut ms) w)
     unfolding observe shortSync
-    cut-watch (known quiet) (_⊎_.inl x) = cut-still quiet refl (open-lays-none (x .mode)) (x .S) tt
-    cut-watch (known quiet) (_⊎_.inr x) = cut-still quiet refl (x .laid ms found) (x .S) tt
-    cut-watch (undecided G place made) x = cut-decides G place made x
-    cut-watch (known (decided G laid all)) x = cut-still (decided G laid all) refl (x .laid ms found) (x .S) (x .whole)
+    cut-watch old (known quiet) (_⊎_.inl x) = cut-still old quiet refl (open-lays-none (x .mode)) (x .S) tt
+    cut-watch old (known quiet) (_⊎_.inr x) = cut-still old quiet refl (x .laid ms (cut-found ms w)) (x .S) tt
+    cut-watch old (undecided G place made) x = cut-decides old G place made x
+    cut-watch old (known (decided G laid all)) x = cut-still old (decided G laid all) refl (x .laid ms (cut-found ms w)) (x .S) (x .whole)
 
   -- ---- every call
 
@@ -270,10 +271,10 @@ module _ (geo : Geometry) where
       → Watch geo old (observe geo c w f) (storeNext geo c w) (ledgerNext geo c w) (plainNext geo c w)
   unfolding observe shortSync entered
   served-watch old (local c) w f m h nf x = local-watch old c w f (local-kind geo c) m h x
-  served-watch old (save Save.sync) w f m h nf x = sync-watch old w m h nf f x
+  served-watch old (save Save.sync) w f m h nf x = sync-watch w m h nf old f x
   served-watch old (save Save.apply) w f m h nf x = apply-watch old w f m h x
   served-watch old (save Save.recover) w f m h nf x = recover-watch old w f m h nf x
-  served-watch old (cut ms) w f m h nf x = cut-watch old ms w m h f x
+  served-watch old (cut ms) w f m h nf x = cut-watch ms w m h old f x
 
   pub watch-step : (old : Laid) (c : Call) (w : World) (f : Progress) → WorldSim geo w → S.finished geo c w ≡ false → Watch geo old f (w .store) (w .ledger) (w .plain)
       → Watch geo old (observe geo c w f) (storeNext geo c w) (ledgerNext geo c w) (plainNext geo c w)

@@ -32,7 +32,7 @@ use Rattle.history.proofs.Steps.Shown.{plainNext, WorldSim, same-cause,
 use Rattle.history.proofs.Steps.Cut as CutStep
 use Rattle.history.proofs.Steps.ListInduction.{step, next-sim, after-sim, after-append, clean-before, clean-first, begun-sim, formatted-now}
 use Rattle.history.proofs.Relation.PlainAnswers.{sync-cases, LocalKind, powers, opens, local-kind, served-N}
-use Rattle.history.proofs.Atomicity.ReadsBack.{found-closed, plain-same, recovered-sim, recovered-mode, power-served}
+use Rattle.history.proofs.Atomicity.ReadsBack.{found-closed, recovered-sim, recovered-mode, power-served}
 use Rattle.history.proofs.Atomicity.Phases.{Watch, short-is, not-short, short-serves, open-now, closed-watch}
 use Rattle.history.proofs.Atomicity.ShortSyncs.{watch-list, short-plain}
 use Rattle.history.proofs.Atomicity.Finished.{served-of, finished-opens}
@@ -127,7 +127,7 @@ module _ (geo : Geometry) where
       let r : refusal geo sync (w .plain) ≡ 0 = short-serves geo w m (s .mode) (s .answer) in
       let f : S.finished geo sync w ≡ false = ap (λ (x : Call). S.finished geo x w) (sym (s .is)) ∙ nf in
       let o : storeNext geo sync w .rec .mode ≡ openMode = ap (λ (x : Call). storeNext geo x w .rec .mode) (sym (s .is)) ∙ e in
-      let k : _≡_ {A = ℕ} 2 1 = sym (step geo sync w m .agrees .mode ∙ ap (λ (x : Done). x .plain .mode) (short-plain geo (w .plain .S) w m r f)) ∙ o in
+      let k : _≡_ {A = ℕ} 2 1 = sym (step geo sync w m .agrees .mode ∙ ap (λ (x : Done). x .plain .mode) (short-plain geo w m r f)) ∙ o in
       omega arith
 
   count-one : (cs : List Call) (w : World) → WorldSim geo w → noneFinished geo cs w ≡ true → after geo cs w .excepted ≡ false → countShort geo cs w ≤ 1
@@ -182,7 +182,7 @@ module _ (geo : Geometry) where
         let c = found-closed geo w m h in
         let T : plainNext geo recover w .T ≡ [] = ap (λ (d : Plain). d .T) plain-is ∙ lists-empty .0 ∙ c .T in
         let G : plainNext geo recover w .G ≡ [] = ap (λ (d : Plain). d .G) plain-is ∙ lists-empty .1 ∙ c .G in
-        let S′ : plainNext geo recover w .S .disk ≡ w .plain .S .disk = ap (λ (d : Plain). d .S .disk) plain-is ∙ ap (λ (S : Laid). S .disk) (plain-same geo w m h) in
+        let S′ : plainNext geo recover w .S .disk ≡ w .plain .S .disk = ap (λ (d : Plain). d .S .disk) plain-is ∙ ap (λ (S : Laid). S .disk) (PlainLaws.recover-S (w .plain)) in
         (λ i. overlay (T i) (overlay (G i) (S′ i)) x)
         ∙ ap (λ (f : Disk). f x) (overlay-nil (overlay [] (w .plain .S .disk)) ∙ overlay-nil (w .plain .S .disk))
 
@@ -190,7 +190,7 @@ module _ (geo : Geometry) where
     pub found-number : numberFound geo w ≡ w .plain .S .groups
     found-number =
         step geo recover w m .agrees .save (recovered-mode geo w m h)
-        ∙ ap (λ (d : Plain). d .S .groups) plain-is ∙ ap (λ (S : Laid). S .groups) (plain-same geo w m h)
+        ∙ ap (λ (d : Plain). d .S .groups) plain-is ∙ ap (λ (S : Laid). S .groups) (PlainLaws.recover-S (w .plain))
 
     pub found-is : (N : ℕ) (d : Disk) → N ≡ w .plain .N → w .plain .S .disk ≡ d → S.FoundIs geo N (storeNext geo recover w) d
     found-is N d e s x q =

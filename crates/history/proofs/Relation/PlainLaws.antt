@@ -7,13 +7,13 @@ use mathlib.Core.List.{List}
 use native.Mathlib.Omega.{arith}
 use native.Mathlib.Decide.{ℕ-discrete}
 use borrow.Author.Tests.{eq-eqb, ne-eqb, le-leb, lt-leb, lt-ltb, le-ltb}
-use lib.Dec.{eqb, ltb}
+use lib.Dec.{eqb, leb, ltb}
 use lib.ListN.{length}
 use Rattle.card.specs.Marks.{keptAt}
 use Rattle.journal.specs.Geometry.{Geometry}
 use Rattle.journal.specs.Header.{mostSave}
 use Rattle.history.specs.Call.{sync}
-use Rattle.history.specs.Plain.{Plain, none, ofSync, ofApply, ofRecover, applies, syncTakes, applyWaits, syncWaits, unchanged, Verdict, applyVerdict, ownVerdict, verdict, cutShort, plainSync, plainApply, plainRecover, headerKept, refusal, lastSave, done, still, synced, cleared, recovered}
+use Rattle.history.specs.Plain.{Plain, Done, none, ofSync, ofApply, ofRecover, applies, applyTakes, syncTakes, applyWaits, syncWaits, unchanged, Verdict, applyVerdict, ownVerdict, verdict, cutShort, plainSync, plainApply, plainRecover, headerKept, refusal, lastSave, done, still, synced, cleared, recovered}
 use Rattle.history.specs.Ledger.{Ledger}
 
 -- ---- equal field by field
@@ -254,3 +254,23 @@ module _ (geo : Geometry) where
       go (no e) =
           sync-still geo k n m F (headerKept ms (syncWaits geo n m k)) found e
           ∙ sym (ap (λ (t : Bool). t && keptAt ms (m + geo .descriptors) && found) (ne-eqb k (innerTakes geo n m + (m + geo .descriptors + 1)) e))
+
+-- ---- apply and recover leave S
+
+pub apply-S : (d : Plain) → plainApply d .plain .S ≡ d .S
+unfolding plainApply
+apply-S d = go (eqb (d .n) 0) (leb (d .n + 3) (d .power))
+  where
+    go : (s t : Bool)
+        → cond {A = Done} s (still d) (cond t (done (applyTakes (d .n)) (cleared d)) (cutShort (ofApply (d .power)) (applyWaits (d .n) (d .power)) d)) .plain .S ≡ d .S
+    go true t = refl
+    go false true = refl
+    go false false = refl
+
+pub recover-S : (d : Plain) → plainRecover d .plain .S ≡ d .S
+unfolding plainRecover
+recover-S d = go (leb (cond (d .F) 2 0) (d .power))
+  where
+    go : (t : Bool) → cond {A = Done} t (done (cond (d .F) 2 0) (recovered (cond (d .F) 2 0) d)) (cutShort (ofRecover (d .power)) (d .power) d) .plain .S ≡ d .S
+    go true = refl
+    go false = refl

@@ -10,7 +10,6 @@ use lib.ListN.{length, getD, replicate, length-replicate}
 use Rattle.cells.specs.Cell.{cell}
 use Rattle.cells.specs.Little.{num}
 use Rattle.cells.specs.Entry.{blockBytes, Entry}
-use Rattle.cells.specs.Same.Laws.{same-self}
 use Rattle.card.specs.Disk.{lay, overlay}
 use Rattle.crash.specs.Laid.{Laid, layOver}
 use Rattle.card.specs.Card.{blockAt, blocksIn}
@@ -46,7 +45,7 @@ use Rattle.history.proofs.Steps.Cut.{found-cut, exception-cut}
 use Rattle.history.proofs.Steps.ListInduction.{begun-sim}
 use Rattle.history.proofs.Atomicity.ReadsBack.{power-served, cut-accepted}
 use Rattle.history.proofs.Atomicity.Splits.{SplitReading, split-reading, found-counted}
-use Rattle.history.proofs.Worked.Sums.{other-sum}
+use Rattle.history.proofs.Worked.Sums.{log-written, log-found, other-log, no-collision, same-fits}
 use Rattle.history.proofs.Worked.Plain.{openAt, downAt, closedAt, plain-put, plain-commit, plain-filed, plain-power, plain-halted, fits-101, header-101, fits-111, header-111, plain-torn, plain-whole, plain-again, plain-fallback, plain-found, Went, went}
 use Rattle.history.proofs.Worked.Sync.{group-is, grouped-is, no-inner, filed-log, filed-next, halted-written, halted-torn, halted-whole}
 use Rattle.history.proofs.Worked.Blank as Blank
@@ -86,27 +85,6 @@ length-sevens = length-replicate {A = ℕ} blockBytes 7
 length-nines : length nines ≡ blockBytes
 unfolding nines
 length-nines = length-replicate {A = ℕ} blockBytes 9
-
--- ---- the log found and the log written, after cut 101
-
-abbrev log-written : List Entry
-log-written = at40 sevens ∷ at40 nines ∷ []
-
-abbrev log-found : List Entry
-log-found = at40 sevens ∷ record { address = 0; block = nines } ∷ []
-
-other-log : sameLog log-found log-written ≡ false
-unfolding sameLog
-other-log = rw (same-self sevens)
-
-no-collision : collides log-found log-written ≡ false
-unfolding collides
-no-collision = rw (other-log, other-sum)
-
--- the same log collides with nothing
-same-fits : (a b : List Entry) → sameLog a b ≡ true → collides a b ≡ false
-unfolding collides
-same-fits a b h = rw h
 
 -- ---- from the completed sync on
 

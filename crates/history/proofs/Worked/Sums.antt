@@ -1,15 +1,17 @@
--- The sums of the worked scripts: the log found after cut 101 has another sum than the log written.
+-- The log found after cut 101 and the log written: another list, with another sum.
 use Prim.Native.Nat.{ℕ}
 use mathlib.Core.Path.{_≡_, refl, ap, ap₂, _∙_}
-use mathlib.Core.Bool.{false}
+use mathlib.Core.Bool.{true, false}
 use mathlib.Core.List.{List, [], _∷_}
 use lib.Dec.{eqb}
 use Rattle.cells.specs.Little.{le}
 use Rattle.cells.specs.Little.Laws.{le-zero, le-suc}
 use Rattle.cells.specs.Entry.{Entry}
+use Rattle.cells.specs.Same.Laws.{same-self}
 use Rattle.fnv.specs.Fnv.{start, step, sumFrom}
 use Rattle.journal.specs.Log.{sumOf}
 use Rattle.journal.proofs.Logs.{sumOf-append, sumOf-one}
+use Rattle.history.specs.Ledger.{sameLog, collides}
 use Rattle.history.specs.Worked.{sevens, nines, at40}
 
 forty : le 4 40 ≡ 40 ∷ 0 ∷ 0 ∷ 0 ∷ []
@@ -41,10 +43,31 @@ sum-two e f a b p q =
     ∙ sumOf-one (sumFrom (sumFrom start a) (e .block)) f
     ∙ ap (λ (x : List ℕ). sumFrom (sumFrom (sumFrom (sumFrom start a) (e .block)) x) (f .block)) q
 
-pub other-sum : eqb (sumOf start (at40 sevens ∷ record { address = 0; block = nines } ∷ [])) (sumOf start (at40 sevens ∷ at40 nines ∷ [])) ≡ false
+other-sum : eqb (sumOf start (at40 sevens ∷ record { address = 0; block = nines } ∷ [])) (sumOf start (at40 sevens ∷ at40 nines ∷ [])) ≡ false
 other-sum =
     ap₂ eqb
     (sum-two (at40 sevens) (record { address = 0; block = nines }) _ _ forty naught
     ∙ ap (λ (h : ℕ). sumFrom (sumFrom h (0 ∷ 0 ∷ 0 ∷ 0 ∷ [])) nines) sum-first ∙ sum-found)
     (sum-two (at40 sevens) (at40 nines) _ _ forty forty
     ∙ ap (λ (h : ℕ). sumFrom (sumFrom h (40 ∷ 0 ∷ 0 ∷ 0 ∷ [])) nines) sum-first ∙ sum-written)
+
+-- ---- the log found and the log written, after cut 101
+
+abbrev pub log-written : List Entry
+log-written = at40 sevens ∷ at40 nines ∷ []
+
+abbrev pub log-found : List Entry
+log-found = at40 sevens ∷ record { address = 0; block = nines } ∷ []
+
+pub other-log : sameLog log-found log-written ≡ false
+unfolding sameLog
+other-log = rw (same-self sevens)
+
+pub no-collision : collides log-found log-written ≡ false
+unfolding collides
+no-collision = rw (other-log, other-sum)
+
+-- the same log collides with nothing
+pub same-fits : (a b : List Entry) → sameLog a b ≡ true → collides a b ≡ false
+unfolding collides
+same-fits a b h = rw h

@@ -10,7 +10,7 @@ use Rattle.journal.specs.Layout.{headerAt}
 use Rattle.journal.specs.Header.{decode}
 use Rattle.journal.specs.Log.{headerOf}
 use Rattle.journal.proofs.Logs.{length-blockAt, block-read}
-use Rattle.journal.proofs.Choices.{ours, fallback-numbered, choose-foreign, choose-whole, choose-fallback, choose-neither}
+use Rattle.journal.proofs.Choices.{ours, fallback-over-zero, choose-foreign, choose-whole, choose-fallback, choose-neither}
 use Rattle.journal.proofs.choice.choose.Statement.{statement}
 use Rattle.journal.proofs.choice.choose.Tie as tie
 
@@ -62,7 +62,7 @@ sub-save c′ =
     let e = c .before .before .before .before in
     let r = e .before .before in
     let a = r .before .before .before .args in
-    let some = fallback-numbered trap (a .blocks) (a .settled .now) (r .read2 .result) (accepted e)
+    let some = fallback-over-zero trap (a .blocks) (a .settled .now) (r .read2 .result) (accepted e)
     (sym (c .before .before .before .good2 .ensures) ∙ c .before .before .if2 .left) (sym (c .before .good3 .ensures) ∙ c .if3 .taken) in
     omega arith
 
