@@ -97,7 +97,8 @@ uint32_t trapcard_format(uint8_t *record, size_t record_len, uint8_t *settled, s
 
 /* Sets the power count: how many orders to the card still happen. Returns 0, 1 or 2. Changes the record alone. Every order takes
  * 1 from it, also where no power is ever lost, and at 0 the next call with orders returns TRAPCARD_ERR_POWER: set it again before
- * it runs down. No sync, apply or recovery takes more than 70. */
+ * it runs down. No sync, apply or recovery takes more than 70; how many the next one takes, and whether the count reaches, is asked
+ * with trapcard_sync_cost, trapcard_apply_cost and trapcard_recover_cost. */
 uint32_t trapcard_power(uint8_t *record, size_t record_len, const uint8_t *settled, size_t settled_len, const uint8_t *waiting,
                         size_t waiting_len, const uint8_t *work, size_t work_len, uint32_t count);
 
@@ -141,6 +142,27 @@ uint32_t trapcard_apply(uint8_t *record, size_t record_len, uint8_t *settled, si
  * carried out. */
 uint32_t trapcard_recover(uint8_t *record, size_t record_len, uint8_t *settled, size_t settled_len, uint8_t *waiting,
                           size_t waiting_len, const uint8_t *work, size_t work_len, uint32_t *orders);
+
+/* What a sync will take, asked before it is made. Refuses as that sync does, power gone aside: returns 0, 1 to 4 or 12, and
+ * TRAPCARD_ERR_POWER only for a record that is down. Changes nothing. The figures are those of trapcard_sync made next on the same
+ * bytes and record, but for power enough; all are 0 when refused. *orders: the orders carried out. *applies: 1 if an apply comes
+ * first, else 0. *peak: the most writes that wait at any moment of it, earlier ones included. *reaches: 1 if the record's power
+ * count is at least *orders, else 0. After 0 with *reaches 1, that sync does not return TRAPCARD_ERR_POWER; with *reaches 0, it
+ * does. */
+uint32_t trapcard_sync_cost(const uint8_t *record, size_t record_len, const uint8_t *settled, size_t settled_len,
+                            const uint8_t *waiting, size_t waiting_len, const uint8_t *work, size_t work_len, uint32_t *orders,
+                            uint32_t *applies, uint32_t *peak, uint32_t *reaches);
+
+/* The same of trapcard_apply. Returns 0 or 1 to 4. *applies is 0. */
+uint32_t trapcard_apply_cost(const uint8_t *record, size_t record_len, const uint8_t *settled, size_t settled_len,
+                             const uint8_t *waiting, size_t waiting_len, const uint8_t *work, size_t work_len, uint32_t *orders,
+                             uint32_t *applies, uint32_t *peak, uint32_t *reaches);
+
+/* The same of trapcard_recover. Returns 0, 1, 2, 4, 5, 8 or 9. *applies is 0. It checks the log as the recovery does, which takes
+ * as long. */
+uint32_t trapcard_recover_cost(const uint8_t *record, size_t record_len, const uint8_t *settled, size_t settled_len,
+                               const uint8_t *waiting, size_t waiting_len, const uint8_t *work, size_t work_len,
+                               uint32_t *orders, uint32_t *applies, uint32_t *peak, uint32_t *reaches);
 
 /* The power loss itself, for tests: one mark for each waiting write, oldest first, 1 kept or 0 lost. Kept writes settle, the
  * queue is empty, the record closed. Returns 0, 1, 2 or 10. */

@@ -3,12 +3,13 @@ import random
 from collections import Counter
 from functools import lru_cache
 
+import costs
 import model
 from cases import met
 from crash import Witness, must
 from guarded import FUNCTIONS, Guarded
 from madeup import made
-from model import BLOCK
+from model import BLOCK, COSTS
 
 CARD = ("record", "settled", "waiting", "work")
 
@@ -50,7 +51,7 @@ def given(step):
         return step.arguments[:1], content(*step.arguments[1])
     if step.call == "cut":
         return (), step.arguments[0]
-    return (() if step.call == "alike" else step.arguments), None
+    return (() if step.call == "alike" or step.call in COSTS else step.arguments), None
 
 
 def behind(numbers, last):
@@ -92,6 +93,8 @@ class Bench:
             self.witness.before(step.call)
         outcome = self.library.call(step.call, lent, numbers)
         self.compare(step, outcome, lent, views, numbers, last)
+        if step.call in COSTS:
+            self.hold(step, outcome, lent)
         self.release(lent)
         if followed:
             self.witness.after(step.call, behind(numbers, last), outcome)
@@ -135,6 +138,13 @@ class Bench:
         if last is not None:
             must(lent[FUNCTIONS[step.call][3]].same(bytearray(last)), "put's block or cut's marks were written")
 
+    def hold(self, step, outcome, lent):
+        """An inquiry, to the library's own call; some order by order."""
+        walk = bool(step.arguments)
+        costs.held(self.library, lent, self.at_end, step.call, walk, outcome)
+        if walk and outcome[1]:
+            self.seen["cases", "%s: %sorder by order" % (step.call, "applies, " if outcome[2] else ""), ""] += 1
+
     def release(self, lent):
         """Copies made for one call go."""
         for buffer in lent.values():
@@ -145,7 +155,7 @@ class Bench:
 
     def followed(self, step):
         """Whether the call is one of the list that the witness follows."""
-        return self.witness is not None and not step.odd and step.call not in ("format", "tally", "alike")
+        return self.witness is not None and not step.odd and step.call not in ("format", "tally", "alike", *COSTS)
 
     def follow(self, step, outcome):
         if step.call == "format" and outcome[0] == 0:

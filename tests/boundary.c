@@ -1,4 +1,4 @@
-/* Calls the twelve functions through include/trapcard.h. The lent buffers have lengths of their own, odd addresses and guard
+/* Calls the fifteen functions through include/trapcard.h. The lent buffers have lengths of their own, odd addresses and guard
  * bytes around them; out-parameters stand between guard words. After each call whatever it may not write is compared, and a
  * refused call may write nothing. It is C99 and C++. */
 #include <stddef.h>
@@ -29,27 +29,35 @@ static const struct {
     size_t at, length;
 } parts[LENT] = {PART(record), PART(settled), PART(waiting), PART(work), PART(block), PART(marks)};
 
-enum call { FORMAT, POWER, PUT, GET, COMMIT, ABANDON, SYNC, APPLY, RECOVER, CUT, CALLS };
+enum call { FORMAT, POWER, PUT, GET, COMMIT, ABANDON, SYNC, APPLY, RECOVER, CUT, SYNC_COST, APPLY_COST, RECOVER_COST, CALLS };
+
+/* The most 4-byte out-parameters of a call. */
+enum { OUTS = 4 };
 
 static const struct {
     const char *name;
-    unsigned writes;
+    unsigned writes, outs;
 } calls[CALLS] = {
-    {"format", RECORD | SETTLED | WAITING | WORK},
-    {"power", RECORD},
-    {"put", RECORD | WORK},
-    {"get", 0},
-    {"commit", RECORD | WORK},
-    {"abandon", RECORD},
-    {"sync", RECORD | SETTLED | WAITING},
-    {"apply", RECORD | SETTLED | WAITING},
-    {"recover", RECORD | SETTLED | WAITING},
-    {"cut", RECORD | SETTLED},
+    {"format", RECORD | SETTLED | WAITING | WORK, 0},
+    {"power", RECORD, 0},
+    {"put", RECORD | WORK, 0},
+    {"get", 0, 1},
+    {"commit", RECORD | WORK, 0},
+    {"abandon", RECORD, 0},
+    {"sync", RECORD | SETTLED | WAITING, 1},
+    {"apply", RECORD | SETTLED | WAITING, 1},
+    {"recover", RECORD | SETTLED | WAITING, 1},
+    {"cut", RECORD | SETTLED, 0},
+    {"sync_cost", 0, OUTS},
+    {"apply_cost", 0, OUTS},
+    {"recover_cost", 0, OUTS},
 };
 
 static struct card c, before;
 static size_t length[LENT];
-static uint32_t word[3];
+
+/* Out-parameters are at odd places, guards at even ones. */
+static uint32_t word[2 * OUTS + 1];
 static uint64_t wide[3];
 
 static void fail(const char *call, const char *what)
@@ -76,15 +84,17 @@ static void same(const char *call, const char *what, uint64_t found, uint64_t ex
 
 static void arm(void)
 {
-    word[0] = word[1] = word[2] = UNSET;
+    for (unsigned i = 0; i <= 2 * OUTS; i++)
+        word[i] = UNSET;
     wide[0] = wide[1] = wide[2] = UNSET_WIDE;
     before = c;
 }
 
 static void check_guards(const char *call)
 {
-    must(word[0] == UNSET && wide[0] == UNSET_WIDE, call, "wrote before an out-parameter");
-    must(word[2] == UNSET && wide[2] == UNSET_WIDE, call, "wrote behind an out-parameter");
+    for (unsigned i = 0; i <= 2 * OUTS; i += 2)
+        must(word[i] == UNSET, call, "wrote beside an out-parameter of 4 bytes");
+    must(wide[0] == UNSET_WIDE && wide[2] == UNSET_WIDE, call, "wrote beside an out-parameter of 8 bytes");
 }
 
 static void check_bytes(const char *call, unsigned writes)
@@ -100,9 +110,10 @@ static void check_bytes(const char *call, unsigned writes)
     must(memcmp(now + at, then + at, sizeof c - at) == 0, call, "wrote outside the lent bytes");
 }
 
-/* ---- the ten calls with a record */
+/* ---- the calls with a record */
 
 #define CARD c.record, length[0], c.settled, length[1], c.waiting, length[2], c.work, length[3]
+#define FIGURES &word[1], &word[3], &word[5], &word[7]
 
 static uint32_t perform(enum call call, uint32_t argument)
 {
@@ -117,43 +128,54 @@ static uint32_t perform(enum call call, uint32_t argument)
     case APPLY: return trapcard_apply(CARD, &word[1]);
     case RECOVER: return trapcard_recover(CARD, &word[1]);
     case CUT: return trapcard_cut(CARD, c.marks, length[5]);
+    case SYNC_COST: return trapcard_sync_cost(CARD, FIGURES);
+    case APPLY_COST: return trapcard_apply_cost(CARD, FIGURES);
+    case RECOVER_COST: return trapcard_recover_cost(CARD, FIGURES);
     default: return UNSET;
     }
 }
 
-static void expect(enum call call, uint32_t argument, uint32_t number, unsigned writes, uint32_t out, uint64_t offset)
+static void expect(enum call call, uint32_t argument, uint32_t number, unsigned writes, const uint32_t *outs, uint64_t offset)
 {
     const char *name = calls[call].name;
-    int orders = call == SYNC || call == APPLY || call == RECOVER;
     arm();
     same(name, "answered", perform(call, argument), number);
     check_guards(name);
     check_bytes(name, writes);
-    same(name, "set its 4-byte out-parameter to", word[1], orders || call == GET ? out : UNSET);
+    for (unsigned i = 0; i < OUTS; i++)
+        same(name, "set a 4-byte out-parameter to", word[2 * i + 1], i < calls[call].outs ? outs[i] : UNSET);
     same(name, "set its 8-byte out-parameter to", wide[1], call == GET ? offset : UNSET_WIDE);
 }
 
 static void done(enum call call, uint32_t argument, uint32_t orders)
 {
-    expect(call, argument, TRAPCARD_DONE, calls[call].writes, orders, 0);
+    expect(call, argument, TRAPCARD_DONE, calls[call].writes, &orders, 0);
 }
 
 static void refused(enum call call, uint32_t argument, uint32_t number)
 {
-    expect(call, argument, number, 0, 0, 0);
+    const uint32_t none[OUTS] = {0, 0, 0, 0};
+    expect(call, argument, number, 0, none, 0);
 }
 
 /* The power ends in the call. */
 static void gone(enum call call, uint32_t orders)
 {
-    expect(call, 0, TRAPCARD_ERR_POWER, calls[call].writes, orders, 0);
+    expect(call, 0, TRAPCARD_ERR_POWER, calls[call].writes, &orders, 0);
+}
+
+/* An inquiry is served. */
+static void costs(enum call call, uint32_t orders, uint32_t applies, uint32_t peak, uint32_t reaches)
+{
+    const uint32_t figures[OUTS] = {orders, applies, peak, reaches};
+    expect(call, 0, TRAPCARD_DONE, 0, figures, 0);
 }
 
 /* A get finds a block filled with a byte at a place. */
 static void got(uint32_t address, uint32_t buffer, uint64_t offset, uint8_t byte)
 {
     const uint8_t *block;
-    expect(GET, address, TRAPCARD_DONE, 0, buffer, offset);
+    expect(GET, address, TRAPCARD_DONE, 0, &buffer, offset);
     block = trapcard_block(c.settled, c.work, word[1], wide[1]);
     must(block == (buffer == TRAPCARD_IN_WORK ? c.work : c.settled) + offset, "block", "another place");
     for (size_t i = 0; i < TRAPCARD_BLOCK; i++)
@@ -349,6 +371,80 @@ static void boot(void)
     got(40, TRAPCARD_IN_SETTLED, 1024, 7);
 }
 
+/* Asks before a sync, at one order less than it takes and at just as many, and then makes it. */
+static void ask_and_save(uint32_t orders, uint32_t applies, uint32_t peak)
+{
+    done(POWER, orders - 1, 0);
+    costs(SYNC_COST, orders, applies, peak, 0);
+    done(POWER, orders, 0);
+    costs(SYNC_COST, orders, applies, peak, 1);
+    done(SYNC, 0, orders);
+}
+
+/* Blocks in the group, from an address on. */
+static void group(uint32_t first, uint32_t count)
+{
+    for (uint32_t i = 0; i < count; i++)
+        put(first + i, 5);
+    done(COMMIT, 0, 0);
+}
+
+/* The figures of inquiries, all unlike each other somewhere, and the calls made next. */
+static void inquiries(void)
+{
+    start();
+    done(POWER, 0, 0);
+    costs(SYNC_COST, 0, 0, 0, 1);
+    costs(APPLY_COST, 0, 0, 0, 1);
+    group(TRAPCARD_FIRST, 20);
+    ask_and_save(23, 0, 22);
+    group(TRAPCARD_FIRST, 12);
+    ask_and_save(15, 0, 14);
+    group(40, 1);
+    ask_and_save(39, 1, 32);
+    group(TRAPCARD_FIRST, TRAPCARD_SLOTS);
+    ask_and_save(39, 1, TRAPCARD_PLACES);
+    done(POWER, 34, 0);
+    costs(APPLY_COST, 35, 0, 32, 0);
+    done(POWER, 35, 0);
+    costs(APPLY_COST, 35, 0, 32, 1);
+    done(APPLY, 0, 35);
+}
+
+/* The inquiries in each mode: their refusals, a recovery with orders and one without. */
+static void inquiries_by_mode(void)
+{
+    start();
+    group(40, 1);
+    refused(RECOVER_COST, 0, TRAPCARD_ERR_OPEN);
+    memset(c.record + TRAPCARD_RECORD_SAVE, 255, 8);
+    refused(SYNC_COST, 0, TRAPCARD_ERR_LAST);
+    memset(c.record + TRAPCARD_RECORD_SAVE, 0, 8);
+    done(POWER, 3, 0);
+    gone(SYNC, 3);
+    for (int k = SYNC_COST; k <= RECOVER_COST; k++)
+        refused((enum call)k, 0, TRAPCARD_ERR_POWER);
+    cut("011");
+    refused(SYNC_COST, 0, TRAPCARD_ERR_CLOSED);
+    refused(APPLY_COST, 0, TRAPCARD_ERR_CLOSED);
+    done(POWER, 1, 0);
+    costs(RECOVER_COST, 2, 0, 1, 0);
+    done(POWER, 2, 0);
+    costs(RECOVER_COST, 2, 0, 1, 1);
+    done(RECOVER, 0, 2);
+    cut("");
+    costs(RECOVER_COST, 0, 0, 0, 1);
+    c.record[TRAPCARD_RECORD_BLOCKS]++;
+    for (int k = SYNC_COST; k <= RECOVER_COST; k++)
+        refused((enum call)k, 0, TRAPCARD_ERR_STATE);
+    c.record[TRAPCARD_RECORD_BLOCKS]--;
+    c.settled[16]++;
+    c.settled[24]++;
+    refused(RECOVER_COST, 0, TRAPCARD_ERR_UNSOUND);
+    c.settled[0]++;
+    refused(RECOVER_COST, 0, TRAPCARD_ERR_FOREIGN);
+}
+
 /* ---- tally and alike */
 
 static uint8_t large[(TRAPCARD_MOST + 1) * TRAPCARD_BLOCK];
@@ -437,8 +533,10 @@ int main(void)
     causes();
     saves();
     boot();
+    inquiries();
+    inquiries_by_mode();
     bounds();
     inspections();
-    printf("boundary: the twelve functions answer through the header, and write nothing else\n");
+    printf("boundary: the fifteen functions answer through the header, and write nothing else\n");
     return 0;
 }

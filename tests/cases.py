@@ -1,7 +1,7 @@
 """What one call met, as cells of the coverage table. It is asked before the call, and told the outcome after it."""
 from coverage import IN_APPLY, IN_SYNC, TWO
-from model import (BLOCK, CLOSED, DOWN, FIRST_DATA, LAST, LEAST, MOST, OPEN, PLACES, RECORD, SLOTS, WAITING, WORK, choice, chosen, foreign,
-                   is_data, lists, read_header, wrong_counts, wrong_lists)
+from model import (BLOCK, CLOSED, COSTS, DOWN, FIRST_DATA, LAST, LEAST, MOST, OPEN, PLACES, RECORD, SLOTS, WAITING, WORK, choice, chosen,
+                   foreign, is_data, lists, read_header, wrong_counts, wrong_lists)
 
 
 def settled_sizes(settled):
@@ -59,6 +59,28 @@ def recover_case(rec, answer, orders):
     return "recover: cut short" + (", header waits" if orders else " at once")
 
 
+# ---- inquiries
+
+def reach(power, orders):
+    if orders == 0:
+        return "no orders, " + ("some power" if power else "power 0")
+    if power >= orders:
+        return "exactly enough power" if power == orders else "more than enough power"
+    return "one order short" if power == orders - 1 else "more than one order short"
+
+
+def cost_cases(call, rec, orders, applies):
+    """An inquiry that is served."""
+    n, m = rec.logged, rec.grouped
+    yield reach(rec.power, orders)
+    if call == "sync_cost" and m == 0 and rec.save == LAST:
+        yield "save number 2^64 - 1, nothing to save"
+    if call == "sync_cost" and m and n + m in (SLOTS, SLOTS + 1):
+        yield "n + m = %d" % (n + m)
+    if applies and n != m + 2:
+        yield "applies, peak " + ("in its apply" if n > m + 2 else "after its apply")
+
+
 # ---- the save number
 
 NAMED = {0: "0", 1: "1", 2**32 - 1: "2^32 - 1", 2**32: "2^32", LAST - 1: "2^64 - 2", LAST: "2^64 - 1"}
@@ -97,10 +119,11 @@ ORDERS = {"sync": sync_case, "apply": apply_case, "recover": recover_case}
 
 
 class Met:
-    """A call with a record."""
+    """A call with a record, or an inquiry."""
 
     def __init__(self, call, views, rec, numbers, last):
         self.call, self.views, self.rec, self.numbers, self.last = call, views, rec, numbers, last
+        self.rows = call.removesuffix("_cost")
         self.blocks, self.sizes, self.parts, self.lists = len(views["settled"]) // BLOCK, list(wrong_sizes(views)), [], None
         self.head = None if self.sizes else read_header(views["settled"])
         if self.sizes or call in TWO:
@@ -121,28 +144,29 @@ class Met:
         if answer == 8:
             yield from foreign_part(self.call, self.foreigner())
         if 0 < answer < 10:
-            yield from (("first of two", number, str(later)) for later in self.later() if later > answer)
+            table = "first of two" + (", asked" if self.call in COSTS else "")
+            yield from ((table, number, str(later)) for later in self.later() if later > answer)
         yield from (("cases", case, "") for case in self.cases(outcome, number, after))
 
     def foreigner(self):
         return self.views["settled"]
 
     def later(self):
-        """Rows that apply, be they the first or not, as far as the record and the arguments show it."""
+        """Rows that apply, be they the first or not, as far as the record and the arguments show it. An inquiry has its call's."""
         if any(self.parts) or any(wrong_counts(self.rec, self.views["settled"])):
             yield 2
-        if self.call in SIX and self.rec.mode in (CLOSED, DOWN):
+        if self.rows in SIX and self.rec.mode in (CLOSED, DOWN):
             yield 3 if self.rec.mode == CLOSED else 4
-        if self.call in ("put", "get") and not is_data(self.blocks, self.numbers[0]):
+        if self.rows in ("put", "get") and not is_data(self.blocks, self.numbers[0]):
             yield 6
-        if self.call == "put" and self.rec.opened == SLOTS and not is_data(self.blocks, self.numbers[0]):
+        if self.rows == "put" and self.rec.opened == SLOTS and not is_data(self.blocks, self.numbers[0]):
             yield 7
-        if self.call == "sync" and self.rec.grouped and self.rec.save == LAST:
+        if self.rows == "sync" and self.rec.grouped and self.rec.save == LAST:
             yield 12
-        if self.call == "recover":
+        if self.rows == "recover":
             yield {OPEN: 5, DOWN: 4}.get(self.rec.mode, 0)
             yield 0 if self.sizes else choice(self.blocks, self.views["settled"])[0]
-        if self.call == "cut" and (len(self.last) != self.rec.waiting or any(mark > 1 for mark in self.last)):
+        if self.rows == "cut" and (len(self.last) != self.rec.waiting or any(mark > 1 for mark in self.last)):
             yield 10
 
     def cases(self, outcome, number, after):
@@ -150,6 +174,8 @@ class Met:
             yield ORDERS[self.call](self.rec, *outcome)
         elif self.call in ("put", "get", "commit", "cut"):
             yield from getattr(self, self.call)(outcome[0], after)
+        elif self.call in COSTS and number == "0":
+            yield from ("%s: %s" % (self.call, case) for case in cost_cases(self.call, self.rec, *outcome[1:3]))
         if number in ("0", "gone", "12"):
             cases = save_cases(self.call, self.rec, number, outcome[-1], self.head)
             yield from ("save number, %s: %s" % (self.call, case) for case in cases)

@@ -1,4 +1,5 @@
 """The coverage table of the lockstep: each cause by each call that has it, and the cases that a run must meet. A hole fails."""
+from model import COSTS
 
 TEN = ("format", "power", "put", "get", "commit", "abandon", "sync", "apply", "recover", "cut")
 TWO = ("tally", "alike")
@@ -7,8 +8,8 @@ NUMBERS = ("0", "1", "2", "3", "4", "gone", "5", "6", "7", "8", "9", "10", "12")
 # The numbers that each call may give; 4 is a record that was down, gone is power gone in the call.
 CAUSES = {
     "format": "0 1", "power": "0 1 2", "put": "0 1 2 3 4 6 7", "get": "0 1 2 3 4 6", "commit": "0 1 2 3 4 7", "abandon": "0 1 2 3 4",
-    "sync": "0 1 2 3 4 gone 12", "apply": "0 1 2 3 4 gone", "recover": "0 1 2 4 gone 5 8 9", "cut": "0 1 2 10", "tally": "0 1 8 9",
-    "alike": "0 1 8 9",
+    "sync": "0 1 2 3 4 gone 12", "apply": "0 1 2 3 4 gone", "recover": "0 1 2 4 gone 5 8 9", "cut": "0 1 2 10",
+    "sync_cost": "0 1 2 3 4 12", "apply_cost": "0 1 2 3 4", "recover_cost": "0 1 2 4 5 8 9", "tally": "0 1 8 9", "alike": "0 1 8 9",
 }
 
 # The parts of rows 1 and 2. A cell counts the calls at which that part alone applied.
@@ -19,14 +20,19 @@ PARTS = ("mode", "open count", "group count", "log count", "waiting count", "wai
 # The parts of row 8, likewise, and the calls that have it.
 FOREIGN = ("format 1", "another format", "N", "n over 32", "p over n", "save 0, unlike counts", "save 0, unlike sums",
            "save 0, unlike counts and sums")
-THREE = ("recover", "tally", "alike")
+FOUR = ("recover", "recover_cost", "tally", "alike")
 
-# Where two rows apply: the number given, and the later ones.
+# Where two rows apply: the number given, and the later ones; of the calls, and of the inquiries.
 FIRST = {"1": "2 3 4 5 6 10 12", "2": "3 4 5 6 8 9 10 12", "3": "6 12", "4": "6 8 9 12", "5": "8 9", "6": "7"}
+FIRST_ASKED = {"1": "2 3 4 5 12", "2": "3 4 5 8 9 12", "3": "12", "4": "8 9 12", "5": "8 9"}
 
 # The places at which orders end.
 IN_APPLY = ("home blocks wait", "home blocks flushed", "header waits")
 IN_SYNC = ("log blocks wait", "descriptor waits", "header waits")
+
+# How far the power reaches in an inquiry that is served.
+REACHES = ("no orders, power 0", "no orders, some power", "more than enough power", "exactly enough power", "one order short",
+           "more than one order short")
 
 
 def prefixed(prefix, names):
@@ -65,6 +71,9 @@ CASES = (
     + tuple("save number, %s: 2^64 - 1, %s" % (call, found) for call in TWO for found in ("whole", "fallback"))
     + ("save number, alike: unlike, yes", "save number, cut: forgotten")
     + prefixed("the number found: ", ("new", "old", "old, by a fallback"))
+    + tuple("%s: %s" % (call, case) for call in COSTS for case in REACHES + ("order by order",))
+    + prefixed("sync_cost: ", ("n + m = 32", "n + m = 33", "applies, peak in its apply", "applies, peak after its apply",
+                               "applies, order by order", "save number 2^64 - 1, nothing to save"))
 )
 
 
@@ -73,15 +82,15 @@ def required():
     for call, numbers in CAUSES.items():
         yield from (("causes", call, number) for number in numbers.split())
     for size in SIZES:
-        yield from (("cause 1", size, call) for call in TEN)
+        yield from (("cause 1", size, call) for call in TEN + COSTS)
     for size in SIZES[1:4]:
         yield from (("cause 1", size, call) for call in TWO)
     for part in PARTS:
-        yield from (("cause 2", part, call) for call in TEN[1:])
+        yield from (("cause 2", part, call) for call in TEN[1:] + COSTS)
     for part in FOREIGN:
-        yield from (("cause 8", part, call) for call in THREE)
-    for number, later in FIRST.items():
-        yield from (("first of two", number, other) for other in later.split())
+        yield from (("cause 8", part, call) for call in FOUR)
+    for name, first in (("first of two", FIRST), ("first of two, asked", FIRST_ASKED)):
+        yield from ((name, number, other) for number, later in first.items() for other in later.split())
     yield from (("cases", case, "") for case in CASES)
 
 
@@ -89,19 +98,20 @@ def table(seen, name, rows, columns):
     """Counts by row and column. A cell that no call can reach is blank."""
     cells = {(row, column) for named, row, column in required() if named == name}
     wide = max(22, *(len(row) + 2 for row in rows))
-    yield name.ljust(wide) + "".join(column.rjust(8) for column in columns)
+    right = lambda words: "".join(word.rjust(max(8, len(column) + 2)) for word, column in zip(words, columns)).rstrip()
+    yield name.ljust(wide) + right(columns)
     for row in rows:
-        counts = (str(seen[name, row, column]) if (row, column) in cells else "" for column in columns)
-        yield ("  " + row).ljust(wide) + "".join(count.rjust(8) for count in counts).rstrip()
+        yield ("  " + row).ljust(wide) + right(str(seen[name, row, column]) if (row, column) in cells else "" for column in columns)
 
 
 def report(seen):
     """The lines of the table."""
     yield from table(seen, "causes", CAUSES, NUMBERS)
-    yield from table(seen, "cause 1", SIZES, TEN + TWO)
-    yield from table(seen, "cause 2", PARTS, TEN[1:])
-    yield from table(seen, "cause 8", FOREIGN, THREE)
+    yield from table(seen, "cause 1", SIZES, TEN + COSTS + TWO)
+    yield from table(seen, "cause 2", PARTS, TEN[1:] + COSTS)
+    yield from table(seen, "cause 8", FOREIGN, FOUR)
     yield from table(seen, "first of two", FIRST, NUMBERS)
+    yield from table(seen, "first of two, asked", FIRST_ASKED, NUMBERS)
     yield "cases"
     half = -(-len(CASES) // 2)
     for left, right in zip(CASES[:half], CASES[half:] + ("",)):

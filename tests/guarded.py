@@ -66,17 +66,20 @@ FUNCTIONS = {
     "apply": (CARD, ("record", "settled", "waiting"), 0, None, (4,)),
     "recover": (CARD, ("record", "settled", "waiting"), 0, None, (4,)),
     "cut": (CARD, ("record", "settled"), 0, "marks", ()),
+    "sync_cost": (CARD, (), 0, None, (4, 4, 4, 4)),
+    "apply_cost": (CARD, (), 0, None, (4, 4, 4, 4)),
+    "recover_cost": (CARD, (), 0, None, (4, 4, 4, 4)),
     "tally": (("settled",), (), 0, None, (8,)),
     "alike": (("settled", "other"), (), 0, None, (4,)),
 }
 
 
 class Library:
-    """The twelve functions of an archive, or of a shared object made of one."""
+    """The fifteen functions of an archive, or of a shared object made of one."""
 
     def __init__(self, shared):
         linked = ctypes.CDLL(str(shared))
-        self.functions = {}
+        self.functions, self.outs = {}, {}
         for call, (lent, _, numbers, last, outs) in FUNCTIONS.items():
             function = getattr(linked, "trapcard_" + call)
             buffer = [ctypes.c_void_p, ctypes.c_size_t]
@@ -84,11 +87,11 @@ class Library:
                                  + [ctypes.c_void_p] * len(outs))
             function.restype = ctypes.c_uint32
             self.functions[call] = function
-        self.outs = {size: Guarded(bytes([UNSET]) * size, True) for size in (4, 8)}
+            self.outs[call] = [Guarded(bytes([UNSET]) * size, True) for size in outs]
 
     def call(self, call, lent, numbers=()):
         """Lends the buffers (a dictionary by name) for one call. Its number, then its out-parameters."""
-        first, written, _, last, outs = FUNCTIONS[call]
+        first, written, _, last, _ = FUNCTIONS[call]
         words = []
         for name in first:
             lent[name].allow(WRITE if name in written else READ)
@@ -97,11 +100,11 @@ class Library:
         if last:
             lent[last].allow(READ)
             words += (lent[last].address, lent[last].length)
-        for size in outs:
-            self.outs[size].fill(bytes([UNSET]) * size)
-            words.append(self.outs[size].address)
+        for out in self.outs[call]:
+            out.fill(bytes([UNSET]) * out.length)
+            words.append(out.address)
         answer = self.functions[call](*words)
-        return (answer, *(self.outs[size].number(size=size) for size in outs))
+        return (answer, *(out.number(size=out.length) for out in self.outs[call]))
 
 
 def link(archive, shared):

@@ -3,7 +3,7 @@ stands, and holds all that its call needs, so that a list of steps can be made a
 from collections import namedtuple
 
 from madeup import CARD_FAULTS, RECORD_FAULTS, TOP
-from model import BLOCK, CLOSED, DOWN, FIRST_DATA, OPEN, PLACES, RECORD, SLOTS, WAITING, WORK
+from model import BLOCK, CLOSED, COSTS, DOWN, FIRST_DATA, OPEN, PLACES, RECORD, SLOTS, WAITING, WORK
 
 # odd: pairs of a lent buffer's name and another length for it.
 Step = namedtuple("Step", "call arguments odd", defaults=((), ()))
@@ -67,6 +67,7 @@ def power(chance, rec):
 
 
 def arguments(chance, call, rec, blocks):
+    """What a call is given. Of an inquiry: whether it is held to its call order by order."""
     if call == "power":
         return (power(chance, rec),)
     if call == "put":
@@ -75,6 +76,8 @@ def arguments(chance, call, rec, blocks):
         return (address(chance, blocks),)
     if call == "cut":
         return (marks(chance, min(rec.waiting, 2 * PLACES)),)
+    if call in COSTS:
+        return ("order by order",) if blocks not in LARGE_SIZES and chance.random() < 0.25 else ()
     return ()
 
 
@@ -102,7 +105,7 @@ class History:
         return {OPEN: self.when_open, CLOSED: self.when_closed, DOWN: self.when_down}[rec.mode](rec)
 
     def any(self, rec):
-        call = self.chance.choice(NINE + ("tally", "alike"))
+        call = self.chance.choice(NINE + COSTS + ("tally", "alike"))
         if call == "alike":
             return [Step(call, other_card(self.chance, self.blocks, self.blocks in LARGE_SIZES))]
         return [Step(call, arguments(self.chance, call, rec, self.blocks))]
@@ -117,7 +120,13 @@ class History:
             return self.any(rec)
         if kind < 0.9 and (rec.grouped == 0 or chance.random() < 0.15):
             return self.many() if chance.random() < 0.2 else self.few()
-        return [Step("power", (power(chance, rec),)), Step(chance.choice(("sync", "sync", "sync", "apply")))]
+        return [Step("power", (power(chance, rec),)), *self.asked(chance.choice(("sync", "sync", "sync", "apply")), rec)]
+
+    def asked(self, call, rec):
+        """A call that gives orders; before half of them comes its inquiry, as firmware makes it."""
+        inquiry = call + "_cost"
+        before = [Step(inquiry, arguments(self.chance, inquiry, rec, self.blocks))] if self.chance.random() < 0.5 else []
+        return before + [Step(call)]
 
     def many(self):
         """Puts that fill the open transaction or much of it, and their commit."""
@@ -137,7 +146,7 @@ class History:
     def when_closed(self, rec):
         if self.chance.random() < 0.25:
             return self.any(rec)
-        return [Step("power", (self.chance.choice((0, 1, 2, 3, 1000)),)), Step("recover")]
+        return [Step("power", (self.chance.choice((0, 1, 2, 3, 1000)),)), *self.asked("recover", rec)]
 
     def when_down(self, rec):
         if self.chance.random() < 0.25:
@@ -195,8 +204,8 @@ def made_up(chance, bench, large):
     blocks, count = size(chance, large), chance.choice((0, 0, 1, 1, 1, 1, 2, 3))
     pool = chance.choice((RECORD_FAULTS, RECORD_FAULTS, CARD_FAULTS, RECORD_FAULTS + CARD_FAULTS))
     yield Step("make", (blocks, chance.randrange(1 << 32), tuple(fault.__name__ for fault in chance.sample(pool, count))))
-    calls = chance.choices(NINE + ("sync", "tally", "alike"), k=chance.randint(2, 12))
-    for call in calls + ["cut", "recover"] + (["format"] if chance.random() < 0.3 else []):
+    calls = chance.choices(NINE + COSTS + ("sync", "tally", "alike"), k=chance.randint(2, 12))
+    for call in calls + ["cut", "recover_cost", "recover"] + (["format"] if chance.random() < 0.3 else []):
         if call == "alike":
             given = other_card(chance, blocks, large)
         else:

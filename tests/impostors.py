@@ -1,5 +1,5 @@
-"""Faults for the model, to see that the lockstep bites: those of document 01's "Faults to keep out", one that only bytes show, and two
-of the save number."""
+"""Faults for the model, to see that the lockstep bites: those of document 01's "Faults to keep out", one that only bytes show, two of
+the save number and three of the inquiries."""
 from contextlib import contextmanager
 from dataclasses import replace
 
@@ -60,8 +60,27 @@ def unnumbered(previous, count, previous_sum, count_sum, save):
     return real_unnumbered(previous, count, 0, 0, save)
 
 
+def sync_cost(rec, settled, waiting, work):
+    """a sync's descriptor does not wait"""
+    answer, orders, applies, peak, reaches = real_sync_cost(rec, settled, waiting, work)
+    return answer, orders, applies, peak - (orders > 0 and peak == rec.grouped + 2), reaches
+
+
+def apply_cost(rec, settled, waiting, work):
+    """the power reaches at one order less"""
+    answer, orders, applies, peak, reaches = real_apply_cost(rec, settled, waiting, work)
+    return answer, orders, applies, peak, int(answer == 0 and rec.power + 1 >= orders)
+
+
+def recover_cost(rec, settled, waiting, work):
+    """a recovery takes two orders, whatever it finds"""
+    answer, *figures = real_recover_cost(rec, settled, waiting, work)
+    return (answer, *figures) if answer else (0, 2, 0, 1, int(rec.power >= 2))
+
+
 real_get, real_recover, real_unnumbered = model.get, model.recover, model.unnumbered
-IMPOSTORS = (checkpoint, log_sum, choice, get, settle, recover, unnumbered)
+real_sync_cost, real_apply_cost, real_recover_cost = model.sync_cost, model.apply_cost, model.recover_cost
+IMPOSTORS = (checkpoint, log_sum, choice, get, settle, recover, unnumbered, sync_cost, apply_cost, recover_cost)
 
 
 @contextmanager

@@ -26,7 +26,7 @@ def few(chance, most):
 
 def save_number(chance):
     """The largest and the one before it, those at a carry into the upper half, small ones, those with one bit, and any but 0."""
-    return chance.choice((LAST, LAST, LAST - 1, LAST - 1, TOP, TOP + 1, 1, 2, 1 << chance.randrange(64), chance.randrange(1, LAST)))
+    return chance.choice((LAST, LAST, LAST - 1, LAST - 1, TOP, TOP, TOP + 1, 1, 2, 1 << chance.randrange(64), chance.randrange(1, LAST)))
 
 
 class Made:
@@ -172,8 +172,8 @@ def twice_in_group(made):
 
 
 def last_save(made):
-    """No fault by itself: a group that meets the largest save number, or leaves it."""
-    made.record_save, made.grouped = made.chance.choice((LAST, LAST, LAST - 1)), max(made.grouped, 1)
+    """No fault by itself: a group that meets the largest save number, or leaves it, or an empty one."""
+    made.record_save, made.grouped = made.chance.choice((LAST, LAST, LAST - 1)), made.chance.choice((0, max(made.grouped, 1)))
 
 
 # ---- faults of the card
@@ -232,11 +232,11 @@ FAULTS = {fault.__name__: fault for fault in RECORD_FAULTS + CARD_FAULTS}
 
 
 def made(blocks, seed, faults):
-    """The record and the three buffers. A faulty card is mostly one that a recovery meets closed."""
+    """The record and the three buffers. A faulty card is mostly one that a recovery meets closed, or down."""
     chance = random.Random(seed)
     state = Made(blocks, chance)
-    if any(FAULTS[name] in CARD_FAULTS for name in faults) and chance.random() < 0.7:
-        state.mode, state.queued = CLOSED, 0
+    if any(FAULTS[name] in CARD_FAULTS for name in faults) and chance.random() < 0.8:
+        state.mode, state.queued = chance.choice((CLOSED, CLOSED, CLOSED, CLOSED, DOWN)), 0
     for name in faults:
         FAULTS[name](state)
     return state.finished()

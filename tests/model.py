@@ -1,8 +1,9 @@
-"""Document 01's twelve calls, with W-201 of document 02, on plain Python values, written from the papers and not from the code of
-the crates.
+"""Document 01's twelve calls, with W-201 and the three inquiries of W-202 of document 02, on plain Python values, written from the
+papers and not from the code of the crates.
 
 Buffers are bytearrays. A call of the ten returns its number and the record that it leaves; sync, apply and recover their orders
-between. tally and alike return their number and what they found. `c_call` is any of the twelve as C sees it.
+between. An inquiry returns its number and its four figures, tally and alike their number and what they found. `c_call` is any of the
+fifteen as C sees it.
 """
 import struct
 from dataclasses import dataclass, replace
@@ -13,7 +14,7 @@ LEAST, MOST = 35, 65536
 WAITING, WORK = PLACES * ENTRY, 2 * SLOTS * ENTRY
 CLOSED, OPEN, DOWN = 0, 1, 2
 EMPTY_SUM = 14695981039346656037
-FORMAT, LAST = 2, 2**64 - 1
+FORMAT, LAST, ENOUGH = 2, 2**64 - 1, 2**32 - 1
 
 
 @dataclass(frozen=True)
@@ -233,11 +234,12 @@ def get(rec, settled, waiting, work, address):
 
 
 class Orders:
-    """Orders to the card, while there is power."""
+    """Orders to the card, while there is power; the most writes that waited at any moment, and whether a sync began with an apply."""
 
     def __init__(self, rec, settled, waiting):
         self.power, self.count, self.done, self.gone = rec.power, rec.waiting, 0, False
         self.settled, self.waiting = settled, waiting
+        self.peak, self.applies = self.count, False
 
     def happens(self):
         self.gone = self.gone or self.power == 0
@@ -251,6 +253,7 @@ class Orders:
             at = ENTRY * self.count
             self.waiting[at:at + ENTRY] = address.to_bytes(4, "little") + block
             self.count += 1
+            self.peak = max(self.peak, self.count)
 
     def flush(self):
         if self.happens():
@@ -283,19 +286,19 @@ def checkpoint(rec, orders):
     return replace(rec, logged=0, sum=EMPTY_SUM)
 
 
-def sync(rec, settled, waiting, work):
-    answer = cause("sync", rec, settled, waiting, work)
-    if answer or rec.grouped == 0:
-        return answer, 0, rec
-    orders, before = Orders(rec, settled, waiting), rec
+def sync_orders(rec, orders, work):
+    """A sync that is not refused: its number, its orders, and the record that it leaves."""
+    if rec.grouped == 0:
+        return orders.outcome(rec, rec)
+    before = rec
     if rec.logged + rec.grouped > SLOTS:
-        before = checkpoint(rec, orders)
+        orders.applies, before = True, checkpoint(rec, orders)
         if orders.gone:
             return orders.outcome(before, rec)
     group = [(number(work, ENTRY * (SLOTS + i)), bytes(work[ENTRY * (SLOTS + i) + 4:ENTRY * (SLOTS + i + 1)]))
              for i in range(rec.grouped)]
     count, total = before.logged + rec.grouped, log_sum(group, before.sum)
-    addresses = bytes(settled[BLOCK:BLOCK + 4 * before.logged]) + b"".join(a.to_bytes(4, "little") for a, _ in group)
+    addresses = bytes(orders.settled[BLOCK:BLOCK + 4 * before.logged]) + b"".join(a.to_bytes(4, "little") for a, _ in group)
     for i, (_, block) in enumerate(group):
         orders.write(2 + before.logged + i, block)
     orders.write(1, addresses.ljust(BLOCK, b"\0"))
@@ -304,24 +307,57 @@ def sync(rec, settled, waiting, work):
     return orders.outcome(replace(before, logged=count, sum=total, grouped=0, save=rec.save + 1), before)
 
 
-def apply(rec, settled, waiting, work):
-    answer = cause("apply", rec, settled, waiting, work)
-    if answer or rec.logged == 0:
-        return answer, 0, rec
-    orders = Orders(rec, settled, waiting)
-    return orders.outcome(checkpoint(rec, orders), rec)
+def apply_orders(rec, orders, work):
+    return orders.outcome(checkpoint(rec, orders) if rec.logged else rec, rec)
 
 
-def recover(rec, settled, waiting, work):
-    answer = cause("recover", rec, settled, waiting, work)
-    if answer:
-        return answer, 0, rec
-    _, count, total, back, save = choice(rec.blocks, settled)
-    orders = Orders(rec, settled, waiting)
+def recover_orders(rec, orders, work):
+    _, count, total, back, save = choice(rec.blocks, orders.settled)
     if back:
         orders.write(0, header(rec, count, count, total, total, save))
         orders.flush()
     return orders.outcome(replace(rec, mode=OPEN, opened=0, grouped=0, logged=count, sum=total, save=save), rec)
+
+
+GIVEN = {"sync": sync_orders, "apply": apply_orders, "recover": recover_orders}
+
+
+def ordered(call, rec, settled, waiting, work):
+    """sync, apply or recover: its orders to the card, and what it returns."""
+    answer, orders = cause(call, rec, settled, waiting, work), Orders(rec, settled, waiting)
+    return orders, (answer, 0, rec) if answer else GIVEN[call](rec, orders, work)
+
+
+def sync(rec, settled, waiting, work):
+    return ordered("sync", rec, settled, waiting, work)[1]
+
+
+def apply(rec, settled, waiting, work):
+    return ordered("apply", rec, settled, waiting, work)[1]
+
+
+def recover(rec, settled, waiting, work):
+    return ordered("recover", rec, settled, waiting, work)[1]
+
+
+# ---- W-202: the call made next on the same bytes and record but for power enough, here on copies
+
+def cost(call, rec, settled, waiting, work):
+    """The number, the orders, whether an apply comes first, the most writes that wait, and whether the power reaches."""
+    orders, (answer, done, _) = ordered(call, replace(rec, power=ENOUGH), bytearray(settled), bytearray(waiting), work)
+    return (answer, 0, 0, 0, 0) if answer else (0, done, int(orders.applies), orders.peak, int(rec.power >= done))
+
+
+def sync_cost(rec, settled, waiting, work):
+    return cost("sync", rec, settled, waiting, work)
+
+
+def apply_cost(rec, settled, waiting, work):
+    return cost("apply", rec, settled, waiting, work)
+
+
+def recover_cost(rec, settled, waiting, work):
+    return cost("recover", rec, settled, waiting, work)
 
 
 def cut(rec, settled, waiting, work, marks):
@@ -373,7 +409,8 @@ def encode(rec):
     return struct.pack("<7I2Q", rec.mode, rec.blocks, rec.opened, rec.grouped, rec.logged, rec.waiting, rec.power, rec.sum, rec.save)
 
 
-OUTS = {"get": 2, "sync": 1, "apply": 1, "recover": 1, "tally": 1, "alike": 1}
+COSTS = ("sync_cost", "apply_cost", "recover_cost")
+OUTS = {"get": 2, "sync": 1, "apply": 1, "recover": 1, "tally": 1, "alike": 1, **dict.fromkeys(COSTS, 4)}
 
 
 def c_call(call, lent, arguments=()):
@@ -385,7 +422,7 @@ def c_call(call, lent, arguments=()):
     if len(record) != RECORD:
         return (1,) + (0,) * OUTS.get(call, 0)
     outcome = made(decode(record), *card, *arguments)
-    if call == "get":
+    if call == "get" or call in COSTS:
         return outcome
     record[:] = encode(outcome[-1])
     return outcome[:-1]

@@ -1,8 +1,9 @@
 """Plants faults in a copy of the archive's source, one at a time, and shows that the lockstep finds each.
 
 The copy is compiled without proof: Rattle's code is Rust's but for the clauses of contracts, which are left out, and rustc builds the
-shared object. First the copy without a fault must run like the archive. Those that break demand 2 or 3 are also to be found by the
-plain disk and the old and new disks alone, with nothing compared to the model. Not a part of the gate, since it needs rustc."""
+shared object. First the copy without a fault must run like the archive. Those that break demand 2 or 3, or what W-202 says of an inquiry,
+are also to be found by the plain disk, the old and new disks and the library's own calls alone, with nothing compared to the model. Not
+a part of the gate, since it needs rustc."""
 import re
 import shutil
 import subprocess
@@ -17,7 +18,7 @@ from lockstep import ROOT, SEED, Found, Run, compared, show
 from model import decode
 
 CRATES = ("cells", "fnv", "card", "journal", "store", "inspect", "firmware")
-CALLS = 20000
+CALLS = 40000
 CLAUSE = re.compile(r"^(ghost use .*|\s*(requires|ensures) \{.*\})\n", re.M)
 TYPE = re.compile(r"^(pub )?(struct|enum) ", re.M)
 
@@ -41,6 +42,16 @@ FAULTS = (
     Fault("a cut keeps the record's save number", "store/cut", "self.with_save(0)", "self.with_save(self.save)"),
     Fault("a header with save number 0 and unlike sums is not foreign", "journal/choice", "h.presum != h.sum", "false"),
     Fault("the largest save number refuses an empty group too", "store/sync", "if self.grouped == 0 {\n            return 0;", "if false {\nreturn 0;"),
+    Fault("an inquiry forgets the apply at n + m = 33", "store/cost", "if self.fits()", "if self.logged + self.grouped <= 33", True),
+    Fault("an inquiry sees an apply at n + m = 32", "store/cost", "if self.fits()", "if self.logged + self.grouped < 32", True),
+    Fault("an inquiry's peak is without the descriptor", "store/cost", "self.waiting + writes)", "self.waiting + writes - DESCRIPTORS)", True),
+    Fault("the power reaches at one order less", "store/cost", "reaches: orders <= self.power", "reaches: orders.saturating_sub(1) <= self.power",
+          True),
+    Fault("an inquiry refuses power gone", "store/cost", "number: 0", "number: if orders <= self.power { 0 } else { 4 }", True),
+    Fault("an inquiry answers on a down record", "store/cost", "let number = self.not_open(settled, waiting, work);\n        if number != 0",
+          "let number = self.not_open(settled, waiting, work);\nif number != 0 && number != 4", True),
+    Fault("a recovery's inquiry always has two orders", "store/cost", "self.cost(0, false, self.waiting),", "self.cost(2, false, self.waiting + 1),",
+          True),
     Fault("put reads a byte behind its block", "firmware/calls", "let placed = decode(rec)",
           "unsafe { std::ptr::read_volatile(block.as_ptr().add(block.len())) };\nlet placed = decode(rec)"),
     Fault("commit writes a const byte with itself", "firmware/calls", "let committed = decode(rec)",
@@ -49,7 +60,8 @@ FAULTS = (
 
 
 class Blind(Bench):
-    """The library alone, along lists of calls from a format, beside the plain disk: the model is asked for nothing."""
+    """The library alone, along lists of calls from a format, beside the plain disk, and an inquiry beside the library's own call: the model
+    is asked for nothing."""
 
     def rec(self):
         return decode(self.lent["record"].read())
@@ -113,7 +125,7 @@ def one(fault):
         plant(folder, fault)
         library = built(folder)
         every = found(fault, library, Bench, "comparison")
-        return every and (not fault.demands or found(fault, library, Blind, "demands 2 and 3 alone"))
+        return every and (not fault.demands or found(fault, library, Blind, "the demands alone"))
 
 
 def unharmed():

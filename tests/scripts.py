@@ -110,7 +110,7 @@ def random_script(seed):
 EDGES = [b"", b"\n", b"\n\n", b"format", b"format\n", b"format\t\n", b"formats\n", b"forma\n", b"sync\t\n", b"sync\t1\n", b" sync\n", b"sync\r\n",
          b"cut\n", b"cut\t\n", b"cut\t2\n", b"cut\t" + b"1" * 76 + b"\n", b"cut\t" + b"1" * 77 + b"\n", b"power\t4294967295\n",
          b"power\t4294967296\n", b"power\t0000000001\n", b"power\t00000000001\n", b"power\t\n", b"power\t-1\n", b"put\t40\t255\n",
-         b"put\t40\t256\n", b"put\t40\n", b"put\t40\t1\t2\n", b"get\t40\n", b"tally\n", b"x" * 80 + b"\n", b"x" * 81 + b"\nsync\n",
+         b"put\t40\t256\n", b"put\t40\n", b"put\t40\t1\t2\n", b"get\t40\n", b"tally\n", b"sync_cost\n", b"x" * 80 + b"\n", b"x" * 81 + b"\nsync\n",
          b"format\n" + b"get\t40" * 100 + b"\nget\t40\n", b"format\nget\t33\nget\t34\nget\t63\nget\t64\n", b"\0\n", b"format\x00\n", b"\xff\xfe\n"]
 
 

@@ -1,6 +1,7 @@
-/* Saves three blocks as one, loses power in that sync at every order with every set of kept writes, recovers, and checks that
- * the three are found together, all old or all new, under the number of their save. Prints a line for each order, with how often
- * each save was found, and a last line with the total. */
+/* Saves three blocks as one, on a weak battery: asks first what the save will take, and puts it off if the power does not reach. Then
+ * loses power in that sync at every order with every set of kept writes, recovers, and checks that the three are found together,
+ * all old or all new, under the number of their save; and saves them once the battery reaches. Prints a line for each inquiry, one
+ * for each order, with how often each save was found, and one with the total. */
 #include <stdio.h>
 #include <stdlib.h>
 #include <string.h>
@@ -90,21 +91,17 @@ static uint64_t found(const struct card *start, uint32_t p, uint32_t set)
     return save;
 }
 
-int main(void)
+/* Whether every save is found whole, wherever power ends in a sync of so many orders. */
+static int all_whole(const struct card *start, uint32_t orders)
 {
-    static struct card c;
-    uint32_t orders, cuts = 0, news = 0;
-    must(trapcard_format(CARD(&c)), "format");
-    commit(&c, OLD);
-    must(trapcard_sync(CARD(&c), &orders), "sync");
-    commit(&c, NEW);
-    for (uint32_t p = 0; p <= 6; p++) {
-        uint32_t waiting = p < 6 ? p : 0, times[3] = {0, 0, 0};
+    uint32_t cuts = 0, news = 0;
+    for (uint32_t p = 0; p <= orders; p++) {
+        uint32_t waiting = p < orders ? p : 0, times[3] = {0, 0, 0};
         for (uint32_t set = 0; set < 1u << waiting; set++) {
-            uint64_t save = found(&c, p, set);
+            uint64_t save = found(start, p, set);
             if (save != 1 && save != 2) {
                 printf("torn: power %u, kept %u\n", p, set);
-                return 1;
+                return 0;
             }
             times[save]++;
         }
@@ -113,5 +110,36 @@ int main(void)
         news += times[2];
     }
     printf("%u cuts, save 2 found %u times, every save whole\n", cuts, news);
+    return 1;
+}
+
+/* Saves the group if the battery, read in orders, reaches; the orders that it takes. */
+static uint32_t ask_and_save(struct card *c, uint32_t battery)
+{
+    uint32_t orders, applies, peak, reaches;
+    must(trapcard_power(CARD(c), battery), "power");
+    must(trapcard_sync_cost(CARD(c), &orders, &applies, &peak, &reaches), "sync_cost");
+    printf("battery %u: the save takes %u orders, %s apply first, %u writes wait at its peak: ", battery, orders,
+           applies ? "an" : "no", peak);
+    if (!reaches) {
+        printf("put off\n");
+        return orders;
+    }
+    must(trapcard_sync(CARD(c), &orders), "sync");
+    printf("saved, number %llu\n", (unsigned long long)trapcard_save(c->record));
+    return orders;
+}
+
+int main(void)
+{
+    static struct card c;
+    must(trapcard_format(CARD(&c)), "format");
+    commit(&c, OLD);
+    ask_and_save(&c, 100);
+    commit(&c, NEW);
+    uint32_t orders = ask_and_save(&c, 5);
+    if (!all_whole(&c, orders))
+        return 1;
+    ask_and_save(&c, orders);
     return 0;
 }

@@ -2,6 +2,7 @@
 pub mod All
 pub mod Overlays
 pub mod Runs
+pub mod Peaks
 pub mod Cuts
 pub mod MarkLaws
 pub mod Leaves

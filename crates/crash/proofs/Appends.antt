@@ -49,9 +49,6 @@ module _ (geo : Geometry) (N : ℕ) (s : List ℕ) (n h c : ℕ) (G : List Entry
   pub length-front : length front ≡ length G + geo .descriptors
   length-front = length-append (slotBlocks geo n G) (descriptors geo s n G) ∙ ap₂ (λ (a b : ℕ). a + b) (length-slotBlocks geo n G) (length-upTo (descriptorEntry s n G) (geo .descriptors))
 
-  pub length-append-writes : length (appendWrites geo N s n h c G) ≡ length G + geo .descriptors + 1
-  length-append-writes = ap length writes-split ∙ length-append front (top ∷ []) ∙ ap (λ (k : ℕ). k + 1) length-front
-
   pub writes-whole : All Whole G → All Whole (appendWrites geo N s n h c G)
   writes-whole w =
       all-append Whole (slotBlocks geo n G) (descriptors geo s n G ++ (top ∷ [])) (slots-whole geo n G w)

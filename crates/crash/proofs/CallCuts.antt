@@ -19,14 +19,14 @@ use Rattle.journal.specs.Layout.{firstData, isData}
 use Rattle.journal.specs.Header.{emptyHeader}
 use Rattle.journal.specs.declared.header.Header.{Header}
 use Rattle.journal.proofs.Headers.{length-encode}
-use Rattle.journal.proofs.OrderLists.{headerEntry, appendWrites}
+use Rattle.journal.proofs.OrderLists.{headerEntry, appendWrites, length-append-writes}
 use Rattle.crash.specs.Found.{sameLog}
 use Rattle.crash.specs.Laid.{Laid, layOver}
 use Rattle.crash.proofs.Logs.{logD}
 use Rattle.crash.proofs.Cards.{WholeCard, ClosedCard, Appended}
 use Rattle.crash.proofs.Frames.{Besides, KeepOff}
 use Rattle.crash.proofs.Batches.{Left}
-use Rattle.crash.proofs.Appends.{length-append-writes, writes-whole}
+use Rattle.crash.proofs.Appends.{writes-whole}
 use Rattle.crash.proofs.Leads.{foundIn, Leads, closed-leads, Behind, Appending, ownPlace, fallHeader, still-leads, lost-leads, append-front, append-header-lost, append-new, append-old, append-all, append-whole, on-card, kept-top, homes-leads, homes-done, empty-card, fallen-card}
 
 leaves-at : {N M : ℕ} (ms : List ℕ) {q v : List Entry} {s t : List ℕ} (e : Disk) → N ≡ M → q ≡ v → s ≡ t → Leaves N ms q (blockAt s) e → Leaves M ms v (blockAt t) e

@@ -31,13 +31,13 @@ use Rattle.journal.specs.Header.{encode, decode, header, emptyHeader}
 use Rattle.journal.specs.Log.{headerOf, entries, sumOf, allData, good}
 use Rattle.journal.proofs.Headers.{decode-encode}
 use Rattle.journal.proofs.Logs.{both, length-blockAt}
-use Rattle.journal.proofs.OrderLists.{headerEntry, appendWrites}
+use Rattle.journal.proofs.OrderLists.{headerEntry, appendWrites, length-append-writes}
 use Rattle.crash.specs.Found.{sameLog, collides}
 use Rattle.crash.specs.Laid.{Laid, layOver}
 use Rattle.crash.proofs.Logs.{slotE, logD, entries-disk, data-above, data-below}
 use Rattle.crash.proofs.Cards.{Every, HasHeader, WholeCard, ClosedCard, SafeCard, closed-agree, append-head, append-found, append-bad, append-safe, append-sum, Appended, emptied, fallen}
 use Rattle.crash.proofs.Frames.{Besides, Spared, Sized, KeepOff, off-low, Stands, covered-stands, whole-stands}
-use Rattle.crash.proofs.Appends.{lost-stands, header-lost, header-kept, log-stands, homes-stand, found-written, length-front, length-append-writes}
+use Rattle.crash.proofs.Appends.{lost-stands, header-lost, header-kept, log-stands, homes-stand, found-written, length-front}
 
 -- ---- equal logs
 

@@ -8,6 +8,7 @@ use mir.Val.{boolByte}
 use borrow.Author.Tests.{eq-eqb, ne-eqb, eqb-true}
 use lib.Dec.{eqb}
 use lib.ListN.{length}
+use Rattle.store.specs.declared.cost.Cost.{Cost}
 use Rattle.store.specs.declared.place.Place.{Place}
 use Rattle.store.specs.declared.place.Place.the-variants.{Nowhere}
 use Rattle.store.specs.declared.record.Record.{Record}
@@ -16,10 +17,11 @@ use Rattle.store.specs.CodeState.{stateOf, outcomeOf}
 use Rattle.store.specs.Request.{get}
 use Rattle.store.specs.Causes.{cause}
 use Rattle.store.specs.Get.{newest, getPlace}
+use Rattle.store.specs.Cost.{noFigures}
 use Rattle.inspect.specs.declared.answer.Alike.{Alike}
 use Rattle.inspect.specs.Alike.{alikeOf}
 use Rattle.journal.specs.Geometry.{Geometry}
-use Rattle.firmware.specs.Face.{recordBytes, encodeRecord, decodeRecord, faceOf, handed, faced, bufferNumber, bufferOffset, gotOf, gotIn, got, comparedOf, compared}
+use Rattle.firmware.specs.Face.{recordBytes, encodeRecord, decodeRecord, faceOf, handed, faced, bufferNumber, bufferOffset, gotOf, gotIn, got, Asked, told, asked, comparedOf, compared}
 
 -- "another length is 1"
 pub faced-length : (call : State → Outcome) (r s w k : List ℕ) → length r ≢ recordBytes → faceOf 1 0 r s w k ≡ faced call r s w k
@@ -88,12 +90,37 @@ module _ (geo : Geometry) where
       let named : bufferNumber (getPlace geo a (stateOf d s w k)) ≢ 0 = λ z. n (g ∙ ap bufferNumber f ∙ z) in
       got-done a r s w k 0 b o d p h e f g i (named-done a (stateOf d s w k) named)
 
-  -- and alike: a yes is 1
+-- a yes is 1
+as-byte : (y : Bool) → boolByte y ≡ cond y 1 0
+as-byte true = refl
+as-byte false = refl
+
+-- ---- an inquiry
+
+pub told-out : (c : Cost)
+    → _≡_ {A = Asked} (record { number = c .number; orders = c .orders; applies = boolByte (c .applies); peak = c .peak; reaches = boolByte (c .reaches) }) (told c)
+told-out c = λ j. record { number = c .number; orders = c .orders; applies = as-byte (c .applies) j; peak = c .peak; reaches = as-byte (c .reaches) j }
+
+pub asked-length : (cost : State → Cost) (r s w k : List ℕ) → length r ≢ recordBytes → told (noFigures 1) ≡ asked cost r s w k
+unfolding asked
+asked-length cost r s w k h = rw (ne-eqb (length r) recordBytes h)
+
+pub asked-cost : (cost : State → Cost) (r s w k : List ℕ) → length r ≡ recordBytes → told (cost (stateOf (decodeRecord r) s w k)) ≡ asked cost r s w k
+unfolding asked
+asked-cost cost r s w k h = rw (eq-eqb (length r) recordBytes h)
+
+-- x was handed out of c
+module _ (cost : State → Cost) (r s w k : List ℕ) (c : Cost) (x : Asked) (out : x ≡ told c) where
+  pub asked-refused : length r ≢ recordBytes → c ≡ noFigures 1 → x ≡ asked cost r s w k
+  asked-refused h e = out ∙ ap told e ∙ asked-length cost r s w k h
+
+  pub asked-done : length r ≡ recordBytes → (d : Record) → d ≡ decodeRecord r → c ≡ cost (stateOf d s w k) → x ≡ asked cost r s w k
+  asked-done h d e f = out ∙ ap told (f ∙ ap (λ (y : Record). cost (stateOf y s w k)) e) ∙ asked-cost cost r s w k h
+
+-- ---- alike
+
+module _ (geo : Geometry) where
   pub compared-done : (a b : List ℕ) (r : Alike) → r ≡ alikeOf geo a b → comparedOf (r .number) (boolByte (r .yes)) ≡ compared geo a b
   unfolding compared
   compared-done a b r e =
       ap (λ (y : ℕ). comparedOf (r .number) y) (as-byte (r .yes)) ∙ ap (λ (x : Alike). comparedOf (x .number) (cond (x .yes) 1 0)) e
-    where
-      as-byte : (y : Bool) → boolByte y ≡ cond y 1 0
-      as-byte true = refl
-      as-byte false = refl

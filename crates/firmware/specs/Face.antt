@@ -6,6 +6,7 @@ use mathlib.Core.List.{List, [], _∷_}
 use lib.Dec.{eqb}
 use lib.ListN.{length, getD}
 use Rattle.cells.specs.Row.{Field, row, valuesFrom}
+use Rattle.store.specs.declared.cost.Cost.{Cost}
 use Rattle.store.specs.declared.place.Place.{Place}
 use Rattle.store.specs.declared.place.Place.the-variants.{Settled, Work, Nowhere}
 use Rattle.store.specs.declared.record.Record.{Record}
@@ -14,6 +15,7 @@ use Rattle.store.specs.CodeState.{stateOf}
 use Rattle.store.specs.Request.{get}
 use Rattle.store.specs.Causes.{cause}
 use Rattle.store.specs.Get.{getPlace}
+use Rattle.store.specs.Cost.{noFigures}
 use Rattle.inspect.specs.declared.answer.Tally.{Tally}
 use Rattle.inspect.specs.Alike.{alikeOf}
 use Rattle.journal.specs.Geometry.{Geometry}
@@ -104,6 +106,23 @@ module _ (geo : Geometry) where
 
   unfoldable pub got : ℕ → List ℕ → List ℕ → List ℕ → List ℕ → Got
   got a r s w k = cond (eqb (length r) recordBytes) (gotIn a (stateOf (decodeRecord r) s w k)) (gotOf 1 0 0)
+
+-- ---- W-202: what a sync, an apply or a recover will take
+
+-- the number and the figures, 1 for yes or 0
+pub record Asked : Type 0 where
+  pub number : ℕ
+  pub orders : ℕ
+  pub applies : ℕ
+  pub peak : ℕ
+  pub reaches : ℕ
+
+abbrev pub told : Cost → Asked
+told c = record { number = c .number; orders = c .orders; applies = cond (c .applies) 1 0; peak = c .peak; reaches = cond (c .reaches) 1 0 }
+
+-- an inquiry on the record's bytes and the other lent bytes, none of which it can change; "another length is 1", and has no figures
+unfoldable pub asked : (State → Cost) → List ℕ → List ℕ → List ℕ → List ℕ → Asked
+asked cost r s w k = cond (eqb (length r) recordBytes) (told (cost (stateOf (decodeRecord r) s w k))) (told (noFigures 1))
 
 -- ---- "Two calls read settled bytes alone"
 

@@ -1,5 +1,6 @@
 -- Refusals, and the same calls through C and through the script.
 pub mod Refusals
+pub mod Costs
 pub mod FaceRefusals
 pub mod Links
 pub mod Scripts

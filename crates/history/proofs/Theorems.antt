@@ -1,5 +1,5 @@
--- The theorems about histories. Their types stand in specs/Statements.antt, specs/Refusals.antt, specs/Dispatch.antt, specs/Linked.antt
--- and specs/Scripts.antt.
+-- The theorems about histories. Their types stand in specs/Statements.antt, specs/Refusals.antt, specs/Costs.antt, specs/Dispatch.antt,
+-- specs/Linked.antt and specs/Scripts.antt.
 use Prim.Native.Nat.{ℕ}
 use mathlib.Core.Path.{_≡_, refl, ap, sym, _∙_}
 use mathlib.Core.Logic.{_≢_, _⊎_}
@@ -26,6 +26,7 @@ use Rattle.history.specs.Ledger.{Ledger}
 use Rattle.history.specs.History.{World, begun, after, foundWritten}
 use Rattle.history.specs.Statements.{Sound, Safety, FallbackNumbered, Refinement, ReadBack, WrittenSummed, Logged, Written, CrashAtomicity}
 use Rattle.history.specs.Refusals.{Refusals}
+use Rattle.history.specs.Costs.{Costs}
 use Rattle.history.specs.Linked.{Linked}
 use Rattle.history.specs.Scripts.{ScriptsAreHistories}
 use Rattle.history.proofs.Relation.CauseLaws.{cause-one, cause-two, cause-passes}
@@ -40,6 +41,7 @@ use Rattle.history.proofs.Atomicity.ReadsBack as ReadsBack
 use Rattle.history.proofs.Atomicity.Splits as Atomicity
 use Rattle.history.proofs.Boundary.Refusals as RefusalsProof
 use Rattle.history.proofs.Boundary.FaceRefusals as FaceRefusals
+use Rattle.history.proofs.Boundary.Costs as CostsProof
 use Rattle.history.proofs.Boundary.Links as Links
 use Rattle.history.proofs.Boundary.Scripts as ScriptsProof
 
@@ -148,7 +150,13 @@ module _ (geo : Geometry) where
     reads = FaceRefusals.reads geo;
     faces = FaceRefusals.faces geo (RefusalsProof.calls geo);
     gets = FaceRefusals.gets geo;
+    asks = FaceRefusals.asks geo;
   }
+
+  -- ---- What a call will take
+
+  pub costs : Costs geo
+  costs = record { inquiries = CostsProof.foretells geo; forms = CostsProof.forms geo }
 
   -- ---- Through C
 

@@ -7,5 +7,6 @@ pub mod History
 pub mod Statements
 pub mod Scripts
 pub mod Refusals
+pub mod Costs
 pub mod Linked
 pub mod Worked

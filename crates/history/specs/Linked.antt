@@ -5,7 +5,9 @@ use mathlib.Core.List.{List, [], _∷_}
 use Rattle.store.specs.State.{State}
 use Rattle.store.specs.CodeState.{stateOf}
 use Rattle.store.specs.Format.{formatCall}
-use Rattle.firmware.specs.Face.{encodeRecord, decodeRecord, Face, faceOf, faced, gotIn, got}
+use Rattle.store.specs.Save.{Save}
+use Rattle.store.specs.Cost.{costOf}
+use Rattle.firmware.specs.Face.{encodeRecord, decodeRecord, Face, faceOf, faced, gotIn, got, told, asked}
 use Rattle.journal.specs.Geometry.{Geometry}
 use Rattle.history.specs.Call.{Call, power, ofGet}
 use Rattle.history.specs.Dispatch.{dispatch}
@@ -39,11 +41,13 @@ pub record BytesOf (f : Face) (st : State) : Type 0 where
   pub work : f .work ≡ st .work
 
 module _ (geo : Geometry) where
-  -- a call through C: the store's number, its orders, the place of a get, and the bytes of what it leaves
+  -- a call through C: the store's number, its orders, the place of a get, and the bytes of what it leaves. W-202: an inquiry made before it
+  -- gives the store's number and figures, and has no lent byte to change
   pub record Links (c : Call) (f : Face) (st : State) : Type 0 where
     pub number : faceNext geo c f .number ≡ dispatch geo c st .answer
     pub orders : faceNext geo c f .orders ≡ dispatch geo c st .orders
     pub place : (a : ℕ) → got geo a (f .rec) (f .settled) (f .waiting) (f .work) ≡ gotIn geo a st
+    pub figures : (q : Save) → asked (costOf geo q) (f .rec) (f .settled) (f .waiting) (f .work) ≡ told (costOf geo q st)
     pub left : BytesOf (faceNext geo c f) (dispatch geo c st .state)
 
   -- at every call of every list, from what a format through C that answers 0 left

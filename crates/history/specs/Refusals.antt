@@ -1,8 +1,9 @@
--- Refusals (demand 1): over the ten calls, the script's lines, tally and alike, what C sees of them, and any inputs whatever.
+-- Refusals (demand 1): over the ten calls, the script's lines, tally and alike, what C sees of them and of the inquiries (W-202), and any
+-- inputs whatever.
 use Prim.Native.Nat.{ℕ, _+_, _≤_}
 use mathlib.Core.Path.{_≡_}
 use mathlib.Core.Logic.{_≢_, _⊎_}
-use mathlib.Core.Bool.{Bool, true, false, not, _&&_}
+use mathlib.Core.Bool.{Bool, true, false, cond, not, _&&_}
 use mathlib.Core.List.{List, [], _∷_}
 use denote.Ref.{RefT}
 use lib.Dec.{eqb, leb}
@@ -12,9 +13,7 @@ use Rattle.fnv.specs.Fnv.{start}
 use Rattle.card.specs.Card.{Order, write, flush, blockAt, run}
 use Rattle.journal.specs.Geometry.{Geometry}
 use Rattle.journal.specs.Layout.{wrongSize}
-use Rattle.journal.specs.Orders.{applyOrders, syncOrders}
-use Rattle.journal.specs.Choice.{choose, choiceNumber, recoverOrders}
-use Rattle.store.specs.Save as Save
+use Rattle.journal.specs.Choice.{choiceNumber}
 use Rattle.store.specs.Save.{Save}
 use Rattle.store.specs.Request as Request
 use Rattle.store.specs.State.{State, down, withMode, withRecord, cardIn}
@@ -22,27 +21,22 @@ use Rattle.store.specs.CodeState.{stateOf}
 use Rattle.store.specs.Causes.{cause}
 use Rattle.store.specs.Outcomes.{refused}
 use Rattle.store.specs.Get.{getPlace, partAt}
-use Rattle.store.specs.Saves.{groupOf, applies}
+use Rattle.store.specs.Saves.{saveOrders, applies}
+use Rattle.store.specs.Cost.{costOf}
 use Rattle.inspect.specs.Reading.{chosen, inspection}
 use Rattle.inspect.specs.Tally.{tallyOf}
-use Rattle.firmware.specs.Face.{recordBytes, decodeRecord, faceOf, faced, gotOf, got, tallied, comparedOf, compared}
+use Rattle.firmware.specs.Face.{recordBytes, decodeRecord, faceOf, faced, gotOf, got, asked, tallied, comparedOf, compared}
 use Rattle.history.specs.Dispatch.{called, blockOf}
 use Rattle.history.specs.Scripts.{ByCall}
 
 -- ---- the ten calls
 
 module _ (geo : Geometry) where
-  -- the orders of a save
-  abbrev pub saveOrders : Save → State → List Order
-  saveOrders Save.sync st = syncOrders geo (st .rec .blocks) (st .settled) (st .rec .logged) (st .rec .sum) (st .rec .save) (groupOf geo st)
-  saveOrders Save.apply st = applyOrders geo (st .rec .blocks) (st .settled) (st .rec .logged) (st .rec .save)
-  saveOrders Save.recover st = recoverOrders (st .rec .blocks) (choose geo (st .rec .blocks) (st .settled))
-
   -- the orders of a call
   abbrev pub ordersOf : Request.Request → State → List Order
   ordersOf Request.format st = []
   ordersOf (Request.local c) st = []
-  ordersOf (Request.save c) st = saveOrders c st
+  ordersOf (Request.save c) st = saveOrders geo c st
   ordersOf (Request.cut ms) st = []
 
 -- no order writes to the block
@@ -122,6 +116,15 @@ module _ (geo : Geometry) where
         → got geo a r s w k ≡ gotOf (cause geo (Request.get a) (stateOf (decodeRecord r) s w k)) 0 0
     pub serves : length r ≡ recordBytes → cause geo (Request.get a) (stateOf (decodeRecord r) s w k) ≡ 0 → got geo a r s w k .number ≡ 0
 
+  -- W-202: an inquiry that is refused hands out no figures; else those of the state that the bytes stand for, 1 for yes
+  pub record Asks (c : Save) (r s w k : List ℕ) : Type 0 where
+    pub size : length r ≢ recordBytes → asked (costOf geo c) r s w k ≡ record { number = 1; orders = 0; applies = 0; peak = 0; reaches = 0 }
+    pub refuses : length r ≡ recordBytes → cause geo (Request.save c) (stateOf (decodeRecord r) s w k) ≢ 0
+        → asked (costOf geo c) r s w k ≡ record { number = cause geo (Request.save c) (stateOf (decodeRecord r) s w k); orders = 0; applies = 0; peak = 0; reaches = 0 }
+    pub serves : length r ≡ recordBytes → cause geo (Request.save c) (stateOf (decodeRecord r) s w k) ≡ 0
+        → let x = costOf geo c (stateOf (decodeRecord r) s w k) in
+        asked (costOf geo c) r s w k ≡ record { number = 0; orders = x .orders; applies = cond (x .applies) 1 0; peak = x .peak; reaches = cond (x .reaches) 1 0 }
+
   pub record Refusals : Type 0 where
     pub calls : (q : Request.Request) (st : State) → Answers q st
     pub parts : (a : ℕ) (st : State) → NoPart a st
@@ -129,3 +132,4 @@ module _ (geo : Geometry) where
     pub reads : (a b : List ℕ) → Reads a b
     pub faces : (q : Request.Request) (r s w k : List ℕ) → Faces q r s w k
     pub gets : (a : ℕ) (r s w k : List ℕ) → Gets a r s w k
+    pub asks : (c : Save) (r s w k : List ℕ) → Asks c r s w k

@@ -4,6 +4,7 @@ pub mod Logs
 pub mod Lookups
 pub mod Descriptors
 pub mod OrderLists
+pub mod Peaks
 pub mod Choices
 pub mod Phases
 pub mod Cases

@@ -153,10 +153,12 @@ module _ (geo : Geometry) where
   pub length-slotWrites : (n : ℕ) (es : List Entry) → length (slotWrites geo n es) ≡ length es
   length-slotWrites n es = rw (slotWrites-blocks geo, length-map) (length-slotBlocks geo n es)
 
+  pub length-append-writes : (N : ℕ) (s : List ℕ) (n h c : ℕ) (es : List Entry) → length (appendWrites geo N s n h c es) ≡ length es + geo .descriptors + 1
+  length-append-writes N s n h c es =
+      rw (length-append, length-slotBlocks geo, length-append, length-upTo (descriptorEntry s n es) (geo .descriptors)) (omega arith)
+
   pub length-append-orders : (N : ℕ) (s : List ℕ) (n h c : ℕ) (es : List Entry) → length (appendOrders geo N s n h c es) ≡ length es + geo .descriptors + 2
-  unfolding appendOrders
-  length-append-orders N s n h c es =
-      rw (length-append, length-slotWrites, length-append, length-map, length-upTo (descriptorEntry s n es) (geo .descriptors)) (omega arith)
+  length-append-orders N s n h c es = rw (append-writes geo N s n h c es, length-append, length-map, length-append-writes N s n h c es) (omega arith)
 
 pub length-checkpoint : (N c : ℕ) (es : List Entry) → length (checkpointOrders N c es) ≡ length es + 3
 unfolding checkpointOrders

@@ -1,10 +1,15 @@
--- One call of a list as C makes it: the step of `linked`, and the place of a get.
+-- One call of a list as C makes it: the step of `linked`, and the place of a get. W-202: the call that an inquiry is about.
 use Prim.Native.Nat.{ℕ}
 use mathlib.Core.List.{List}
-use Rattle.firmware.specs.Face.{Face, Got, gotOf, got}
+use Rattle.firmware.specs.Face.{Face, Got, gotOf, got, Asked, asked}
 use Rattle.history.specs.Call.{Call, cut, power, put, get, commit, abandon, sync, apply, recover, ofGet}
 use Rattle.history.specs.Linked.{faceNext}
+use Rattle.store.specs.Save as Save
+use Rattle.store.specs.Save.{Save}
+use Rattle.store.specs.Cost.{costOf}
 use Rattle.journal.specs.Geometry.{trap}
+use Rattle.linkage.specs.declared.ask.Inquiry.{Inquiry}
+use Rattle.linkage.specs.declared.ask.Inquiry.the-variants.{SyncCost, ApplyCost, RecoverCost}
 use Rattle.linkage.specs.declared.step.Code.{Code}
 use Rattle.linkage.specs.declared.step.Code.the-variants.{Power, Put, Get, Commit, Abandon, Sync, Apply, Recover, Cut}
 
@@ -19,6 +24,12 @@ callOf Sync block marks = sync
 callOf Apply block marks = apply
 callOf Recover block marks = recover
 callOf Cut block marks = cut marks
+
+-- likewise the call that an inquiry is about
+abbrev pub saveOf : Inquiry → Save
+saveOf SyncCost = Save.sync
+saveOf ApplyCost = Save.apply
+saveOf RecoverCost = Save.recover
 
 -- what C sees of a call: number, orders and every lent byte; of a get also the buffer and the byte in it where the block starts
 pub record Stepped : Type 0 where
@@ -43,3 +54,7 @@ withPlace c f g = steppedOf f (placed c g .buffer) (placed c g .offset)
 -- place among those that `linked` speaks of
 abbrev pub stepped : Call → Face → Stepped
 stepped c f = withPlace c (faceNext trap c f) (λ a. got trap a (f .rec) (f .settled) (f .waiting) (f .work))
+
+-- W-202: an inquiry on these bytes, of the figures that `linked` speaks of
+abbrev pub askedOn : Save → Face → Asked
+askedOn q f = asked (costOf trap q) (f .rec) (f .settled) (f .waiting) (f .work)

@@ -5,13 +5,15 @@ use mathlib.Core.List.{List}
 use Rattle.store.specs.State.{State}
 use Rattle.store.specs.CodeState.{stateOf}
 use Rattle.store.specs.Format.{formatCall}
-use Rattle.firmware.specs.Face.{decodeRecord, faced, handed, gotIn}
+use Rattle.store.specs.Save.{Save}
+use Rattle.store.specs.Cost.{costOf}
+use Rattle.firmware.specs.Face.{decodeRecord, faced, handed, gotIn, told}
 use Rattle.history.specs.Call.{Call}
 use Rattle.history.specs.Dispatch.{dispatch}
 use Rattle.history.specs.History.{begun, after}
 use Rattle.history.specs.Linked.{faceAfter, AllPassable}
 use Rattle.journal.specs.Geometry.{trap}
-use Rattle.linkage.specs.Step.{Stepped, withPlace, stepped}
+use Rattle.linkage.specs.Step.{Stepped, withPlace, stepped, askedOn}
 
 -- the store's own call, as C would see it
 abbrev pub stored : Call → State → Stepped
@@ -24,3 +26,10 @@ Through =
     (r s w k : List ℕ) → faced (formatCall trap) r s w k .number ≡ 0
     → (cs : List Call) (c : Call) → AllPassable cs
     → stepped c (faceAfter trap cs (faced (formatCall trap) r s w k)) ≡ stored c (after trap cs (begun trap (stateOf (decodeRecord r) s w k)) .store)
+
+-- W-202: what `ask` promises of an inquiry behind every such list is the store's: number and figures
+abbrev pub AskedThrough : Type 0
+AskedThrough =
+    (r s w k : List ℕ) → faced (formatCall trap) r s w k .number ≡ 0
+    → (cs : List Call) (q : Save) → AllPassable cs
+    → askedOn q (faceAfter trap cs (faced (formatCall trap) r s w k)) ≡ told (costOf trap q (after trap cs (begun trap (stateOf (decodeRecord r) s w k)) .store))

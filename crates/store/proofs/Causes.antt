@@ -26,7 +26,7 @@ use Rattle.store.specs.Lists.{openFrom, groupFrom, listed, find}
 use Rattle.store.specs.Local as Local
 use Rattle.store.specs.Save as Save
 use Rattle.store.specs.Request.{Request, format, local, save, cut, power, abandon}
-use Rattle.store.specs.Causes.{waitingBytes, workBytes, Row, wrongSizes, some, wrongCounts, wrongWaiting, isFound, wrongLists, wrongRecord, Rules, ofBytes, ofRecord, ofOpen, rules, ownSize, wrongBlock, first, causeBy, cause}
+use Rattle.store.specs.Causes.{waitingBytes, workBytes, Row, wrongSizes, some, wrongCounts, wrongWaiting, isFound, wrongLists, wrongRecord, downRow, openRow, Rules, ofBytes, ofRecord, ofOpen, rules, ownSize, wrongBlock, first, causeBy, cause}
 
 -- ---- a search of n places from the last one down, i of them left
 
@@ -250,7 +250,7 @@ all-passed (r ∷ rs) st e =
     (p .0, all-passed rs st (p .1))
 
 module _ (geo : Geometry) where
-  rules-pass : (r : Rules) (st : State) → causeBy geo r st ≡ 0 → PassesRules geo r st
+  pub rules-pass : (r : Rules) (st : State) → causeBy geo r st ≡ 0 → PassesRules geo r st
   rules-pass (ofBytes own rest) st e =
       let a = passed _ 1 _ (omega arith) e in
       let l = neither _ _ (a .0) in
@@ -293,14 +293,14 @@ rows-2 true b n rest e = rw e
 rows-2 false true n rest e = rw e
 rows-2 false false n rest e = rw e
 
--- rows 1 to 4, and the rest
-rows-4 : (a b c d : Bool) (n rest : ℕ) → n ≡ cond a 1 (cond b 2 (cond c 3 (cond d 4 0)))
-    → cond a 1 (cond b 2 (cond c 3 (cond d 4 rest))) ≡ cond (eqb n 0) rest n
-rows-4 true b c d n rest e = rw e
-rows-4 false true c d n rest e = rw e
-rows-4 false false true d n rest e = rw e
-rows-4 false false false true n rest e = rw e
-rows-4 false false false false n rest e = rw e
+-- rows 1 and 2, two more, and the rest
+rows-4 : (j k : ℕ) (a b c d : Bool) (n rest : ℕ) → n ≡ cond a 1 (cond b 2 (cond c (suc j) (cond d (suc k) 0)))
+    → cond a 1 (cond b 2 (cond c (suc j) (cond d (suc k) rest))) ≡ cond (eqb n 0) rest n
+rows-4 j k true b c d n rest e = rw e
+rows-4 j k false true c d n rest e = rw e
+rows-4 j k false false true d n rest e = rw (e, ne-eqb (suc j) 0 (λ z. omega arith))
+rows-4 j k false false false true n rest e = rw (e, ne-eqb (suc k) 0 (λ z. omega arith))
+rows-4 j k false false false false n rest e = rw e
 
 module _ (geo : Geometry) where
   module _ (st : State) (n : ℕ) (rest : List Row) where
@@ -310,4 +310,8 @@ module _ (geo : Geometry) where
 
     -- abandon has rows 1 to 4 alone: likewise for a call that needs an open record
     pub cause-4 : (own : Bool) → own ≡ false → n ≡ cause geo abandon st → causeBy geo (ofOpen own rest) st ≡ cond (eqb n 0) (first rest st) n
-    cause-4 own block e = rw block (rows-4 (wrongSizes geo st || false) (wrongRecord geo st) (eqb (st .rec .mode) closed) (eqb (st .rec .mode) down) n _ e)
+    cause-4 own block e = rw block (rows-4 2 3 (wrongSizes geo st || false) (wrongRecord geo st) (eqb (st .rec .mode) closed) (eqb (st .rec .mode) down) n _ e)
+
+    -- likewise for a call that needs a closed record
+    pub cause-5 : n ≡ causeBy geo (ofRecord false (downRow ∷ openRow ∷ [])) st → causeBy geo (ofRecord false (downRow ∷ openRow ∷ rest)) st ≡ cond (eqb n 0) (first rest st) n
+    cause-5 e = rows-4 3 4 (wrongSizes geo st || false) (wrongRecord geo st) (eqb (st .rec .mode) down) (eqb (st .rec .mode) openMode) n _ e

@@ -5,3 +5,4 @@ pub mod Commits
 pub mod Lookups
 pub mod Places
 pub mod Saves
+pub mod Costs

@@ -33,11 +33,12 @@ use Rattle.store.specs.declared.record.Record.{Record}
 use Rattle.store.specs.State.{State, Outcome, closed, openMode, down, withMode, withGrouped, withLog, withSave, withQueue, withRecord, cardIn, withCard}
 use Rattle.store.specs.CodeState.{stateOf, outcomeOf}
 use Rattle.store.specs.Lists.{groupFrom, listed}
-use Rattle.store.specs.Request.{Request, power, sync, recover}
-use Rattle.store.specs.Causes.{cause}
+use Rattle.store.specs.Request.{Request, sync, recover}
+use Rattle.store.specs.Causes.{downRow, openRow, foreignRow, unsoundRow, ofRecord, causeBy, cause}
 use Rattle.store.specs.Outcomes.{completed, unless}
 use Rattle.store.specs.Saves.{carried, emptying, groupOf, appending, recovering, applies, savedAs, syncing, recoverCall}
-use Rattle.store.proofs.Causes.{Checked, readsRecord, needsOpen, ownRows, other, cause-passes, passes-sound, cause-2}
+use Rattle.store.proofs.Causes as Causes
+use Rattle.store.proofs.Causes.{Checked, readsRecord, needsOpen, other, rules-pass, cause-passes, passes-sound, cause-5}
 use Rattle.store.proofs.Places.{data-lt}
 
 -- ---- orders that the card carried out
@@ -240,22 +241,25 @@ module _ (geo : Geometry) where
 
   -- ---- recover
 
-  -- its cause, once the rows of the record and of the mode have passed
-  recover-cause : (st : State) (n : ℕ) → n ≡ cause geo (power 0) st → n ≡ 0 → st .rec .mode ≢ down → st .rec .mode ≢ openMode
-      → cause geo recover st ≡ choiceNumber (choose geo (st .rec .blocks) (st .settled))
-  recover-cause st n e z d o =
-      cause-2 geo st n (ownRows geo recover) e ∙ rw (eq-eqb _ _ z, ne-eqb _ _ d, ne-eqb _ _ o) (go (choose geo (st .rec .blocks) (st .settled)))
-    where
-      go : (c : Choice) → cond (eqb (choiceNumber c) 8) 8 (cond (eqb (choiceNumber c) 9) 9 0) ≡ choiceNumber c
-      go (Whole k h c) = refl
-      go (Fallback k h c) = refl
-      go Foreign = refl
-      go Neither = refl
+  -- n: what the rows of the record and of the mode come to
+  module _ (st : State) (n : ℕ) (e : n ≡ causeBy geo (ofRecord false (downRow ∷ openRow ∷ [])) st) where
+    -- they refuse it
+    pub recover-barred : n ≢ 0 → n ≡ cause geo recover st
+    recover-barred z = sym (cause-5 geo st n (foreignRow geo ∷ unsoundRow geo ∷ []) e ∙ rw (ne-eqb _ _ z))
 
-  pub recover-call : (st : State) (n : ℕ) → n ≡ cause geo (power 0) st → n ≡ 0 → st .rec .mode ≢ down → st .rec .mode ≢ openMode
-      → unless (choiceNumber (choose geo (st .rec .blocks) (st .settled))) st (recovering (choose geo (st .rec .blocks) (st .settled)) st) ≡ recoverCall geo st
-  unfolding recoverCall
-  recover-call st n e z d o = ap (λ (k : ℕ). unless k st (recovering (choose geo (st .rec .blocks) (st .settled)) st)) (sym (recover-cause st n e z d o))
+    -- they do not: its cause is that of its choice
+    pub recover-cause : n ≡ 0 → cause geo recover st ≡ choiceNumber (choose geo (st .rec .blocks) (st .settled))
+    recover-cause z = cause-5 geo st n (foreignRow geo ∷ unsoundRow geo ∷ []) e ∙ rw (eq-eqb _ _ z) (go (choose geo (st .rec .blocks) (st .settled)))
+      where
+        go : (c : Choice) → cond (eqb (choiceNumber c) 8) 8 (cond (eqb (choiceNumber c) 9) 9 0) ≡ choiceNumber c
+        go (Whole k h c) = refl
+        go (Fallback k h c) = refl
+        go Foreign = refl
+        go Neither = refl
+
+    pub recover-call : n ≡ 0 → unless (choiceNumber (choose geo (st .rec .blocks) (st .settled))) st (recovering (choose geo (st .rec .blocks) (st .settled)) st) ≡ recoverCall geo st
+    unfolding recoverCall
+    recover-call z = ap (λ (k : ℕ). unless k st (recovering (choose geo (st .rec .blocks) (st .settled)) st)) (sym (recover-cause z))
 
 -- ---- cut
 
@@ -303,6 +307,17 @@ module _ (geo : Geometry) where
     where
       only : (m : ℕ) → m ≤ down → m ≢ closed → m ≢ down → m ≡ openMode
       only m l c d = omega arith
+
+  -- what recover may count on
+  pub record Unopened (st : State) : Type 0 where
+    pub sound : Checked geo st
+    pub waiting : st .rec .waiting ≡ 0
+
+  pub unopened : (st : State) (n : ℕ) → n ≡ causeBy geo (ofRecord false (downRow ∷ openRow ∷ [])) st → n ≡ 0 → Unopened st
+  unopened st n e z =
+      let p = rules-pass geo (ofRecord false (downRow ∷ openRow ∷ [])) st (sym e ∙ z) in
+      let s = Causes.sound geo st (p .sizes) (p .counts) in
+      record { sound = s; waiting = idle st s (eqb-false _ _ (p .own .0)) }
 
   -- a sync of a nonempty group that passes row 12 has a number to give
   pub next-save : (st : State) (n : ℕ) → n ≡ cause geo sync st → n ≡ 0 → st .rec .grouped ≢ 0 → st .rec .save ≢ mostSave

@@ -14,4 +14,5 @@ pub mod Abandon
 pub mod Get
 pub mod Commit
 pub mod Saves
+pub mod Cost
 pub mod Cut

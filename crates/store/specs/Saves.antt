@@ -10,11 +10,13 @@ use Rattle.card.specs.Card.{Order, run}
 use Rattle.journal.specs.Geometry.{Geometry}
 use Rattle.journal.specs.declared.choice.Choice.{Choice}
 use Rattle.journal.specs.Log.{entries, sumOf}
-use Rattle.journal.specs.Orders.{checkpointOrders, appendOrders, syncOrders}
+use Rattle.journal.specs.Orders.{checkpointOrders, appendOrders, applyOrders, syncOrders}
 use Rattle.journal.specs.Choice.{choose, takenCount, takenSum, takenSave, recoverOrders}
 use Rattle.store.specs.declared.record.Record.{Record}
 use Rattle.store.specs.State.{State, Outcome, openMode, down, withMode, withOpened, withGrouped, withLog, withSave, withRecord, cardIn, withCard}
 use Rattle.store.specs.Lists.{groupFrom, listOf}
+use Rattle.store.specs.Save as Save
+use Rattle.store.specs.Save.{Save}
 use Rattle.store.specs.Request.{sync, apply, recover}
 use Rattle.store.specs.Causes.{cause}
 use Rattle.store.specs.Outcomes.{completed, unless}
@@ -53,6 +55,14 @@ module _ (geo : Geometry) where
       (st .rec)
       st
 
+-- ---- the orders of each call, one list computed from the state that it is given
+
+module _ (geo : Geometry) where
+  abbrev pub saveOrders : Save → State → List Order
+  saveOrders Save.sync st = syncOrders geo (st .rec .blocks) (st .settled) (st .rec .logged) (st .rec .sum) (st .rec .save) (groupOf geo st)
+  saveOrders Save.apply st = applyOrders geo (st .rec .blocks) (st .settled) (st .rec .logged) (st .rec .save)
+  saveOrders Save.recover st = recoverOrders (st .rec .blocks) (choose geo (st .rec .blocks) (st .settled))
+
 -- "Done, the mode is open, open and group are empty, n and sum those of the list taken." W-201: "recover hands back in it the number found"
 abbrev pub reopened : ℕ → ℕ → ℕ → Record → Record
 reopened n sum c r = withMode openMode (withOpened 0 (withGrouped 0 (withLog n sum (withSave c r))))
@@ -85,7 +95,7 @@ module _ (geo : Geometry) where
   abbrev pub syncing : State → Outcome
   syncing st =
       let r = metByAppend st in
-      carried (syncOrders geo (st .rec .blocks) (st .settled) (st .rec .logged) (st .rec .sum) (st .rec .save) (groupOf geo st))
+      carried (saveOrders geo Save.sync st)
       (withGrouped 0 (withLog (r .logged + st .rec .grouped) (sumOf (r .sum) (groupOf geo st)) (withSave (savedAs st) r)))
       (cond (leb (length (innerOrders st)) (st .rec .power)) r (st .rec))
       st

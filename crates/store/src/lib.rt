@@ -3,6 +3,7 @@ pub mod abandon;
 pub mod apply;
 mod check;
 pub mod commit;
+pub mod cost;
 pub mod cut;
 pub mod format;
 pub mod get;

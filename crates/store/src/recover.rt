@@ -7,7 +7,8 @@ use journal::choice::Choice;
 use journal::choice::choose;
 use journal::fallback::fallback;
 ghost use mathlib.Core.Path.{_≡_};
-ghost use mathlib.Core.List.{List};
+ghost use mathlib.Core.Bool.{false};
+ghost use mathlib.Core.List.{List, [], _∷_};
 ghost use Prim.Native.Nat.{ℕ, _≤_, _<_};
 ghost use lib.ListN.{length};
 ghost use Rattle.card.specs.Card.{blocksIn};
@@ -15,7 +16,7 @@ ghost use Rattle.journal.specs.Geometry.{trap};
 ghost use Rattle.journal.specs.Layout.{firstData};
 ghost use Rattle.journal.specs.Choice.{choiceNumber};
 ghost use Rattle.store.specs.CodeState.{stateOf, outcomeOf};
-ghost use Rattle.store.specs.Causes.{waitingBytes};
+ghost use Rattle.store.specs.Causes.{waitingBytes, downRow, openRow, ofRecord, causeBy};
 ghost use Rattle.store.specs.Outcomes.{unless};
 ghost use Rattle.store.specs.Saves as Saves;
 ghost use Rattle.store.specs.Saves.{recovering, recoverCall};
@@ -24,18 +25,29 @@ impl Record {
     pub fn recover(self, settled: &mut [u8], waiting: &mut [u8], work: &[u8]) -> Saved
         ensures { λ r. ⌜ outcomeOf (r .number) (r .orders) (r .rec) (now (settled .exit)) (now (waiting .exit)) (now (work .entry)) ≡ recoverCall trap (stateOf self (now (settled .entry)) (now (waiting .entry)) (now (work .entry))) ⌝ }
     {
-        let number = self.bad_record(settled, waiting, work);
+        let number = self.not_closed(settled, waiting, work);
         if number != 0 {
             return self.refused(number);
         }
-        if self.mode == DOWN {
-            return self.refused(4);
-        }
-        if self.mode == OPEN_MODE {
-            return self.refused(5);
-        }
         let choice = choose(settled, self.blocks);
         self.recovered(choice, settled, waiting)
+    }
+
+    // Its cause before the log is read: rows 1, 2, 4 and 5.
+    pub(crate) fn not_closed(self, settled: &[u8], waiting: &[u8], work: &[u8]) -> u32
+        ensures { λ r. ⌜ r ≡ causeBy trap (ofRecord false (downRow ∷ openRow ∷ [])) (stateOf self (now (settled .entry)) (now (waiting .entry)) (now (work .entry))) ⌝ }
+    {
+        let earlier = self.bad_record(settled, waiting, work);
+        if earlier != 0 {
+            return earlier;
+        }
+        if self.mode == DOWN {
+            return 4;
+        }
+        if self.mode == OPEN_MODE {
+            return 5;
+        }
+        0
     }
 
     // By the choice that was made.

@@ -12,6 +12,7 @@ use journal::header::LAST_SAVE;
 ghost use mathlib.Core.Path.{_≡_};
 ghost use mathlib.Core.Logic.{_≢_};
 ghost use Prim.Native.Nat.{ℕ, _+_, _≤_, _<_};
+ghost use lib.Dec.{leb};
 ghost use lib.ListN.{length};
 ghost use Rattle.card.specs.Card.{blocksIn};
 ghost use Rattle.journal.specs.Geometry.{trap};
@@ -36,7 +37,7 @@ impl Record {
     }
 
     // Its cause. Row 12 is tested behind the others: a group that is not empty would have no number.
-    fn sync_number(self, settled: &[u8], waiting: &[u8], work: &[u8]) -> u32
+    pub(crate) fn sync_number(self, settled: &[u8], waiting: &[u8], work: &[u8]) -> u32
         ensures { λ r. ⌜ r ≡ cause trap Request.sync (stateOf self (now (settled .entry)) (now (waiting .entry)) (now (work .entry))) ⌝ }
     {
         let earlier = self.not_open(settled, waiting, work);
@@ -65,7 +66,7 @@ impl Record {
         if self.grouped == 0 {
             return self;
         }
-        if self.logged + self.grouped <= SLOTS {
+        if self.fits() {
             return self.appended(settled, waiting, work);
         }
         let emptied = self.emptied(settled, waiting);
@@ -73,6 +74,14 @@ impl Record {
             return emptied;
         }
         emptied.appended(settled, waiting, work)
+    }
+
+    // Whether the log has room for the group; if not, an apply comes first.
+    pub(crate) fn fits(self) -> bool
+        requires { ⌜ (self .grouped ≤ trap .slots) × (self .logged ≤ trap .slots) ⌝ }
+        ensures { λ r. ⌜ r ≡ leb (self .logged + self .grouped) (trap .slots) ⌝ }
+    {
+        self.logged + self.grouped <= SLOTS
     }
 
     // Its own part: the group behind the record's log, and the next save number.

@@ -15,14 +15,18 @@ use Rattle.store.specs.CodeState.{stateOf}
 use Rattle.store.specs.Request as Request
 use Rattle.store.specs.Causes.{cause}
 use Rattle.store.specs.Get.{getPlace}
+use Rattle.store.specs.Save.{Save}
+use Rattle.store.specs.declared.cost.Cost.{Cost}
+use Rattle.store.specs.Cost.{costOf}
+use Rattle.store.proofs.Costs.{cost-refused, cost-served}
 use Rattle.inspect.specs.Reading.{chosen, inspection}
 use Rattle.inspect.specs.Tally.{tallyOf}
 use Rattle.inspect.specs.Alike.{alikeOf}
-use Rattle.firmware.specs.Face.{decodeRecord, faceOf, handed, gotOf, gotIn, compared}
+use Rattle.firmware.specs.Face.{decodeRecord, faceOf, handed, gotOf, gotIn, told, compared}
 use Rattle.firmware.proofs.Records.{encode-decode}
-use Rattle.firmware.proofs.Faces.{faced-length, faced-outcome, got-length, got-place}
+use Rattle.firmware.proofs.Faces.{faced-length, faced-outcome, got-length, got-place, asked-length, asked-cost}
 use Rattle.history.specs.Dispatch.{called}
-use Rattle.history.specs.Refusals.{NoPart, Inspects, Reads, Faces, Gets, Answers}
+use Rattle.history.specs.Refusals.{NoPart, Inspects, Reads, Faces, Gets, Asks, Answers}
 
 -- ---- tally and alike
 
@@ -87,3 +91,16 @@ module _ (geo : Geometry) where
 
       nowhere : cause geo (Request.get a) st ≢ 0 → gotIn geo a st ≡ gotOf (cause geo (Request.get a) st) 0 0
       nowhere h = rw (ne-eqb (cause geo (Request.get a) st) 0 h)
+
+  pub asks : (c : Save) (r s w k : List ℕ) → Asks geo c r s w k
+  asks c r s w k = record {
+    size = λ h. sym (asked-length (costOf geo c) r s w k h);
+    refuses = λ l h. sym (asked-cost (costOf geo c) r s w k l) ∙ ap told (sym (cost-refused geo (stateOf (decodeRecord r) s w k) c _ refl h));
+    serves = λ l e. sym (asked-cost (costOf geo c) r s w k l) ∙ (λ j. record { number = done e j; orders = x .orders; applies = cond (x .applies) 1 0; peak = x .peak; reaches = cond (x .reaches) 1 0 });
+  }
+    where
+      x : Cost
+      x = costOf geo c (stateOf (decodeRecord r) s w k)
+
+      done : cause geo (Request.save c) (stateOf (decodeRecord r) s w k) ≡ 0 → x .number ≡ 0
+      done e = ap (λ (y : Cost). y .number) (sym (cost-served geo (stateOf (decodeRecord r) s w k) c 0 (sym e) refl))

@@ -15,6 +15,7 @@ use Rattle.journal.specs.Geometry.{Geometry}
 use Rattle.journal.specs.Log.{entries}
 use Rattle.journal.proofs.Logs.{sumOf-lt}
 use Rattle.store.specs.declared.record.Record.{Record}
+use Rattle.store.specs.declared.cost.Cost.{Cost}
 use Rattle.store.specs.Local as Local
 use Rattle.store.specs.Local.{Local}
 use Rattle.store.specs.Save as Save
@@ -26,11 +27,12 @@ use Rattle.store.specs.Causes.{cause}
 use Rattle.store.specs.Outcomes.{refused}
 use Rattle.store.specs.Format.{formatted, formatCall}
 use Rattle.store.specs.Saves.{carried, applies, metByAppend, innerOrders, syncing}
+use Rattle.store.specs.Cost.{costOf}
 use Rattle.store.proofs.Saves.{apply-carried}
 use Rattle.store.proofs.Causes.{sizes-facts}
-use Rattle.firmware.specs.Face.{recordBytes, decodeRecord, Face, faceOf, faced, handed, Got, gotIn, got}
+use Rattle.firmware.specs.Face.{recordBytes, decodeRecord, Face, faceOf, faced, handed, Got, gotIn, got, told, asked}
 use Rattle.firmware.proofs.Records.{length-encode, Fitting, decode-encode}
-use Rattle.firmware.proofs.Faces.{faced-length, faced-outcome, got-place}
+use Rattle.firmware.proofs.Faces.{faced-length, faced-outcome, got-place, asked-cost}
 use Rattle.history.specs.Call.{Call, requestOf, local, save, cut, power, get, ofGet}
 use Rattle.history.specs.Plain.{Plain, Done, refusal, locally, served, plainStep, plainCut}
 use Rattle.history.specs.Dispatch.{called, dispatch}
@@ -219,6 +221,10 @@ module _ (geo : Geometry) where
   got-next : (f : Face) (st : State) → BytesOf f st → Fitting (st .rec) → (a : ℕ) → got geo a (f .rec) (f .settled) (f .waiting) (f .work) ≡ gotIn geo a st
   got-next f st h t a = sym (got-place geo a (f .rec) (f .settled) (f .waiting) (f .work) (sized f st h)) ∙ ap (gotIn geo a) (held f st h t)
 
+-- an inquiry that is lent them
+asked-next : (cost : State → Cost) (f : Face) (st : State) → BytesOf f st → Fitting (st .rec) → asked cost (f .rec) (f .settled) (f .waiting) (f .work) ≡ told (cost st)
+asked-next cost f st h t = sym (asked-cost cost (f .rec) (f .settled) (f .waiting) (f .work) (sized f st h)) ∙ ap (λ (x : State). told (cost x)) (held f st h t)
+
 -- what was handed out holds what was left
 handed-holds : (o : Outcome) (f : Face) → f ≡ handed o → BytesOf f (o .state)
 handed-holds o f e = record { rec = ap (λ (x : Face). x .rec) e; settled = ap (λ (x : Face). x .settled) e; waiting = ap (λ (x : Face). x .waiting) e; work = ap (λ (x : Face). x .work) e }
@@ -262,7 +268,7 @@ module _ (geo : Geometry) where
       let s : Same c st (faceNext geo c f) =
       of-get (Same c st) c _ _ (λ a e. subst (λ (x : Call). Same x st (faceNext geo (get a) f)) (sym e) (same-got a f st h t))
       (same-handed c st _ (faced-next (dispatch geo c) f st h t)) in
-      record { number = s .number; orders = s .orders; place = got-next geo f st h t; left = s .left }
+      record { number = s .number; orders = s .orders; place = got-next geo f st h t; figures = λ q. asked-next (costOf geo q) f st h t; left = s .left }
 
   -- ---- a list of calls
 

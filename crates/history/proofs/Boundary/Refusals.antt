@@ -29,10 +29,10 @@ use Rattle.journal.specs.Choice.{choose, recoverOrders}
 use Rattle.journal.proofs.Logs.{from-whole, entries-whole}
 use Rattle.journal.proofs.Choices.{both}
 use Rattle.journal.proofs.Headers.{length-encode}
-use Rattle.journal.proofs.OrderLists.{headerEntry, appendWrites, append-writes, checkpoint-writes, fallback-writes, length-fallback}
+use Rattle.journal.proofs.OrderLists.{headerEntry, appendWrites, append-writes, checkpoint-writes, fallback-writes, length-fallback, length-append-writes}
 use Rattle.crash.proofs.Batches.{batch, Room, no-queue, queued-short, queued-done}
 use Rattle.crash.proofs.Plans.{Plan, planned, planned-append}
-use Rattle.crash.proofs.Appends.{length-append-writes, writes-whole, writes-below}
+use Rattle.crash.proofs.Appends.{writes-whole, writes-below}
 use Rattle.store.specs.declared.record.Record.{Record}
 use Rattle.store.specs.State.{State, Outcome, down, withMode, withLog, withRecord, cardIn, withCard}
 use Rattle.store.specs.Lists.{groupFrom, listed}

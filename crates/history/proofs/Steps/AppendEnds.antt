@@ -17,14 +17,14 @@ use Rattle.journal.specs.Layout.{headerAt}
 use Rattle.journal.specs.Header.{encode, header}
 use Rattle.journal.specs.Log.{entries, sumOf}
 use Rattle.journal.proofs.Logs.{sumOf-append}
-use Rattle.journal.proofs.OrderLists.{appendWrites}
+use Rattle.journal.proofs.OrderLists.{appendWrites, length-append-writes}
 use Rattle.crash.proofs.Batches.{Left}
 use Rattle.crash.proofs.CallCuts as CallCuts
 use Rattle.crash.proofs.CallCuts.{append-cuts, append-cuts-lost, append-cuts-new, append-cuts-old, append-cuts-kept, append-cuts-whole}
 use Rattle.crash.proofs.Cards.{Every, WholeCard, append-head}
 use Rattle.crash.proofs.Leads.{Leads, Appending, ownPlace, foundIn}
 use Rattle.crash.proofs.Logs.{slotE, logD, entries-disk}
-use Rattle.crash.proofs.Appends.{length-append-writes, writes-whole, writes-below}
+use Rattle.crash.proofs.Appends.{writes-whole, writes-below}
 use Rattle.history.specs.Plain.{ownVerdict}
 use Rattle.history.specs.Ledger.{sameLog}
 use Rattle.history.proofs.Relation.PlainLaws.{own-lost, own-new, own-other}

@@ -23,12 +23,11 @@ use Rattle.journal.specs.Header.{mostSave, encode, header}
 use Rattle.journal.specs.Log.{entries, sumOf}
 use Rattle.journal.specs.Orders.{syncOrders}
 use Rattle.journal.proofs.Logs.{sumOf-nil}
-use Rattle.journal.proofs.OrderLists.{appendWrites}
+use Rattle.journal.proofs.OrderLists.{appendWrites, length-append-writes}
 use Rattle.crash.proofs.Batches.{Left}
 use Rattle.crash.proofs.Cards.{Every, WholeCard}
 use Rattle.crash.proofs.Leads.{foundIn}
 use Rattle.crash.proofs.Logs.{logD}
-use Rattle.crash.proofs.Appends.{length-append-writes}
 use Rattle.store.specs.Request as Request
 use Rattle.store.specs.declared.record.Record.{Record}
 use Rattle.store.specs.State.{State, Outcome, withGrouped, withLog, withSave, cardIn}

@@ -18,11 +18,10 @@ use Rattle.journal.specs.Geometry.Laws.{trap-descriptors}
 use Rattle.journal.specs.Layout.{descriptorAt}
 use Rattle.journal.specs.Header.{mostSave}
 use Rattle.journal.specs.Log.{entries}
-use Rattle.journal.proofs.OrderLists.{appendWrites}
+use Rattle.journal.proofs.OrderLists.{appendWrites, length-append-writes}
 use Rattle.crash.proofs.Batches.{Left}
 use Rattle.crash.proofs.Leads.{foundIn}
 use Rattle.crash.proofs.Logs.{slotE, logD}
-use Rattle.crash.proofs.Appends.{length-append-writes}
 use Rattle.store.specs.State.{Outcome, down, withMode, withRecord, withCard, cardIn}
 use Rattle.store.specs.Saves.{groupOf, applies}
 use Rattle.history.specs.Call.{sync}
