@@ -1,6 +1,5 @@
 -- `store::cost::Cost::refusal` meets its contract.
 use mathlib.Core.Path.{refl}
-use borrow.Author.Needs.{needs}
 use Rattle.store.proofs.cost.Cost.refusal.Statement.{statement}
 use Rattle.store.proofs.cost.Cost.refusal.Tie as tie
 

@@ -1,6 +1,5 @@
 -- `store::record::Record::cost` meets its contract.
 use mathlib.Core.Path.{refl}
-use borrow.Author.Needs.{needs}
 use Rattle.store.proofs.record.Record.cost.Statement.{statement}
 use Rattle.store.proofs.record.Record.cost.Tie as tie
 

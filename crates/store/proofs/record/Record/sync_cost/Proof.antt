@@ -1,5 +1,5 @@
 -- `store::record::Record::sync_cost` meets its contract.
-use Prim.Native.Nat.{ℕ, _+_, _≤_, _<_, max}
+use Prim.Native.Nat.{ℕ, _+_, _≤_, _<_}
 use mathlib.Core.Path.{_≡_, refl, sym, _∙_}
 use mathlib.Core.Bool.{Bool}
 use native.Mathlib.Omega.{arith}
@@ -9,7 +9,6 @@ use Rattle.store.specs.State.{State}
 use Rattle.store.specs.CodeState.{stateOf}
 use Rattle.store.specs.Save as Save
 use Rattle.store.specs.Request.{sync}
-use Rattle.store.specs.Cost.{costOf}
 use Rattle.store.proofs.Saves.{Ready, ready}
 use Rattle.store.proofs.Costs.{served, sync-cost-none, sync-cost-room, sync-cost-full, cost-refused, cost-served}
 use borrow.Author.Needs.{needs}
