@@ -50,7 +50,9 @@ module _ (geo : Geometry) where
   forget : (f : Progress) (w : World) → Watched f w → Watched (stillUndecided f) w
   forget (known quiet) w x = x
   forget (known (decided G laid all)) w x =
-      (outcome (decided G laid all) (x .0), _⊎_.inr (record { mode = x .1 .mode; S = x .1 .S; laid = x .1 .laid; whole = tt }))
+      let old = outcome (decided G laid all) (x .0) in
+      let rest : Watch geo old (known quiet) (w .store) (w .ledger) (w .plain) = _⊎_.inr (record { mode = x .1 .mode; S = x .1 .S; laid = x .1 .laid; whole = tt }) in
+      (old, rest)
   forget (undecided G place made) w x = x
 
   -- the call lays a group exactly if it is a finished sync of one, or a cut that made one new

@@ -37,22 +37,22 @@ use Rattle.store.proofs.Costs as Costs
 use Rattle.history.specs.Dispatch.{called}
 use Rattle.history.specs.Costs.{madeWith, ApplyFirst, Foretold, Foretells, Takes, ClosedForms}
 use Rattle.history.proofs.Relation.CauseLaws.{idle, record-facts, cause-passes, cause-opened}
-use Rattle.history.proofs.Relation.Forms.{called-refused}
+use Rattle.history.proofs.Relation.Forms.{called-refused, apply-other, recover-other}
 use Rattle.history.proofs.Steps.CallEnds.{carried-done, carried-short}
 
 module _ (geo : Geometry) where
   -- ---- the power plays no part in what refuses a call, nor in its orders
 
-  same-cause : (c : Save) (k : ℕ) (st : State) → cause geo (save c) (powered k st) ≡ cause geo (save c) st
+  cause-powered : (c : Save) (k : ℕ) (st : State) → cause geo (save c) (powered k st) ≡ cause geo (save c) st
   unfolding wrongSizes wrongCounts wrongWaiting wrongLists
-  same-cause Save.sync k st = refl
-  same-cause Save.apply k st = refl
-  same-cause Save.recover k st = refl
+  cause-powered Save.sync k st = refl
+  cause-powered Save.apply k st = refl
+  cause-powered Save.recover k st = refl
 
-  same-orders : (c : Save) (k : ℕ) (st : State) → saveOrders geo c (powered k st) ≡ saveOrders geo c st
-  same-orders Save.sync k st = refl
-  same-orders Save.apply k st = refl
-  same-orders Save.recover k st = refl
+  orders-powered : (c : Save) (k : ℕ) (st : State) → saveOrders geo c (powered k st) ≡ saveOrders geo c st
+  orders-powered Save.sync k st = refl
+  orders-powered Save.apply k st = refl
+  orders-powered Save.recover k st = refl
 
   -- ---- a call that nothing refuses carries out its orders
 
@@ -86,12 +86,6 @@ met-logged : (t : Bool) (r : Record) → cond t (withLog 0 start r) r .logged �
 met-logged true r = refl
 met-logged false r = refl
 
-apply-other : Save.apply ≡ Save.sync → ⊥
-apply-other e = let z : _≡_ {A = ℕ} 0 1 = cc in omega arith
-
-recover-other : Save.recover ≡ Save.sync → ⊥
-recover-other e = let z : _≡_ {A = ℕ} 0 1 = cc in omega arith
-
 module _ (geo : Geometry) where
   module _ (c : Save) (st : State) (z : cause geo (save c) st ≡ 0) where
     abbrev os : List Order
@@ -104,10 +98,10 @@ module _ (geo : Geometry) where
     -- with whatever power
     shows : (k : ℕ) → Carried os (powered k st) (madeWith geo k c st)
     shows k =
-        let z′ : cause geo (save c) (powered k st) ≡ 0 = same-cause geo c k st ∙ z in
+        let z′ : cause geo (save c) (powered k st) ≡ 0 = cause-powered geo c k st ∙ z in
         let (done, gone, e) = carries geo c (powered k st) in
         subst (Carried os (powered k st))
-        (sym (e ∙ sym (call-done _ _ _ _ refl z′) ∙ ap (λ (l : List Order). carried l done gone (powered k st)) (same-orders geo c k st)))
+        (sym (e ∙ sym (call-done _ _ _ _ refl z′) ∙ ap (λ (l : List Order). carried l done gone (powered k st)) (orders-powered geo c k st)))
         (carried-shows os done gone (powered k st))
 
     waits : (k : ℕ) → madeWith geo k c st .state .rec .waiting ≡ run os (cardIn (powered k st)) .count
@@ -172,15 +166,15 @@ module _ (geo : Geometry) where
       let r = metByAppend geo q in
       let done = withGrouped 0 (withLog (r .logged + st .rec .grouped) (sumOf (r .sum) (groupOf geo st)) (withSave (savedAs st) r)) in
       let gone = cond (leb (length (innerOrders geo q)) k) r (q .rec) in
-      ap (λ (o : Outcome). o .state .rec .logged) (sym (call-done _ _ q (syncing geo q) refl (same-cause geo Save.sync k st ∙ z)) ∙ carried-done (saveOrders geo Save.sync st) done gone q h)
+      ap (λ (o : Outcome). o .state .rec .logged) (sym (call-done _ _ q (syncing geo q) refl (cause-powered geo Save.sync k st ∙ z)) ∙ carried-done (saveOrders geo Save.sync st) done gone q h)
       ∙ ap (λ (n : ℕ). n + st .rec .grouped) (met-logged (applies geo st) (powered k st .rec))
       ∙ ap (λ (t : Bool). cond t 0 (st .rec .logged) + st .rec .grouped) (sym (Costs.sync-first geo st))
 
   log : (c : Save) (st : State) → c ≡ Save.sync → (k : ℕ) → cause geo (save c) st ≡ 0 → length (saveOrders geo c st) ≤ k
       → madeWith geo k c st .state .rec .logged ≡ cond (checkpointFirst (saveOrders geo c st)) 0 (st .rec .logged) + st .rec .grouped
   log Save.sync st e k z h = sync-log st k z h
-  log Save.apply st e k z h = absurd (apply-other e)
-  log Save.recover st e k z h = absurd (recover-other e)
+  log Save.apply st e k z h = absurd (apply-other (ap save e))
+  log Save.recover st e k z h = absurd (recover-other (ap save e))
 
   foretold : (c : Save) (st : State) → cause geo (save c) st ≡ 0 → Foretold geo c st
   foretold c st z =
@@ -203,7 +197,7 @@ module _ (geo : Geometry) where
   pub foretells : (c : Save) (st : State) → Foretells geo c st
   foretells c st = record {
     refuses = λ h k.
-        let turned : madeWith geo k c st ≡ refused (cause geo (save c) st) (powered k st) = called-refused geo (save c) (powered k st) (λ e. h (sym (same-cause geo c k st) ∙ e)) ∙ ap (λ (n : ℕ). refused n (powered k st)) (same-cause geo c k st) in
+        let turned : madeWith geo k c st ≡ refused (cause geo (save c) st) (powered k st) = called-refused geo (save c) (powered k st) (λ e. h (sym (cause-powered geo c k st) ∙ e)) ∙ ap (λ (n : ℕ). refused n (powered k st)) (cause-powered geo c k st) in
         (sym (Costs.cost-refused geo st c _ refl h) ∙ ap noFigures (sym (ap (λ (o : Outcome). o .answer) turned)), turned);
     serves = foretold c st;
   }

@@ -27,7 +27,7 @@ use Rattle.journal.proofs.OrderLists.{length-checkpoint}
 use Rattle.store.specs.declared.record.Record.{Record}
 use Rattle.store.specs.Local as Local
 use Rattle.store.specs.Save as Save
-use Rattle.store.specs.Request.{Request, format, local, save, cut, get, sync, apply}
+use Rattle.store.specs.Request.{Request, format, local, save, cut, get, sync, apply, recover}
 use Rattle.store.specs.State.{State, Outcome, withLog, withGrouped, withSave, cardIn}
 use Rattle.store.specs.Lists.{openFrom, groupFrom, listed, find}
 use Rattle.store.specs.Causes.{cause}
@@ -157,10 +157,11 @@ module _ (geo : Geometry) where
       go true = ap (λ (k : ℕ). cond (leb k (st .rec .power)) (withLog 0 start (st .rec)) (st .rec)) (length-checkpoint N c log ∙ ap (λ (k : ℕ). k + 3) (length-upTo (slotEntry geo (st .settled)) (st .rec .logged)))
       go false = either (leb 0 (st .rec .power))
 
-apply-other : apply ≡ sync → ⊥
+-- neither is a sync
+pub apply-other : apply ≡ sync → ⊥
 apply-other e = let z : _≡_ {A = ℕ} 0 1 = cc in omega arith
 
-recover-other : Rattle.store.specs.Request.recover ≡ sync → ⊥
+pub recover-other : recover ≡ sync → ⊥
 recover-other e = let z : _≡_ {A = ℕ} 0 1 = cc in omega arith
 
 module _ (geo : Geometry) where
