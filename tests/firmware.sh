@@ -1,6 +1,6 @@
 #!/usr/bin/env bash
 # The C library: all its functions are called through the header; its example is built against the archive, run, held to its
-# output and run under valgrind; the stack frames of the archive are measured.
+# output and run under valgrind; the stack frames of the archive are measured, and its sum is looked through for products.
 set -euo pipefail
 cd "$(dirname "$0")/.."
 
@@ -26,3 +26,8 @@ echo "firmware: the example saved whole, and valgrind found nothing"
 largest=$(bash tests/frames.sh "$archive")
 echo "firmware: the largest stack frame has $largest bytes"
 ((largest <= 2048))
+
+sum=$(objdump -d --disassemble=fnv::sum_from "$archive")
+grep -q 'ret' <<<"$sum"
+if grep -E 'mul|call' <<<"$sum"; then exit 1; fi
+echo "firmware: the sum is there, and nothing in it multiplies or calls"

@@ -14,6 +14,7 @@ sys.path.insert(0, str(pathlib.Path(__file__).resolve().parent.parent / "tools")
 from declarations import declared, filed, imported, promised, trouble, words
 
 ITEM = re.compile(r"\b(?:use|mod|const|struct|enum|impl|fn)\b")
+CONSTANT = re.compile(r"^(?:pub(?:\(crate\))? )?const (\w+).*(?:\n(?: .*|\];))*", re.M)
 HEAD = re.compile(r"^( *)(?:pub(?:\(crate\))? )?(?:extern \"C\" )?fn (\w+)|^impl (\w+) \{$", re.M)
 
 
@@ -126,5 +127,5 @@ class Reach:
         for proof, start, begin, end in functions(self.crate, file):
             if start <= at < end:
                 return {(file, proof)} if at >= begin else self.contract(file, proof)
-        name = re.match(r"(?:pub(?:\(crate\))? )?const (\w+)", text[text.rfind("\n", 0, at) + 1:])
-        return {(file, name[1])} if name else mine
+        constants = {c[1] for c in CONSTANT.finditer(text) if c.start() <= at < c.end()}
+        return {(file, name) for name in constants} or mine

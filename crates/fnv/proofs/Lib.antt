@@ -1,3 +1,4 @@
--- The laws of the checksum, which callers cite, and the arithmetic of its product.
+-- The laws of the checksum, which callers cite; the rule of its table, and the arithmetic of its product.
 pub mod Laws
-mod Product
+mod Table
+mod Parts

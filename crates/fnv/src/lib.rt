@@ -1,4 +1,6 @@
 // FNV-1a 64, with a product of its own that wraps.
+mod product;
+
 ghost use mathlib.Core.Path.{_≡_};
 ghost use Prim.Native.Nat.{_*_, _%_, _^_};
 ghost use Rattle.fnv.specs.Fnv.{prime, step as Fnv·step, sumFrom};
@@ -6,24 +8,11 @@ ghost use Rattle.fnv.specs.Fnv.{prime, step as Fnv·step, sumFrom};
 // The sum of no bytes.
 pub const START: u64 = 14695981039346656037;
 
-// a * b, modulo 2^64, from halves of 32 bits. The product of the upper halves lies past bit 63,
-// and of the two cross products only the low half counts.
-pub fn mul_wrap(a: u64, b: u64) -> u64
-    ensures { λ r. ⌜ r ≡ (a * b) % 2 ^ 64 ⌝ }
-{
-    let a0 = a % 4294967296;
-    let a1 = a / 4294967296;
-    let b0 = b % 4294967296;
-    let b1 = b / 4294967296;
-    let cross = std::num::wrapping_add_u64(a1 * b0, a0 * b1);
-    std::num::wrapping_add_u64(a0 * b0, cross << 32)
-}
-
-// a times the factor, which is 2^40 + 435, modulo 2^64. Split so, it compiles to one multiplication.
+// a times the factor, which is 2^40 and the low part, modulo 2^64. The high part is a shift.
 fn mul_prime(a: u64) -> u64
     ensures { λ r. ⌜ r ≡ (a * prime) % 2 ^ 64 ⌝ }
 {
-    std::num::wrapping_add_u64(mul_wrap(a, 435), a << 40)
+    std::num::wrapping_add_u64(product::mul_wrap(a), a << 40)
 }
 
 // One more byte: xor it in, then multiply.
