@@ -17,8 +17,8 @@ entry f i (suc n) zero l = ap f (sym (add-zero i))
 entry f i (suc n) (suc k) l = entry f (suc i) n k (omega arith) ∙ ap f (suc-add i k ∙ sym (add-suc i k))
 
 -- The sixteen multiples. This computes to the numbers that the code's table has.
-abbrev pub multiples : List ℕ
+abbrev multiples : List ℕ
 multiples = tableFrom (λ i. i * low) 0 16
 
 pub rule : Multiples multiples
-rule k l = entry (λ i. i * low) 0 16 k l ∙ ap (λ (i : ℕ). i * low) (zero-add k)
+rule k l = entry (λ i. i * low) 0 16 k (omega arith) ∙ ap (λ (i : ℕ). i * low) (zero-add k)
