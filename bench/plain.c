@@ -1,5 +1,5 @@
-/* The card store in plain C, written from document 01, with W-201 of document 02, and not from the Rattle sources: what the bench
- * measures the store against. It makes the same checks (rows 1 to 10 and 12 of the table of causes) and leaves the same bytes. */
+/* The card store in plain C, written from document 01, with W-201 and W-204 of document 02, and not from the Rattle sources: what the
+ * bench measures the store against. It makes the same checks (rows 1 to 10 and 12 of the table of causes) and leaves the same bytes. */
 #include "plain.h"
 
 #include <stdbool.h>
@@ -405,6 +405,29 @@ uint32_t plain_abandon(uint8_t *record, size_t record_len, const uint8_t *settle
     return number;
 }
 
+/* Row 10: marks not 512 for each waiting write, one over 1, or those of a write to block 0 unlike. */
+static bool wrong_marks(const struct record *r, const uint8_t *waiting, const uint8_t *marks, size_t marks_len)
+{
+    if (marks_len != (size_t)BLOCK * r->waiting)
+        return true;
+    for (size_t i = 0; i < marks_len; i++)
+        if (marks[i] > 1)
+            return true;
+    for (uint32_t i = 0; i < r->waiting; i++, marks += BLOCK)
+        if (load32(waiting + ENTRY * (size_t)i) == 0 && memcmp(marks, marks + 1, BLOCK - 1) != 0)
+            return true;
+    return false;
+}
+
+/* The kept bytes of a waiting write. */
+static void tear(uint8_t *settled, const uint8_t *entry, const uint8_t *marks)
+{
+    uint8_t *block = settled + (size_t)BLOCK * load32(entry);
+    for (size_t j = 0; j < BLOCK; j++)
+        if (marks[j])
+            block[j] = entry[4 + j];
+}
+
 uint32_t plain_cut(uint8_t *record, size_t record_len, uint8_t *settled, size_t settled_len, const uint8_t *waiting,
                    size_t waiting_len, const uint8_t *work, size_t work_len, const uint8_t *marks, size_t marks_len)
 {
@@ -415,14 +438,10 @@ uint32_t plain_cut(uint8_t *record, size_t record_len, uint8_t *settled, size_t 
     uint32_t number = bad_record(&r, &l);
     if (number != TRAPCARD_DONE)
         return number;
-    if (marks_len != r.waiting)
+    if (wrong_marks(&r, waiting, marks, marks_len))
         return TRAPCARD_ERR_MARKS;
-    for (size_t i = 0; i < marks_len; i++)
-        if (marks[i] > 1)
-            return TRAPCARD_ERR_MARKS;
-    for (size_t i = 0; i < marks_len; i++)
-        if (marks[i])
-            settle(settled, waiting + ENTRY * i);
+    for (size_t i = 0; i < r.waiting; i++)
+        tear(settled, waiting + ENTRY * i, marks + BLOCK * i);
     struct record shut = {.mode = TRAPCARD_MODE_CLOSED, .blocks = r.blocks, .power = r.power, .sum = TRAPCARD_EMPTY_SUM};
     encode(record, &shut);
     return TRAPCARD_DONE;

@@ -1,5 +1,6 @@
 #include "side.h"
 
+#include <stdbool.h>
 #include <stdio.h>
 #include <stdlib.h>
 #include <string.h>
@@ -56,17 +57,33 @@ static uint32_t draw(uint32_t below)
 /* A call's kind and its arguments, drawn once and given to both. */
 struct drawn {
     uint32_t kind, address, value, power;
-    size_t marks;
-    uint8_t block[TRAPCARD_BLOCK], mark[TRAPCARD_PLACES];
+    size_t marks_len;
+    uint8_t block[TRAPCARD_BLOCK], marks[TRAPCARD_PLACES * TRAPCARD_BLOCK];
 };
+
+/* The marks of a write: all kept or all lost, mostly so the last, which may be a header; up to a byte one way and behind it the other;
+ * or any. Now and then a mark is over 1. */
+static void draw_marks(uint8_t *marks, bool last)
+{
+    uint32_t kind = draw(last ? 16 : 4), at = draw(TRAPCARD_BLOCK);
+    memset(marks, (int)draw(2), TRAPCARD_BLOCK);
+    if (kind == 0)
+        memset(marks, (int)draw(2), at);
+    else if (kind == 1)
+        for (size_t j = 0; j < TRAPCARD_BLOCK; j++)
+            marks[j] = (uint8_t)draw(2);
+    if (draw(64) == 0)
+        marks[at] = 2;
+}
 
 static struct drawn draw_call(uint32_t waiting)
 {
-    struct drawn d = {.kind = draw(24), .address = 33 + draw(SMALL - 32), .power = draw(40)};
+    struct drawn d = {.kind = draw(24), .address = 33 + draw(SMALL - 32), .power = draw(draw(2) ? 40 : 6)};
     memset(d.block, (int)draw(256), sizeof d.block);
-    d.marks = draw(8) ? waiting % (TRAPCARD_PLACES + 1) : draw(TRAPCARD_PLACES + 1);
-    for (size_t i = 0; i < d.marks; i++)
-        d.mark[i] = (uint8_t)(draw(64) ? draw(2) : 2);
+    size_t writes = draw(8) ? waiting % (TRAPCARD_PLACES + 1) : draw(TRAPCARD_PLACES + 1);
+    d.marks_len = TRAPCARD_BLOCK * writes - (writes > 0 && draw(16) == 0);
+    for (size_t i = 0; i < writes; i++)
+        draw_marks(d.marks + TRAPCARD_BLOCK * i, i + 1 == writes);
     return d;
 }
 
@@ -76,7 +93,7 @@ static void give(struct side *s, const struct drawn *d)
     switch (d->kind) {
     case 0: s->number = c->power(CARD(s), d->power); break;
     case 1: s->number = c->abandon(CARD(s)); break;
-    case 2: case 3: s->number = c->cut(CARD(s), d->mark, d->marks); break;
+    case 2: case 3: s->number = c->cut(CARD(s), d->marks, d->marks_len); break;
     case 4: case 5: case 6: s->number = c->recover(CARD(s), &s->orders); break;
     case 7: s->number = c->apply(CARD(s), &s->orders); break;
     case 8: case 9: case 10: s->number = c->sync(CARD(s), &s->orders); break;

@@ -14,8 +14,11 @@ static uint32_t walk(uint32_t step)
 }
 
 static const uint8_t block[TRAPCARD_BLOCK] = {1, 2, 3};
-static const uint8_t all_kept[TRAPCARD_PLACES] = {1, 1, 1, 1, 1, 1, 1, 1, 1, 1, 1, 1, 1, 1, 1, 1, 1,
-                                                  1, 1, 1, 1, 1, 1, 1, 1, 1, 1, 1, 1, 1, 1, 1, 1, 1};
+
+/* The marks of a cut of 34 writes, the last one to block 0: all kept, and all others torn. */
+enum { MARKS = TRAPCARD_PLACES * TRAPCARD_BLOCK };
+static const uint8_t all_kept[MARKS] = {[0 ... MARKS - 1] = 1};
+static uint8_t others_torn[MARKS];
 
 static void must(uint32_t number, const char *call)
 {
@@ -43,8 +46,15 @@ static void leave_waiting(struct side *s)
     s->calls->sync(CARD(s), &s->orders);
 }
 
+static void fill_torn(void)
+{
+    for (size_t i = 0; i < MARKS; i++)
+        others_torn[i] = i < MARKS - TRAPCARD_BLOCK ? (uint8_t)(i * 2654435761u >> 13 & 1) : 1;
+}
+
 void prepare(const struct task *t, struct side *s)
 {
+    fill_torn();
     must(s->calls->format(CARD(s)), "format");
     for (size_t i = TRAPCARD_FIRST * TRAPCARD_BLOCK; i < s->settled_len; i++)
         s->settled[i] = (uint8_t)(i * 2654435761u >> 13);
@@ -144,9 +154,14 @@ static void recover(struct side *s)
     s->number = s->calls->recover(CARD(s), &s->orders);
 }
 
-static void cut(struct side *s)
+static void cut_kept(struct side *s)
 {
     s->number = s->calls->cut(CARD(s), all_kept, sizeof all_kept);
+}
+
+static void cut_torn(struct side *s)
+{
+    s->number = s->calls->cut(CARD(s), others_torn, sizeof others_torn);
 }
 
 static void tally(struct side *s)
@@ -187,7 +202,8 @@ const struct task tasks[] = {
     {"sync of 32, apply of 32 first", 0, 32, 32, 0, OPEN, sync, DESCRIPTOR},
     {"apply of 32", 0, 0, 32, 0, OPEN, apply, RECORD},
     {"recover, log full", 0, 0, 32, 0, CLOSED, recover, RECORD},
-    {"cut, 34 kept", 0, 0, 0, 0, DOWN, cut, RECORD},
+    {"cut, 34 kept", 0, 0, 0, 0, DOWN, cut_kept, RECORD},
+    {"cut, 33 torn", 0, 0, 0, 0, DOWN, cut_torn, RECORD},
     {"tally, log full, N = 4,096", 0, 0, 32, 0, OPEN, tally, NOTHING},
     {"tally, log empty, N = 4,096", 0, 0, 0, 0, OPEN, tally, NOTHING},
     {"alike, logs full, N = 4,096", 0, 0, 32, 0, OPEN, alike, NOTHING},

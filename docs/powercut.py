@@ -2,14 +2,18 @@
 
 usage: python3 -B docs/powercut.py >docs/powercut.svg
 
-A row is a power, a cell a set of kept writes. Fails if a cell is neither old nor new."""
+A row is a power, a cell a set of writes kept whole, or a write torn in three ways. Fails if a cut finds neither old nor new, or if a line
+has more or fewer cuts than its waiting writes give."""
 import sys
 from pathlib import Path
 
 MAP = Path(__file__).resolve().parent.parent / "crates/powercut/stdout"
 COLOURS = {"o": "#4a7fb5", "n": "#f08a24"}
 INK, FAINT = "#222", "#777"
-CELL, LEFT, TOP, WIDTH = 11, 92, 96, 1010
+LEFT, TOP, WIDTH = 60, 96, 1100
+
+# The height of a row; the widths of a set's cell and of a tear, a third of a cell; the gap between the sets and the tears.
+ROW, SET, TEAR, GAP = 11, 8, 3, 16
 
 # The orders of a save, a word for each; row p is the loss behind the first p of them.
 SAVE = ["log block"] * 3 + ["descriptor", "header", "flush"]
@@ -19,17 +23,27 @@ SCENARIOS = {
     "apply": ("The log has no room and is applied first: 39 orders", APPLY + SAVE),
 }
 FEW = 5  # up to so many waiting writes every set is tried
+WAYS = 3  # the ways in which a write is torn
+
+
+def tries(orders):
+    """How many sets and how many tears are tried behind these orders: by the writes since the last flush. A header is not torn."""
+    waiting = orders[len(orders) - orders[::-1].index("flush") if "flush" in orders else 0:]
+    torn = sum(not word.startswith("header") for word in waiting)
+    n = len(waiting)
+    return 2**n if n <= FEW else 2 * n + 2, WAYS * (torn + 1) if torn else 0
 
 
 def rows():
-    """The characters of each scenario's lines, by power."""
+    """The characters of each scenario's lines, by power: those of the sets, and those of the tears."""
     *lines, last = MAP.read_text().splitlines()
     found = {name: [] for name in SCENARIOS}
     for line in lines:
         name, power, cells = line.split(" ")
-        if int(power) != len(found[name]) or set(cells) - set(COLOURS):
+        sets, tears = tries(SCENARIOS[name][1][:int(power)])
+        if int(power) != len(found[name]) or set(cells) - set(COLOURS) or len(cells) != sets + tears:
             sys.exit(f"{MAP.name}: {line}")
-        found[name].append(cells)
+        found[name].append((cells[:sets], cells[sets:]))
     if last != "every save is whole" or any(len(found[n]) != len(SCENARIOS[n][1]) + 1 for n in found):
         sys.exit(f"{MAP.name}: {last}")
     return found
@@ -40,10 +54,18 @@ def text(x, y, words, size=12, fill=INK, anchor="start", weight="normal"):
             f'font-weight="{weight}">{words}</text>')
 
 
-def boxes(places, y, paint):
+def boxes(places, y, width, paint):
     """Cells of one row that look the same, one path."""
-    side = CELL - 1
-    return f'<path d="{"".join(f"M{x} {y}h{side}v{side}h-{side}z" for x in places)}" {paint}/>'
+    high = ROW - 1
+    return f'<path d="{"".join(f"M{x} {y}h{width}v{high}h-{width}z" for x in places)}" {paint}/>'
+
+
+def row(y, torn_at, sets, tears):
+    """The cells of a line; its tears start at a place of their own, those of one write side by side."""
+    for letter, colour in COLOURS.items():
+        cells = [LEFT + SET * i for i, c in enumerate(sets) if c == letter]
+        thirds = [torn_at + (WAYS * TEAR + 1) * (i // WAYS) + TEAR * (i % WAYS) for i, c in enumerate(tears) if c == letter]
+        yield from (boxes(places, y, width, f'fill="{colour}"') for places, width in ((cells, SET - 1), (thirds, TEAR)) if places)
 
 
 def phases(orders):
@@ -65,24 +87,23 @@ def label(word, first, last):
 
 def panel(y, head, orders, lines):
     """A scenario from y on: its head, a row for each power, and what the last order before the loss was."""
-    out = [text(LEFT, y, head, 14, weight="bold"), text(LEFT - 8, y, "orders", 10, FAINT, "end")]
+    most_sets, most_tears = (max(map(len, part)) for part in zip(*lines))
+    torn_at = LEFT + SET * most_sets + GAP
+    out = [text(LEFT, y, head, 14, weight="bold"), text(LEFT - 8, y, "orders", 10, FAINT, "end"), text(torn_at, y, "torn", 10, FAINT)]
     y += 12
-    for power, cells in enumerate(lines):
-        at = y + CELL * power
-        out.append(text(LEFT - 8, at + 9, power, 9, FAINT, "end"))
-        for letter, colour in COLOURS.items():
-            places = [LEFT + CELL * i for i, c in enumerate(cells) if c == letter]
-            out += [boxes(places, at, f'fill="{colour}"')] if places else []
-    side = LEFT + CELL * max(map(len, lines)) + 10
+    for power, line in enumerate(lines):
+        at = y + ROW * power
+        out += [text(LEFT - 8, at + 9, power, 9, FAINT, "end"), *row(at, torn_at, *line)]
+    side = torn_at + (WAYS * TEAR + 1) * most_tears // WAYS + 10
     out.append(text(side + 8, y + 9, "nothing written", 10, FAINT))
     for word, first, last in phases(orders):
-        top, bottom = y + CELL * first, y + CELL * (last + 1) - 1
+        top, bottom = y + ROW * first, y + ROW * (last + 1) - 1
         bold = word.startswith("header")
         out.append(f'<path d="M{side} {top}h4V{bottom}h-4" fill="none" stroke="{INK if bold else FAINT}"/>')
         done = ": the save is done" if last == len(orders) else ""
         out.append(text(side + 8, (top + bottom) / 2 + 3.5, label(word, first, last) + done, 10, INK if bold else FAINT,
                         weight="bold" if bold else "normal"))
-    return out, y + CELL * len(lines)
+    return out, y + ROW * len(lines)
 
 
 def legend(y, counts):
@@ -90,14 +111,16 @@ def legend(y, counts):
     items.append(("a mixture, or anything else: none", f'fill="none" stroke="{FAINT}" stroke-dasharray="2"'))
     out = []
     for i, (words, paint) in enumerate(items):
-        out += [boxes([LEFT + 240 * i], y - 9, paint), text(LEFT + 240 * i + 16, y, words)]
+        out += [boxes([LEFT + 240 * i], y - 9, ROW - 1, paint), text(LEFT + 240 * i + 16, y, words)]
     return out
 
 
 def notes(y):
     lines = [
-        "A row is a power loss behind so many orders of the save. A cell is a set of the waiting writes that the card kept.",
+        "A row is a power loss behind so many orders of the save. A cell on the left is a set of waiting writes, kept whole.",
         f"Up to {FEW} waiting: every set, none first and all last. More: none, each alone kept, each alone lost, all.",
+        "A cell on the right is a waiting write that was torn, a third for each way: first half kept, second half, every other byte.",
+        "Each write is torn alone, oldest first, and at last all at once. What is not torn is kept; block 0, the header, is never torn.",
         "New exactly where the save's own header was kept or flushed and the log found is the log written.",
         "Each cell stands for the recovery behind that cut and for every cut inside the recovery, recovered again.",
     ]
@@ -106,7 +129,7 @@ def notes(y):
 
 def main():
     found = rows()
-    counts = {c: sum(line.count(c) for lines in found.values() for line in lines) for c in COLOURS}
+    counts = {c: sum(part.count(c) for lines in found.values() for line in lines for part in line) for c in COLOURS}
     out = [text(LEFT, 34, "A save of three blocks, cut at every order", 20, weight="bold")]
     out += legend(62, counts)
     y = TOP
@@ -115,7 +138,7 @@ def main():
         out += drawn
         y += 34
     out += notes(y)
-    height = y + 64
+    height = y + 96
     print(f'<svg xmlns="http://www.w3.org/2000/svg" viewBox="0 0 {WIDTH} {height}" width="{WIDTH}" height="{height}" '
           'font-family="Helvetica, Arial, sans-serif">')
     print(f"<title>The map of power cuts: {counts['o']} cuts find the old blocks, {counts['n']} the new, none a mixture</title>")

@@ -4,6 +4,9 @@
  * but for TRAPCARD_ERR_POWER when the power ended in the call itself: then the orders carried out have happened, open and
  * group stand, and the record is down until a cut and a recover.
  *
+ * At a power loss the card may tear each block that a write waits for, but for block 0: each of its bytes is then as it was settled
+ * or as in one of those writes. What is said here of a power loss holds on such a card too.
+ *
  * A buffer is a pointer and a length in bytes, of any alignment. A buffer that is const here is never written. The proofs
  * assume of the caller: pointers that are not null, with true lengths, also where a length is 0; buffers that do not overlap
  * where one of them is written (trapcard_alike may be given one card twice); and that nobody else writes them meanwhile.
@@ -82,7 +85,7 @@ extern "C" {
 #define TRAPCARD_ERR_FULL 7u     /* over 32 entries in open or group */
 #define TRAPCARD_ERR_FOREIGN 8u  /* the header is not this card's, of another format, or of a save without a number */
 #define TRAPCARD_ERR_UNSOUND 9u  /* neither list is good */
-#define TRAPCARD_ERR_MARKS 10u   /* marks not as many as waiting, or a mark over 1 */
+#define TRAPCARD_ERR_MARKS 10u   /* marks not 512 for each waiting write, a mark over 1, or unlike marks for a write to block 0 */
 #define TRAPCARD_ERR_LAST 12u    /* sync of a group that is not empty, at the largest save number, 2^64 - 1 */
 
 /* The buffer in which trapcard_get found its block. */
@@ -164,8 +167,11 @@ uint32_t trapcard_recover_cost(const uint8_t *record, size_t record_len, const u
                                const uint8_t *waiting, size_t waiting_len, const uint8_t *work, size_t work_len,
                                uint32_t *orders, uint32_t *applies, uint32_t *peak, uint32_t *reaches);
 
-/* The power loss itself, for tests: one mark for each waiting write, oldest first, 1 kept or 0 lost. Kept writes settle, the
- * queue is empty, the record closed. Returns 0, 1, 2 or 10. */
+/* The power loss itself, for tests, on a card that may tear a block. Marks are TRAPCARD_BLOCK bytes for each waiting write, oldest
+ * first, one for each byte of its block: 1 kept or 0 lost. Each byte of a block becomes that of the newest waiting write to it whose
+ * mark there is 1, and stays as it is settled where there is none. Block 0 is never torn: the marks of a write to it are all 1 or
+ * all 0. Then the queue is empty and the record closed. Returns 0, 1, 2 or 10; 10 if marks_len is not TRAPCARD_BLOCK times the waiting
+ * count, if a mark is over 1, or if the marks of a write to block 0 are unlike. */
 uint32_t trapcard_cut(uint8_t *record, size_t record_len, uint8_t *settled, size_t settled_len, const uint8_t *waiting,
                       size_t waiting_len, const uint8_t *work, size_t work_len, const uint8_t *marks, size_t marks_len);
 

@@ -4,12 +4,13 @@ from collections import Counter
 from functools import lru_cache
 
 import costs
+import marks
 import model
 from cases import met
 from crash import Witness, must
 from guarded import FUNCTIONS, Guarded
 from madeup import made
-from model import BLOCK, COSTS
+from model import BLOCK, COSTS, PLACES
 
 CARD = ("record", "settled", "waiting", "work")
 
@@ -50,7 +51,7 @@ def given(step):
     if step.call == "put":
         return step.arguments[:1], content(*step.arguments[1])
     if step.call == "cut":
-        return (), step.arguments[0]
+        return (), marks.spelled(step.arguments[0])
     return (() if step.call == "alike" or step.call in COSTS else step.arguments), None
 
 
@@ -65,8 +66,15 @@ class Bench:
         self.library, self.at_end = library, at_end
         self.model, self.lent, self.witness, self.seen, self.calls = {}, {}, None, Counter(), 0
 
+    def bytes_of(self, name):
+        return self.model[name]
+
     def rec(self):
-        return model.decode(self.model["record"])
+        return model.decode(self.bytes_of("record"))
+
+    def queue(self):
+        """The addresses of the writes that wait, as far as the record says so; those beyond the buffer read as 0."""
+        return model.entries(self.bytes_of("waiting"), 0, min(self.rec().waiting, 2 * PLACES))
 
     def close(self):
         for buffer in self.lent.values():

@@ -13,10 +13,11 @@
 #define UNSET 0xa5a5a5a5u
 #define UNSET_WIDE UINT64_C(0xa5a5a5a5a5a5a5a5)
 #define DATA (TRAPCARD_FIRST * TRAPCARD_BLOCK)
+#define MARKS ((TRAPCARD_PLACES + 1) * TRAPCARD_BLOCK)
 
 struct card {
     uint8_t g0[GUARD - 1], record[TRAPCARD_RECORD], g1[GUARD], settled[N * TRAPCARD_BLOCK], g2[GUARD], waiting[TRAPCARD_WAITING];
-    uint8_t g3[GUARD], work[TRAPCARD_WORK], g4[GUARD], block[TRAPCARD_BLOCK], g5[GUARD], marks[TRAPCARD_PLACES], g6[GUARD];
+    uint8_t g3[GUARD], work[TRAPCARD_WORK], g4[GUARD], block[TRAPCARD_BLOCK], g5[GUARD], marks[MARKS], g6[GUARD];
 };
 
 /* What a call may write is a sum of these. */
@@ -188,11 +189,17 @@ static void put(uint32_t address, uint8_t byte)
     done(PUT, address, 0);
 }
 
-static void cut(const char *marks)
+/* A digit for each waiting write: 512 marks alike. */
+static void mark(const char *digits)
 {
-    length[5] = strlen(marks);
+    length[5] = TRAPCARD_BLOCK * strlen(digits);
     for (size_t i = 0; i < length[5]; i++)
-        c.marks[i] = (uint8_t)(marks[i] - '0');
+        c.marks[i] = (uint8_t)(digits[i / TRAPCARD_BLOCK] - '0');
+}
+
+static void cut(const char *digits)
+{
+    mark(digits);
     done(CUT, 0, 0);
 }
 
@@ -338,11 +345,9 @@ static void saves(void)
     numbered(UINT64_MAX);
 }
 
-/* The record for a boot is what a cut leaves at power 0. It opens a card whatever work memory and waiting bytes hold, and once
- * there is power also where recover has orders to give. */
-static void boot(void)
+/* A save, and a second one that stops before its flush: three writes wait, log block, descriptor and header. */
+static void stop_before_flush(void)
 {
-    uint8_t left[TRAPCARD_RECORD];
     start();
     put(40, 7);
     done(COMMIT, 0, 0);
@@ -351,6 +356,14 @@ static void boot(void)
     done(COMMIT, 0, 0);
     done(POWER, 3, 0);
     gone(SYNC, 3);
+}
+
+/* The record for a boot is what a cut leaves at power 0. It opens a card whatever work memory and waiting bytes hold, and once
+ * there is power also where recover has orders to give. */
+static void boot(void)
+{
+    uint8_t left[TRAPCARD_RECORD];
+    stop_before_flush();
     cut("011");
     memcpy(left, c.record, sizeof left);
     for (int loss = 0; loss < 2; loss++) {
@@ -369,6 +382,83 @@ static void boot(void)
     holds(TRAPCARD_MODE_OPEN, 0, 0, 1, 0, 0);
     numbered(1);
     got(40, TRAPCARD_IN_SETTLED, 1024, 7);
+}
+
+/* Each mark of some set to a value, one at a time, is refused. */
+static void refused_at(size_t first, size_t count, uint8_t value)
+{
+    for (size_t i = first; i < first + count; i++) {
+        uint8_t kept = c.marks[i];
+        c.marks[i] = value;
+        refused(CUT, 0, TRAPCARD_ERR_MARKS);
+        c.marks[i] = kept;
+    }
+}
+
+/* Three writes wait, the last one to block 0. Another number of marks is refused, a mark over 1 wherever it stands, and a header that
+ * is torn in one byte or in half. A log block is torn: the save before it is found. */
+static void torn(void)
+{
+    const size_t right = 3 * TRAPCARD_BLOCK, wrong[] = {0, 1, 3, right - TRAPCARD_BLOCK, right - 1, right + 1, right + TRAPCARD_BLOCK};
+    stop_before_flush();
+    mark("1111");
+    for (size_t i = 0; i < sizeof wrong / sizeof *wrong; i++) {
+        length[5] = wrong[i];
+        refused(CUT, 0, TRAPCARD_ERR_MARKS);
+    }
+    mark("110");
+    refused_at(0, right, 2);
+    refused_at(right - TRAPCARD_BLOCK, TRAPCARD_BLOCK, 1);
+    mark("111");
+    refused_at(0, right, 255);
+    refused_at(right - TRAPCARD_BLOCK, TRAPCARD_BLOCK, 0);
+    memset(c.marks + right - TRAPCARD_BLOCK, 0, TRAPCARD_BLOCK / 2);
+    refused(CUT, 0, TRAPCARD_ERR_MARKS);
+    mark("111");
+    for (size_t i = 0; i < TRAPCARD_BLOCK; i++)
+        c.marks[i] = i % 3 == 0;
+    done(CUT, 0, 0);
+    for (size_t i = 0; i < TRAPCARD_BLOCK; i++)
+        same("cut", "left the byte", c.settled[3 * TRAPCARD_BLOCK + i], i % 3 == 0 ? 9 : 0);
+    done(POWER, 2, 0);
+    done(RECOVER, 0, 2);
+    numbered(1);
+    got(40, TRAPCARD_IN_SETTLED, 1024, 7);
+}
+
+/* A waiting write, its block filled with a byte. */
+static void waits(size_t place, uint8_t address, uint8_t byte)
+{
+    uint8_t *entry = c.waiting + (4 + TRAPCARD_BLOCK) * place;
+    memset(entry, 0, 4);
+    entry[0] = address;
+    memset(entry + 4, byte, TRAPCARD_BLOCK);
+}
+
+/* Five writes wait for blocks 40 and 0, as no call leaves them. Every header must be whole; the newest kept one wins, and in the other
+ * block the newest kept byte. */
+static void newest(void)
+{
+    start();
+    c.record[TRAPCARD_RECORD_MODE] = TRAPCARD_MODE_DOWN;
+    c.record[TRAPCARD_RECORD_WAITING] = 5;
+    waits(0, 0, 1);
+    waits(1, 40, 2);
+    waits(2, 0, 3);
+    waits(3, 40, 4);
+    waits(4, 0, 5);
+    mark("11110");
+    for (size_t i = 0; i < 5; i += 2)
+        refused_at(TRAPCARD_BLOCK * i, TRAPCARD_BLOCK, i == 4);
+    for (size_t i = 0; i < TRAPCARD_BLOCK; i++) {
+        c.marks[TRAPCARD_BLOCK + i] = i % 4 > 0;
+        c.marks[3 * TRAPCARD_BLOCK + i] = i % 4 > 1;
+    }
+    done(CUT, 0, 0);
+    for (size_t i = 0; i < TRAPCARD_BLOCK; i++) {
+        same("cut", "left the header's byte", c.settled[i], 3);
+        same("cut", "left the byte", c.settled[40 * TRAPCARD_BLOCK + i], i % 4 == 0 ? 0 : i % 4 == 1 ? 2 : 4);
+    }
 }
 
 /* Asks before a sync, at one order less than it takes and at just as many, and then makes it. */
@@ -533,6 +623,8 @@ int main(void)
     causes();
     saves();
     boot();
+    torn();
+    newest();
     inquiries();
     inquiries_by_mode();
     bounds();

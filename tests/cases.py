@@ -1,7 +1,7 @@
 """What one call met, as cells of the coverage table. It is asked before the call, and told the outcome after it."""
-from coverage import IN_APPLY, IN_SYNC, TWO
+from coverage import IN_APPLY, IN_SYNC, NUMBER, TWO
 from model import (BLOCK, CLOSED, COSTS, DOWN, FIRST_DATA, LAST, LEAST, MOST, OPEN, PLACES, RECORD, SLOTS, WAITING, WORK, choice, chosen,
-                   foreign, is_data, lists, read_header, wrong_counts, wrong_lists)
+                   entries, foreign, is_data, lists, marks_of, read_header, torn, wrong_counts, wrong_lists, wrong_marks)
 
 
 def settled_sizes(settled):
@@ -79,6 +79,59 @@ def cost_cases(call, rec, orders, applies):
         yield "n + m = %d" % (n + m)
     if applies and n != m + 2:
         yield "applies, peak " + ("in its apply" if n > m + 2 else "after its apply")
+
+
+# ---- the marks of a cut; writes are pairs of an address and its marks, oldest first
+
+def tearing(kept):
+    """How a write is torn whose marks are 0 and 1."""
+    count, half = sum(kept), BLOCK // 2
+    if count in (1, BLOCK - 1):
+        return "one byte " + ("kept" if count == 1 else "lost")
+    if count == half and not torn(kept[:half]):
+        return "half kept"
+    return "every other byte kept" if not torn(kept[::2]) and not torn(kept[1::2]) else "any bytes kept"
+
+
+def written_twice(writes):
+    """Of a write and the next one to the same block, which is not block 0."""
+    newest = {}
+    for address, kept in writes:
+        before = newest.get(address, b"") if address else b""
+        if torn(before) and torn(kept) and before != kept:
+            yield "both torn unlike"
+        elif before and torn(before) != torn(kept):
+            yield "the newer torn" if torn(kept) else "the older torn"
+        newest[address] = kept
+
+
+def taken(writes):
+    """Marks that are not refused."""
+    headers, others = ([kept for address, kept in writes if (address == 0) == header] for header in (True, False))
+    yield from ("a write torn, " + tearing(kept) for kept in others if torn(kept))
+    if writes and not any(map(torn, others)):
+        yield "whole writes alone"
+    if others and all(map(torn, others)):
+        yield "every write torn but headers"
+    if len(headers) > 1:
+        yield "several headers, " + ("the newest kept" if any(headers[-1]) else "the newest lost" if any(map(any, headers)) else "all lost")
+    yield from ("one block written twice, " + case for case in written_twice(writes))
+
+
+def refused(parts, writes, excess):
+    """Marks that are refused: the parts of row 10 that apply, and by how many they are too many."""
+    headers = [kept for address, kept in writes if address == 0]
+    if parts == ["number"]:
+        yield NUMBER.get(excess, "another number of marks")
+        if excess == (1 - BLOCK) * len(writes):
+            yield "a mark for each write"
+    if parts == ["over 1"]:
+        yield "a mark over 1" if all(max(kept) < 2 for kept in headers) else "all of a header's marks over 1"
+    if parts == ["over 1", "torn header"] and any(kept.count(1) == BLOCK - 1 for kept in headers):
+        yield "a header's mark over 1, the others 1"
+    if parts == ["torn header"]:
+        yield from ("a header torn, " + tearing(kept) for kept in headers if torn(kept))
+        yield from ["one of several headers torn"] if len(headers) > 1 else []
 
 
 # ---- the save number
@@ -166,7 +219,7 @@ class Met:
         if self.rows == "recover":
             yield {OPEN: 5, DOWN: 4}.get(self.rec.mode, 0)
             yield 0 if self.sizes else choice(self.blocks, self.views["settled"])[0]
-        if self.rows == "cut" and (len(self.last) != self.rec.waiting or any(mark > 1 for mark in self.last)):
+        if self.rows == "cut" and any(wrong_marks(self.rec, self.views["waiting"], self.last)):
             yield 10
 
     def cases(self, outcome, number, after):
@@ -221,9 +274,16 @@ class Met:
                     yield "commit: " + case
 
     def cut(self, answer, after):
+        if answer not in (0, 10):
+            return
+        waiting, marks = self.views["waiting"], self.last
+        writes = [(address, marks_of(marks, i)) for i, address in enumerate(entries(waiting, 0, self.rec.waiting))]
         if answer == 10:
-            yield "cut: refused for " + ("a mark" if len(self.last) == self.rec.waiting else "the number of marks")
-        elif answer == 0 and self.rec.waiting in (0, PLACES):
+            excess = len(marks) - BLOCK * self.rec.waiting
+            yield from ("cut refused: " + case for case in refused(list(wrong_marks(self.rec, waiting, marks)), writes, excess))
+            return
+        yield from ("cut: " + case for case in taken(writes))
+        if self.rec.waiting in (0, PLACES):
             yield "cut: " + ("34 wait" if self.rec.waiting else "nothing waits")
 
 

@@ -30,6 +30,10 @@ FIRST_ASKED = {"1": "2 3 4 5 12", "2": "3 4 5 8 9 12", "3": "12", "4": "8 9 12",
 IN_APPLY = ("home blocks wait", "home blocks flushed", "header waits")
 IN_SYNC = ("log blocks wait", "descriptor waits", "header waits")
 
+# The ways in which a write is torn; and by how many marks they are too many.
+TORN = ("one byte kept", "one byte lost", "half kept", "every other byte kept", "any bytes kept")
+NUMBER = {-1: "a mark too few", 1: "a mark too many", -512: "512 marks too few", 512: "512 marks too many"}
+
 # How far the power reaches in an inquiry that is served.
 REACHES = ("no orders, power 0", "no orders, some power", "more than enough power", "exactly enough power", "one order short",
            "more than one order short")
@@ -51,10 +55,20 @@ CASES = (
     + prefixed("recover: ", ("whole", "whole at power 0", "fallback", "fallback, exactly enough power", "cut short at once",
                              "cut short, header waits"))
     + tuple("cut: %s header %s" % (whose, fate) for whose in ("sync's own", "sync's apply's", "apply's", "recover's")
-            for fate in ("kept", "lost"))
-    + prefixed("cut: ", ("nothing waits", "34 wait", "refused for the number of marks", "refused for a mark"))
-    + prefixed("demand 3, ", ("new: all kept", "new: a harmless loss", "old: log torn", "old: header lost", "old: no header",
+            for fate in ("kept", "lost", "torn, refused"))
+    + prefixed("cut: ", ("nothing waits", "34 wait", "whole writes alone", "every write torn but headers"))
+    + prefixed("cut: a write torn, ", TORN)
+    + prefixed("cut: one block written twice, ", ("both torn unlike", "the newer torn", "the older torn"))
+    + prefixed("cut: several headers, ", ("the newest kept", "the newest lost", "all lost"))
+    + prefixed("cut refused: ", (*NUMBER.values(), "another number of marks", "a mark for each write", "a mark over 1",
+                                 "a header's mark over 1, the others 1", "all of a header's marks over 1", "one of several headers torn"))
+    + prefixed("cut refused: a header torn, ", TORN)
+    + prefixed("demand 3, ", ("new: all kept", "new: a harmless loss", "new: harmless tearing", "old: a write lost", "old: a write torn",
+                              "old: header lost", "old: header lost, others torn", "old: no header", "old: no header, others torn",
                               "the old disk found", "the new disk found"))
+    + tuple("behind a torn %s: %s" % (block, found) for block in ("log block", "descriptor")
+            for found in ("new", "old", "old, by a fallback"))
+    + ("behind a torn home block: old",)
     + prefixed("get: ", ("open", "group", "log", "log, of two slots", "home", "34", "N - 1", "33", "N", "2^32 - 1"))
     + prefixed("put: ", ("34", "N - 1", "33", "N", "2^32 - 1", "adds", "adds the 32nd", "replaces", "replaces, 32 open", "block short",
                          "block long"))

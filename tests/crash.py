@@ -1,6 +1,6 @@
-"""Demands 2 and 3 in document 01's words, on the C library itself: beside a list of calls from a format answering 0 stand the plain
-disk, the log written, the old and the new disk of a sync cut short, and the groups laid. Of the card it reads what the library left
-there."""
+"""Demands 2 and 3 in document 01's words, over the torn cut of W-204, on the C library itself: beside a list of calls from a format
+answering 0 stand the plain disk, the log written, the old and the new disk of a sync cut short, and the groups laid. Of the card it reads
+what the library left there."""
 from plain import BLOCK, DOWN, FIRST_DATA, OPEN, SLOTS, ZERO, Plain
 from model import fnv
 
@@ -16,6 +16,13 @@ def must(holds, what, *values):
         raise Difference(what % values)
 
 
+def fates(marks):
+    """What became of each waiting write: kept, lost or torn."""
+    for at in range(0, len(marks), BLOCK):
+        kept = sum(marks[at:at + BLOCK])
+        yield "kept" if kept == BLOCK else "torn" if kept else "lost"
+
+
 class CutShort:
     """A sync cut short: the new disk, the queue place of its own header write or None, and, after the next cut, whether it is new."""
 
@@ -29,7 +36,7 @@ class Witness:
         self.plain = Plain(lent["settled"].length // BLOCK)
         self.written, self.waiting_header, self.expected = [], None, []
         self.old, self.short, self.excepted, self.events = {}, None, False, []
-        self.groups = 0
+        self.groups, self.torn = 0, set()
 
     # ---- what the library left
 
@@ -62,7 +69,8 @@ class Witness:
     def after(self, call, arguments, outcome):
         same = True
         if call == "cut" and outcome[0] == 0:
-            same = self.cut(arguments[0])
+            must(self.plain.refusal(call, arguments) == 0, "the plain disk refuses it")
+            same = self.cut(list(fates(arguments[0])))
         if self.excepted:
             return
         answer, orders, block = self.plain.step(call, arguments, same)
@@ -72,6 +80,8 @@ class Witness:
             self.ledger(call, *outcome)
         if call == "get":
             must(self.block(outcome) == block, "the plain disk has another block")
+        if call == "cut" and answer == 10 and self.waiting_header:
+            self.refused(arguments[0])
         self.compare_record()
         self.judge(call, outcome)
 
@@ -119,14 +129,21 @@ class Witness:
         elif orders == m + 3:
             self.written = listed
 
-    def cut(self, marks):
+    def refused(self, marks):
+        """A cut that is refused for a torn header alone."""
+        place, _, whose = self.waiting_header
+        if len(marks) == BLOCK * (place + 1) and max(marks) == 1 and list(fates(marks))[place] == "torn":
+            self.events.append("cut: %s header torn, refused" % whose)
+
+    def cut(self, fates):
         """Whether the log found is the log written, by the header that the cut left."""
         if self.waiting_header:
             place, listed, whose = self.waiting_header
-            self.events.append("cut: %s header %s" % (whose, "kept" if marks[place] else "lost"))
-            if marks[place]:
+            self.events.append("cut: %s header %s" % (whose, fates[place]))
+            if fates[place] == "kept":
                 self.written = listed
         self.waiting_header = None
+        self.torn.update(self.block_torn(i) for i, fate in enumerate(fates) if fate == "torn")
         previous, count = (self.lent["settled"].number(at) for at in (8, 12))
         found = self.log(count)
         same = found == self.written
@@ -134,21 +151,34 @@ class Witness:
         self.excepted = not same and total(found) == total(self.written)
         self.expected = self.written if same else self.written[:previous]
         if self.short and self.short.decided is None:
-            self.decide(marks, same)
+            self.decide(fates, same)
         return same
+
+    def block_torn(self, i):
+        """What the i-th write was to."""
+        address = self.lent["waiting"].number(ENTRY * i)
+        return "descriptor" if address == 1 else "log block" if address < FIRST_DATA else "home block"
 
     # ---- demand 3
 
-    def decide(self, marks, same):
+    def decide(self, fates, same):
         """New exactly if the next cut kept the sync's own header write and the log found is the log written."""
         place = self.short.place
-        kept = place is not None and marks[place] == 1
+        kept = place is not None and fates[place] == "kept"
         self.short.decided = kept and same
         self.groups += self.short.decided
-        whole = place is not None and all(marks)
+        whole = place is not None and set(fates) == {"kept"}
         must(not whole or self.short.decided, "all writes of a sync were made and kept, and it is not new")
-        self.events.append("demand 3, " + ("new: all kept" if whole else "new: a harmless loss" if kept and same else
-                                           "old: log torn" if kept else "old: header lost" if place is not None else "old: no header"))
+        self.events.append("demand 3, " + ("new: all kept" if whole else self.became(fates, kept, same)))
+
+    def became(self, fates, kept, same):
+        """Of a sync of which not all was kept."""
+        torn = "torn" in fates
+        if kept and same:
+            return "new: harmless tearing" if torn else "new: a harmless loss"
+        if kept:
+            return "old: a write torn" if torn else "old: a write lost"
+        return "old: " + ("no header" if self.short.place is None else "header lost") + (", others torn" if torn else "")
 
     def judge(self, call, outcome):
         answer = outcome[0]
@@ -161,7 +191,10 @@ class Witness:
         if call == "recover" and answer == 0:
             new = self.short is not None and self.short.decided
             self.compare_disk(*((self.short.new, "new") if new else (self.old, "old")))
-            self.compare_number("new" if new else "old, by a fallback" if outcome[1] else "old")
+            which = "new" if new else "old, by a fallback" if outcome[1] else "old"
+            self.compare_number(which)
+            self.events += ["behind a torn %s: %s" % (kind, which) for kind in self.torn]
+            self.torn = set()
         if call in ("sync", "recover") and answer == 0:
             self.old, self.short = dict(self.plain.S), None
 

@@ -2,8 +2,9 @@
 stands, and holds all that its call needs, so that a list of steps can be made again without these choices."""
 from collections import namedtuple
 
+import marks
 from madeup import CARD_FAULTS, RECORD_FAULTS, TOP
-from model import BLOCK, CLOSED, COSTS, DOWN, FIRST_DATA, OPEN, PLACES, RECORD, SLOTS, WAITING, WORK
+from model import BLOCK, CLOSED, COSTS, DOWN, FIRST_DATA, OPEN, RECORD, SLOTS, WAITING, WORK
 
 # odd: pairs of a lent buffer's name and another length for it.
 Step = namedtuple("Step", "call arguments odd", defaults=((), ()))
@@ -35,26 +36,10 @@ def block(chance):
     return (chance.randrange(4) if chance.random() < 0.6 else chance.randrange(256, 1 << 16)), length
 
 
-def marks(chance, waiting):
-    """Mostly as many as wait. The last write that waits may be a header: it is kept more often than lost."""
-    kind = chance.random()
-    if kind < 0.05:
-        return bytes(chance.choice((0, 1)) for _ in range(max(0, waiting + chance.choice((-1, 1)))))
-    if kind < 0.1 and waiting:
-        return bytes(waiting - 1) + bytes([chance.choice((2, 255))])
-    if kind < 0.35:
-        return bytes([1]) * waiting
-    if kind < 0.5:
-        return bytes(waiting)
-    kept = bytearray(int(chance.random() < 0.8) for _ in range(waiting))
-    kept[-1:] = [int(kind < 0.8)] if waiting else []
-    return bytes(kept)
-
-
 def ends(rec):
     """The powers at which a sync, an apply or a recovery ends at each of its kinds of order, as the paper counts them."""
     n, m = rec.logged, rec.grouped
-    inner = (n, n + 1, n + 2, n + 3) if n else ()
+    inner = (n, n + 1, n + 2, n + 2, n + 3) if n else ()
     before = n + 3 if n + m > SLOTS else 0
     own = (before, before + 1, before + m, before + m + 1, before + m + 2, before + m + 3) if m else ()
     return (0, 1, 2) + inner + own * 2
@@ -66,16 +51,16 @@ def power(chance, rec):
     return chance.choice(places + (chance.randrange(max(places) + 1), TOP) + (1000,) * (len(places) // 2))
 
 
-def arguments(chance, call, rec, blocks):
+def arguments(chance, call, bench, blocks):
     """What a call is given. Of an inquiry: whether it is held to its call order by order."""
     if call == "power":
-        return (power(chance, rec),)
+        return (power(chance, bench.rec()),)
     if call == "put":
         return address(chance, blocks), block(chance)
     if call == "get":
         return (address(chance, blocks),)
     if call == "cut":
-        return (marks(chance, min(rec.waiting, 2 * PLACES)),)
+        return (marks.drawn(chance, bench.queue()),)
     if call in COSTS:
         return ("order by order",) if blocks not in LARGE_SIZES and chance.random() < 0.25 else ()
     return ()
@@ -98,34 +83,36 @@ def other_card(chance, blocks, large):
 class History:
     """The next steps of a history, by the mode that the last one left."""
 
-    def __init__(self, chance, blocks):
-        self.chance, self.blocks, self.group = chance, blocks, []
+    def __init__(self, chance, bench, blocks):
+        self.chance, self.bench, self.blocks, self.group = chance, bench, blocks, []
 
-    def steps(self, rec):
-        return {OPEN: self.when_open, CLOSED: self.when_closed, DOWN: self.when_down}[rec.mode](rec)
+    def steps(self):
+        return {OPEN: self.when_open, CLOSED: self.when_closed, DOWN: self.when_down}[self.bench.rec().mode]()
 
-    def any(self, rec):
+    def step(self, call):
+        return Step(call, arguments(self.chance, call, self.bench, self.blocks))
+
+    def any(self):
         call = self.chance.choice(NINE + COSTS + ("tally", "alike"))
         if call == "alike":
             return [Step(call, other_card(self.chance, self.blocks, self.blocks in LARGE_SIZES))]
-        return [Step(call, arguments(self.chance, call, rec, self.blocks))]
+        return [self.step(call)]
 
-    def when_open(self, rec):
+    def when_open(self):
         kind, chance = self.chance.random(), self.chance
         if kind < 0.12:
-            return [Step("put", arguments(chance, "put", rec, self.blocks))]
+            return [self.step("put")]
         if kind < 0.2:
-            return [Step("get", (address(chance, self.blocks),))]
+            return [self.step("get")]
         if kind < 0.32:
-            return self.any(rec)
-        if kind < 0.9 and (rec.grouped == 0 or chance.random() < 0.15):
+            return self.any()
+        if kind < 0.9 and (self.bench.rec().grouped == 0 or chance.random() < 0.15):
             return self.many() if chance.random() < 0.2 else self.few()
-        return [Step("power", (power(chance, rec),)), *self.asked(chance.choice(("sync", "sync", "sync", "apply")), rec)]
+        return [self.step("power"), *self.asked(chance.choice(("sync", "sync", "sync", "apply")))]
 
-    def asked(self, call, rec):
+    def asked(self, call):
         """A call that gives orders; before half of them comes its inquiry, as firmware makes it."""
-        inquiry = call + "_cost"
-        before = [Step(inquiry, arguments(self.chance, inquiry, rec, self.blocks))] if self.chance.random() < 0.5 else []
+        before = [self.step(call + "_cost")] if self.chance.random() < 0.5 else []
         return before + [Step(call)]
 
     def many(self):
@@ -143,25 +130,25 @@ class History:
             self.group = [(address(chance, self.blocks), block(chance)) for _ in range(chance.choice((1, 1, 2, 3, 6)))]
         return [Step("put", put) for put in self.group] + [Step("commit")]
 
-    def when_closed(self, rec):
+    def when_closed(self):
         if self.chance.random() < 0.25:
-            return self.any(rec)
-        return [Step("power", (self.chance.choice((0, 1, 2, 3, 1000)),)), *self.asked("recover", rec)]
+            return self.any()
+        return [Step("power", (self.chance.choice((0, 1, 2, 3, 1000)),)), *self.asked("recover")]
 
-    def when_down(self, rec):
+    def when_down(self):
         if self.chance.random() < 0.25:
-            return self.any(rec)
-        return [Step("cut", (marks(self.chance, rec.waiting),))]
+            return self.any()
+        return [self.step("cut")]
 
 
 def lived(chance, bench, large):
     """A history from a format that answers 0."""
     blocks = size(chance, large)
-    history = History(chance, blocks)
+    history = History(chance, bench, blocks)
     yield Step("make", (blocks, chance.randrange(1 << 32), ()))
     yield Step("format")
     for _ in range(8 if large else 60):
-        yield from history.steps(bench.rec())
+        yield from history.steps()
     if large:
         yield Step("tally")
         yield Step("alike", ("laid", (), "second"))
@@ -205,9 +192,9 @@ def made_up(chance, bench, large):
     pool = chance.choice((RECORD_FAULTS, RECORD_FAULTS, CARD_FAULTS, RECORD_FAULTS + CARD_FAULTS))
     yield Step("make", (blocks, chance.randrange(1 << 32), tuple(fault.__name__ for fault in chance.sample(pool, count))))
     calls = chance.choices(NINE + COSTS + ("sync", "tally", "alike"), k=chance.randint(2, 12))
-    for call in calls + ["cut", "recover_cost", "recover"] + (["format"] if chance.random() < 0.3 else []):
+    for call in calls + ["cut", "cut", "recover_cost", "recover"] + (["format"] if chance.random() < 0.3 else []):
         if call == "alike":
             given = other_card(chance, blocks, large)
         else:
-            given = arguments(chance, call, bench.rec(), blocks)
+            given = arguments(chance, call, bench, blocks)
         yield Step(call, given, () if large else odd_lengths(chance, call, blocks))

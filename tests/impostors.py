@@ -1,10 +1,12 @@
-"""Faults for the model, to see that the lockstep bites: those of document 01's "Faults to keep out", one that only bytes show, two of
-the save number and three of the inquiries."""
+"""Faults for the model, to see that the lockstep bites: those of document 01's "Faults to keep out", two of the save number, three of
+the inquiries, and those of a torn cut, two of which are faults of the plain disk and of the witness that feeds it."""
 from contextlib import contextmanager
 from dataclasses import replace
 
 import model
-from model import BLOCK, EMPTY_SUM
+from crash import Witness
+from model import BLOCK, EMPTY_SUM, ENTRY
+from plain import Plain
 
 
 def checkpoint(rec, orders):
@@ -41,14 +43,6 @@ def get(rec, settled, waiting, work, address):
     return answer, buffer, at
 
 
-def settle(settled, waiting, marks):
-    """kept writes settle newest first"""
-    for i, mark in reversed(list(enumerate(marks))):
-        if mark:
-            at = BLOCK * model.number(waiting, model.ENTRY * i)
-            settled[at:at + BLOCK] = waiting[model.ENTRY * i + 4:model.ENTRY * (i + 1)]
-
-
 def recover(rec, settled, waiting, work):
     """a fallback hands back the number of the save that was lost"""
     answer, orders, left = real_recover(rec, settled, waiting, work)
@@ -78,18 +72,95 @@ def recover_cost(rec, settled, waiting, work):
     return (answer, *figures) if answer else (0, 2, 0, 1, int(rec.power >= 2))
 
 
+# ---- torn cuts
+
+def oldest_wins(settled, waiting, marks):
+    """byte by byte the oldest kept write wins"""
+    for i in reversed(range(len(marks) // BLOCK)):
+        model.settle(settled, waiting, i, model.marks_of(marks, i))
+
+
+def newest_alone(settled, waiting, marks):
+    """of the writes to a block only the newest is kept, where its marks are 1"""
+    newest = {model.number(waiting, ENTRY * i): i for i in range(len(marks) // BLOCK)}
+    for i in newest.values():
+        model.settle(settled, waiting, i, model.marks_of(marks, i))
+
+
+def next_write(settled, waiting, marks):
+    """a write goes by the marks of the next one, the newest by those of the oldest"""
+    real_tear(settled, waiting, marks[BLOCK:] + marks[:BLOCK])
+
+
+def oldest_write(settled, waiting, marks):
+    """byte j of every write goes by mark j of the oldest"""
+    real_tear(settled, waiting, marks[:BLOCK] * (len(marks) // BLOCK))
+
+
+def next_byte(settled, waiting, marks):
+    """a byte goes by the mark of the next one, the last of a block by the next write's first"""
+    real_tear(settled, waiting, marks[1:] + marks[:1])
+
+
+def first_mark(settled, waiting, marks):
+    """the first mark of a write stands for all"""
+    real_tear(settled, waiting, b"".join(marks[at:at + 1] * BLOCK for at in range(0, len(marks), BLOCK)))
+
+
+def any_mark(settled, waiting, marks):
+    """a write is kept whole if one of its bytes is"""
+    real_tear(settled, waiting, b"".join(bytes([max(model.marks_of(marks, i))]) * BLOCK for i in range(len(marks) // BLOCK)))
+
+
+def torn_header(rec, waiting, marks):
+    """a torn header is accepted"""
+    return (part for part in real_wrong_marks(rec, waiting, marks) if part != "torn header")
+
+
+def torn_older_header(rec, waiting, marks):
+    """a header that is not the newest write may be torn"""
+    last = rec.waiting - 1
+    seen = rec.waiting and model.number(waiting, ENTRY * last) == 0 and model.torn(model.marks_of(marks, last))
+    return (part for part in real_wrong_marks(rec, waiting, marks) if part != "torn header" or seen)
+
+
+def mark_for_each(rec, waiting, marks):
+    """a mark for each write is accepted, as before W-204"""
+    return () if len(marks) == rec.waiting else real_wrong_marks(rec, waiting, marks)
+
+
+def unlike(self, marks):
+    """the plain disk accepts a header whose marks are unlike"""
+    return len(marks) != BLOCK * self.waiting or max(marks, default=0) > 1
+
+
+def before_tearing(self, fates):
+    """the plain disk is told of the log found before tearing"""
+    same, waiting, settled = real_cut(self, fates), self.lent["waiting"], self.lent["settled"]
+    whole = {waiting.number(ENTRY * i): waiting.read(ENTRY * i + 4, BLOCK) for i, fate in enumerate(fates) if fate != "lost"}
+    block = lambda address: whole.get(address) or settled.read(BLOCK * address, BLOCK)
+    return same or [(model.number(block(1), 4 * i), block(2 + i)) for i in range(settled.number(12))] == self.written
+
+
 real_get, real_recover, real_unnumbered = model.get, model.recover, model.unnumbered
 real_sync_cost, real_apply_cost, real_recover_cost = model.sync_cost, model.apply_cost, model.recover_cost
-IMPOSTORS = (checkpoint, log_sum, choice, get, settle, recover, unnumbered, sync_cost, apply_cost, recover_cost)
+real_tear, real_wrong_marks, real_cut = model.tear, model.wrong_marks, Witness.cut
+
+# What each replaces: the function of its name in the model, unless a pair says otherwise.
+TORN = {oldest_wins: (model, "tear"), newest_alone: (model, "tear"), next_write: (model, "tear"), oldest_write: (model, "tear"),
+        next_byte: (model, "tear"), first_mark: (model, "tear"), any_mark: (model, "tear"), torn_header: (model, "wrong_marks"),
+        torn_older_header: (model, "wrong_marks"), mark_for_each: (model, "wrong_marks"), unlike: (Plain, "wrong_marks"),
+        before_tearing: (Witness, "cut")}
+IMPOSTORS = (checkpoint, log_sum, choice, get, recover, unnumbered, sync_cost, apply_cost, recover_cost, *TORN)
 
 
 @contextmanager
 def planted(impostor):
-    """The model with one of its functions replaced."""
-    name = impostor.__name__
-    real = getattr(model, name)
-    setattr(model, name, impostor)
+    """The model, the plain disk or the witness with one of its functions replaced."""
+    owner, name = TORN.get(impostor, (model, impostor.__name__))
+    real = getattr(owner, name)
+    setattr(owner, name, impostor)
     try:
         yield
     finally:
-        setattr(model, name, real)
+        setattr(owner, name, real)

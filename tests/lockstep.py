@@ -19,6 +19,7 @@ from pathlib import Path
 import coverage
 import guarded
 import impostors
+import marks
 import model
 from bench import Bench
 from crash import Difference
@@ -158,10 +159,8 @@ def shrunk(run, index, steps):
 
 
 def told(step):
-    words = [step.call]
-    for argument in step.arguments:
-        words.append("".join(map(str, argument)) if isinstance(argument, bytes) else str(argument))
-    return " ".join(words + ["(%s of %d bytes)" % odd for odd in step.odd])
+    words = [marks.told(*step.arguments)] if step.call == "cut" else map(str, step.arguments)
+    return " ".join([step.call, *words, *("(%s of %d bytes)" % odd for odd in step.odd)])
 
 
 def show(run, found):

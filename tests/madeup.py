@@ -171,6 +171,13 @@ def twice_in_group(made):
     made.grouped = twice(made, SLOTS, made.grouped)
 
 
+def few_blocks(made):
+    """No fault by itself: many writes wait for few blocks, block 0 among them."""
+    made.mode, made.queued, blocks = DOWN, made.chance.randint(2, PLACES), (0, 0, 1, made.data(), made.data())
+    for i in range(PLACES):
+        made.wait_at(i, made.chance.choice(blocks))
+
+
 def last_save(made):
     """No fault by itself: a group that meets the largest save number, or leaves it, or an empty one."""
     made.record_save, made.grouped = made.chance.choice((LAST, LAST, LAST - 1)), made.chance.choice((0, max(made.grouped, 1)))
@@ -225,7 +232,8 @@ def stray_in_list(made):
 
 
 RECORD_FAULTS = (mode, open_count, group_count, log_count, waiting_count, waiting_unless_down, other_blocks, open_address, group_address,
-                 log_address, waiting_address, twice_in_open, twice_in_group, last_save)
+                 log_address, waiting_address, twice_in_open, twice_in_group, few_blocks, few_blocks, few_blocks,
+                 last_save)
 CARD_FAULTS = (card_format, card_blocks, card_count, card_previous, sum_of_count, sum_of_count, sum_of_previous, neither_sum, stray_in_list,
                no_save_counts, no_save_sums)
 FAULTS = {fault.__name__: fault for fault in RECORD_FAULTS + CARD_FAULTS}

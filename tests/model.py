@@ -1,5 +1,5 @@
-"""Document 01's twelve calls, with W-201 and the three inquiries of W-202 of document 02, on plain Python values, written from the
-papers and not from the code of the crates.
+"""Document 01's twelve calls, with W-201, the three inquiries of W-202 and the torn cut of W-204 of document 02, on plain Python values,
+written from the papers and not from the code of the crates.
 
 Buffers are bytearrays. A call of the ten returns its number and the record that it leaves; sync, apply and recover their orders
 between. An inquiry returns its number and its four figures, tally and alike their number and what they found. `c_call` is any of the
@@ -15,6 +15,7 @@ WAITING, WORK = PLACES * ENTRY, 2 * SLOTS * ENTRY
 CLOSED, OPEN, DOWN = 0, 1, 2
 EMPTY_SUM = 14695981039346656037
 FORMAT, LAST, ENOUGH = 2, 2**64 - 1, 2**32 - 1
+KEPT = bytes([1]) * BLOCK
 
 
 @dataclass(frozen=True)
@@ -137,6 +138,27 @@ def wrong_record(rec, settled, waiting, work):
     return any(wrong_counts(rec, settled)) or any(wrong_lists(rec, settled, waiting, work))
 
 
+def marks_of(marks, i):
+    """The marks of the i-th waiting write, a byte each."""
+    return marks[BLOCK * i:BLOCK * (i + 1)]
+
+
+def torn(kept):
+    """Whether a write's marks are unlike."""
+    return len(set(kept)) > 1
+
+
+def wrong_marks(rec, waiting, marks):
+    """What row 10 finds in a cut's marks, by name."""
+    if len(marks) != BLOCK * rec.waiting:
+        yield "number"
+    if max(marks, default=0) > 1:
+        yield "over 1"
+    queue = entries(waiting, 0, min(rec.waiting, PLACES))
+    if any(torn(marks_of(marks, i)) for i, address in enumerate(queue) if address == 0):
+        yield "torn header"
+
+
 def wrong_size(settled):
     return len(settled) % BLOCK != 0 or not LEAST <= len(settled) // BLOCK <= MOST
 
@@ -154,7 +176,7 @@ def cause(call, rec, settled, waiting, work, address=None, block=None, marks=Non
     if call == "power":
         return 0
     if call == "cut":
-        return 10 if len(marks) != rec.waiting or any(m > 1 for m in marks) else 0
+        return 10 if any(wrong_marks(rec, waiting, marks)) else 0
     if call == "recover":
         return {OPEN: 5, DOWN: 4}.get(rec.mode) or choice(rec.blocks, settled)[0]
     if rec.mode != OPEN:
@@ -257,7 +279,8 @@ class Orders:
 
     def flush(self):
         if self.happens():
-            settle(self.settled, self.waiting, [1] * self.count)
+            for i in range(self.count):
+                settle(self.settled, self.waiting, i, KEPT)
             self.count = 0
 
     def outcome(self, finished, short):
@@ -265,11 +288,19 @@ class Orders:
         return (4 if self.gone else 0), self.done, left
 
 
-def settle(settled, waiting, marks):
-    for i, mark in enumerate(marks):
-        if mark:
-            at = BLOCK * number(waiting, ENTRY * i)
-            settled[at:at + BLOCK] = waiting[ENTRY * i + 4:ENTRY * (i + 1)]
+def settle(settled, waiting, i, kept):
+    """The bytes of the i-th waiting write whose mark is 1 go over what its block has."""
+    at, block = BLOCK * number(waiting, ENTRY * i), waiting[ENTRY * i + 4:ENTRY * (i + 1)]
+    if torn(kept):
+        block = bytes(new if mark else old for mark, new, old in zip(kept, block, settled[at:at + BLOCK]))
+    if any(kept):
+        settled[at:at + BLOCK] = block
+
+
+def tear(settled, waiting, marks):
+    """A cut's writes, oldest first: so byte by byte the newest kept one wins."""
+    for i in range(len(marks) // BLOCK):
+        settle(settled, waiting, i, marks_of(marks, i))
 
 
 def header(rec, previous, count, previous_sum, count_sum, save):
@@ -364,7 +395,7 @@ def cut(rec, settled, waiting, work, marks):
     answer = cause("cut", rec, settled, waiting, work, marks=marks)
     if answer:
         return answer, rec
-    settle(settled, waiting, marks)
+    tear(settled, waiting, marks)
     return 0, Record(CLOSED, rec.blocks, power=rec.power)
 
 

@@ -1,5 +1,6 @@
 """The plain disk, from its own section of document 01: fed N, a call's arguments and, at a cut, whether the log found is the log
-written. By W-201 it counts the nonempty groups laid into S. It knows no bytes of a card."""
+written. By W-201 it counts the nonempty groups laid into S, by W-204 a cut has 512 marks for each waiting write. It knows no bytes of a
+card."""
 
 CLOSED, OPEN, DOWN = 0, 1, 2
 BLOCK, SLOTS, FIRST_DATA = 512, 32, 34
@@ -12,6 +13,12 @@ class Short:
 
     def __init__(self, call, orders, n, m, applied):
         self.call, self.orders, self.n, self.m, self.applied = call, orders, n, m, applied
+
+    def header(self):
+        """Whether a header waits, which is then the last write that does."""
+        if self.call == "recover":
+            return self.orders == 1
+        return self.own_header() or ((self.call == "apply" or self.applied > 0) and self.orders == self.n + 2)
 
     def own_header(self):
         """Whether a sync's own header write was carried out."""
@@ -38,8 +45,7 @@ class Plain:
         if call == "power":
             return 0
         if call == "cut":
-            marks = arguments[0]
-            return 10 if len(marks) != self.waiting or any(m > 1 for m in marks) else 0
+            return 10 if self.wrong_marks(arguments[0]) else 0
         if call == "recover":
             return {CLOSED: 0, OPEN: 5, DOWN: 4}[self.mode]
         if self.mode != OPEN:
@@ -51,6 +57,11 @@ class Plain:
         if call == "commit" and len(self.T.keys() | self.G.keys()) > SLOTS:
             return 7
         return 12 if call == "sync" and self.G and self.laid == LAST else 0
+
+    def wrong_marks(self, marks):
+        """Not 512 for each waiting write, one over 1, or those of a header unlike."""
+        torn = self.short is not None and self.short.header() and len(set(marks[-BLOCK:])) > 1
+        return len(marks) != BLOCK * self.waiting or max(marks, default=0) > 1 or torn
 
     def step(self, call, arguments=(), found=True):
         """The answer, the orders handed back, and the block of a get."""
@@ -118,7 +129,7 @@ class Plain:
 
     def cut(self, marks, found):
         if self.short:
-            self.choose(self.short, bool(marks) and marks[-1] == 1, found)
+            self.choose(self.short, bool(marks) and all(marks[-BLOCK:]), found)
         self.G, self.T = {}, {}
         self.mode, self.waiting, self.short = CLOSED, 0, None
 

@@ -15,7 +15,6 @@ from pathlib import Path
 from bench import Bench
 from guarded import Library
 from lockstep import ROOT, SEED, Found, Run, compared, show
-from model import decode
 
 CRATES = ("cells", "fnv", "card", "journal", "store", "inspect", "firmware")
 CALLS = 40000
@@ -32,8 +31,20 @@ FAULTS = (
     Fault("get takes the first slot", "journal/lookup", "return Found::At(i);", "let mut k = 0;\nwhile slot_address(settled, k) != a {\nk += 1;\n}\n"
           "return Found::At(k);", True),
     Fault("a recovery always falls back", "journal/choice", "if good(settled, blocks, h.count, h.sum)", "if false", True),
-    Fault("kept writes settle newest first", "card/queue", "settle_marked(settled, waiting, i, marks[i])",
-          "settle_marked(settled, waiting, marks.len() - 1 - i, marks[marks.len() - 1 - i])"),
+    Fault("byte by byte the oldest kept write wins", "card/queue", "settle_bytes(settled, waiting, marks, i);",
+          "settle_bytes(settled, waiting, marks, n - 1 - i);"),
+    Fault("a write goes by the marks of the next one", "card/queue", "let at = BLOCK * i;", "let at = BLOCK * (i + 1) % marks.len();", True),
+    Fault("every write goes by the marks of the oldest", "card/queue", "let at = BLOCK * i;", "let at = 0;", True),
+    Fault("the marks of a write begin a byte late", "card/queue", "let at = BLOCK * i;",
+          "let at = std::cmp::min(BLOCK * i + 1, marks.len() - BLOCK);"),
+    Fault("the first mark of a write stands for all", "card/marks", "left(marks[i],", "left(marks[0],"),
+    Fault("a write is kept whole if one of its bytes is", "card/marks", "left(marks[i],", "left(marks.contains(&1) as u8,"),
+    Fault("a torn header is accepted", "card/marks", "headers_whole(marks, waiting, count as usize)", "true", True),
+    Fault("a header that is not the newest write may be torn", "card/marks", "if !accepts(marks, waiting, i)",
+          "if i + 1 == n && !accepts(marks, waiting, i)"),
+    Fault("the last mark of a header is not looked at", "card/marks", "if marks[i] != mark {", "if marks[i] != mark && i + 1 < marks.len() {", True),
+    Fault("a mark over 1 is a byte lost", "card/marks", "if 1 < marks[i] {", "if false {", True),
+    Fault("marks may be too many", "card/marks", "marks.len() != BLOCK * (count as usize)", "marks.len() < BLOCK * (count as usize)", True),
     Fault("a fallback keeps the save number", "journal/choice", "h.save - 1", "h.save", True),
     Fault("a fallback's header keeps the save number", "journal/fallback", "p, sum, p, sum, save)", "p, sum, p, sum, save + 1)", True),
     Fault("apply's header starts the save number afresh", "journal/checkpoint", "Header::empty(blocks, save).order", "Header::empty(blocks, 0).order",
@@ -66,8 +77,8 @@ class Blind(Bench):
     """The library alone, along lists of calls from a format, beside the plain disk, and an inquiry beside the library's own call: the model
     is asked for nothing."""
 
-    def rec(self):
-        return decode(self.lent["record"].read())
+    def bytes_of(self, name):
+        return self.lent[name].read()
 
     def perform(self, step):
         if not step.odd and step.call not in ("tally", "alike"):

@@ -20,14 +20,14 @@ FIELDS = {b"format": 0, b"commit": 0, b"abandon": 0, b"sync": 0, b"apply": 0, b"
 
 
 def understood(line):
-    """The word and its arguments, or None."""
+    """The word and its arguments, or None. A digit of a cut stands for 512 marks alike."""
     word, *fields = line.split(b"\t")
     if len(line) > 80:
         return None
     if word == b"cut":
         if len(fields) > 1 or (fields and not MARKS.fullmatch(fields[0])):
             return None
-        return word, [[d - 48 for d in fields[0]] if fields else []]
+        return word, [b"".join(bytes([digit - ord("0")]) * BLOCK for digit in b"".join(fields))]
     if FIELDS.get(word) != len(fields) or not all(NUMBER.fullmatch(f) for f in fields):
         return None
     limits = (2**32 - 1, 255)
@@ -79,6 +79,10 @@ def same(name, script, expected):
         raise SystemExit("scripts: %s prints something else; see target/failed.script" % name)
 
 
+def cut(marks):
+    return "cut\t" + marks if marks else "cut"
+
+
 def random_lines(chance, bench):
     """A save that may be cut short, a cut, a recovery that may be cut short, and calls that may be refused."""
     address = lambda: chance.randrange(34, 64)
@@ -90,7 +94,9 @@ def random_lines(chance, bench):
     yield chance.choice(["sync", "sync", "sync", "apply"])
     for _ in range(chance.randrange(3)):
         marks = "".join(chance.choice(["0", "1", "1", "1"]) for _ in range(bench.rec.waiting))
-        yield "cut\t" + marks if marks else "cut"
+        if chance.random() < 0.2:
+            yield cut(chance.choice([marks[1:], marks + "1", marks[1:] + "2", "9" + marks[1:]]))
+        yield cut(marks)
         yield "power\t%d" % chance.choice([0, 1, 2, 1000])
         yield "recover"
     for _ in range(4):
@@ -111,6 +117,7 @@ EDGES = [b"", b"\n", b"\n\n", b"format", b"format\n", b"format\t\n", b"formats\n
          b"cut\n", b"cut\t\n", b"cut\t2\n", b"cut\t" + b"1" * 76 + b"\n", b"cut\t" + b"1" * 77 + b"\n", b"power\t4294967295\n",
          b"power\t4294967296\n", b"power\t0000000001\n", b"power\t00000000001\n", b"power\t\n", b"power\t-1\n", b"put\t40\t255\n",
          b"put\t40\t256\n", b"put\t40\n", b"put\t40\t1\t2\n", b"get\t40\n", b"tally\n", b"sync_cost\n", b"x" * 80 + b"\n", b"x" * 81 + b"\nsync\n",
+         b"format\nput\t40\t7\ncommit\npower\t3\nsync\ncut\ncut\t11\ncut\t1111\ncut\t112\ncut\t911\ncut\t111\nrecover\nget\t40\n",
          b"format\n" + b"get\t40" * 100 + b"\nget\t40\n", b"format\nget\t33\nget\t34\nget\t63\nget\t64\n", b"\0\n", b"format\x00\n", b"\xff\xfe\n"]
 
 

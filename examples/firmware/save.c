@@ -1,7 +1,8 @@
 /* Saves three blocks as one, on a weak battery: asks first what the save will take, and puts it off if the power does not reach. Then
- * loses power in that sync at every order with every set of kept writes, recovers, and checks that the three are found together,
- * all old or all new, under the number of their save; and saves them once the battery reaches. Prints a line for each inquiry, one
- * for each order, with how often each save was found, and one with the total. */
+ * loses power in that sync at every order with every set of kept writes, and behind its last write with each write but the header torn at
+ * each of its bytes; recovers, and checks that the three are found together, all old or all new, under the number of their save; and
+ * saves them once the battery reaches. Prints a line for each inquiry, one for each order and two for each write that is torn, with how
+ * often each save was found, and two with the totals. */
 #include <stdio.h>
 #include <stdlib.h>
 #include <string.h>
@@ -10,6 +11,7 @@
 
 #define N 64u
 #define SETTLED (N * TRAPCARD_BLOCK)
+#define MARKS (TRAPCARD_PLACES * TRAPCARD_BLOCK)
 
 struct card {
     uint8_t record[TRAPCARD_RECORD], settled[SETTLED], waiting[TRAPCARD_WAITING], work[TRAPCARD_WORK];
@@ -70,20 +72,25 @@ static void boot(struct card *c)
 /* The blocks' value in each save. */
 enum { OLD = 7, NEW = 9 };
 
-/* Power for p orders, then a cut that keeps the writes of the set. The number of the save found, or 0 if its blocks are not all of
- * that save, or if it is not the new one though the sync returned. */
-static uint64_t found(const struct card *start, uint32_t p, uint32_t set)
+/* The marks of the cut: one for each byte of each waiting write. */
+static uint8_t marks[MARKS];
+
+static void mark(uint32_t write, uint32_t kept)
+{
+    memset(marks + TRAPCARD_BLOCK * write, (int)kept, TRAPCARD_BLOCK);
+}
+
+/* Power for p orders, then the cut. The number of the save found, or 0 if its blocks are not all of that save, or if it is not the new
+ * one though the sync returned. */
+static uint64_t found(const struct card *start, uint32_t p)
 {
     static struct card c;
-    uint8_t marks[TRAPCARD_PLACES];
     uint32_t orders;
     c = *start;
     must(trapcard_power(CARD(&c), p), "power");
     uint32_t answer = trapcard_sync(CARD(&c), &orders);
     uint32_t waiting = trapcard_record_number(c.record, TRAPCARD_RECORD_WAITING);
-    for (uint32_t i = 0; i < waiting; i++)
-        marks[i] = (uint8_t)(set >> i & 1u);
-    must(trapcard_cut(CARD(&c), marks, waiting), "cut");
+    must(trapcard_cut(CARD(&c), marks, TRAPCARD_BLOCK * waiting), "cut");
     boot(&c);
     uint64_t save = trapcard_save(c.record);
     if (value(&c) != (save == 1 ? OLD : NEW) || (answer == TRAPCARD_DONE && save != 2))
@@ -98,9 +105,11 @@ static int all_whole(const struct card *start, uint32_t orders)
     for (uint32_t p = 0; p <= orders; p++) {
         uint32_t waiting = p < orders ? p : 0, times[3] = {0, 0, 0};
         for (uint32_t set = 0; set < 1u << waiting; set++) {
-            uint64_t save = found(start, p, set);
+            for (uint32_t i = 0; i < waiting; i++)
+                mark(i, set >> i & 1u);
+            uint64_t save = found(start, p);
             if (save != 1 && save != 2) {
-                printf("torn: power %u, kept %u\n", p, set);
+                printf("not whole: power %u, kept %u\n", p, set);
                 return 0;
             }
             times[save]++;
@@ -110,6 +119,41 @@ static int all_whole(const struct card *start, uint32_t orders)
         news += times[2];
     }
     printf("%u cuts, save 2 found %u times, every save whole\n", cuts, news);
+    return 1;
+}
+
+/* All writes are kept but for one, which is kept but for one byte, or lost but for one byte: whether every save is found whole, whichever
+ * byte it is. Adds to how often each was found. */
+static int one_torn(const struct card *start, uint32_t writes, uint32_t torn, uint32_t kept, uint32_t *times)
+{
+    uint32_t before = times[2];
+    for (uint32_t i = 0; i < writes; i++)
+        mark(i, i == torn ? kept : 1u);
+    for (size_t i = 0; i < TRAPCARD_BLOCK; i++) {
+        uint8_t *byte = marks + TRAPCARD_BLOCK * torn + i;
+        *byte ^= 1;
+        uint64_t save = found(start, writes);
+        *byte ^= 1;
+        if (save != 1 && save != 2) {
+            printf("not whole: write %u torn at byte %u\n", torn + 1, (uint32_t)i);
+            return 0;
+        }
+        times[save]++;
+    }
+    uint32_t news = times[2] - before;
+    printf("write %u %s but for one byte: save 1 found %u times, save 2 found %u times\n", torn + 1, kept ? "kept" : "lost",
+           TRAPCARD_BLOCK - news, news);
+    return 1;
+}
+
+/* The same for every write but the last, which is the header: block 0 is never torn. */
+static int all_whole_torn(const struct card *start, uint32_t writes)
+{
+    uint32_t times[3] = {0, 0, 0};
+    for (uint32_t i = 0; i + 1 < writes; i++)
+        if (!one_torn(start, writes, i, 1, times) || !one_torn(start, writes, i, 0, times))
+            return 0;
+    printf("%u torn cuts, save 2 found %u times, every save whole\n", times[1] + times[2], times[2]);
     return 1;
 }
 
@@ -138,7 +182,7 @@ int main(void)
     ask_and_save(&c, 100);
     commit(&c, NEW);
     uint32_t orders = ask_and_save(&c, 5);
-    if (!all_whole(&c, orders))
+    if (!all_whole(&c, orders) || !all_whole_torn(&c, orders - 1))
         return 1;
     ask_and_save(&c, orders);
     return 0;

@@ -1,6 +1,7 @@
--- What holds of every element of a list.
+-- What holds of every element of a list, and of some.
 use Prim.Native.Nat.{ℕ, zero, suc, _<_}
 use mathlib.Core.Path.{_≡_}
+use mathlib.Core.Logic.{_⊎_}
 use mathlib.Core.List.{List, [], _∷_, _++_}
 use native.Mathlib.Omega.{arith}
 use lib.ListN.{length, getD, take}
@@ -46,3 +47,15 @@ upTo-all P f (suc n) p i h = go (native.Mathlib.Decide.ℕ-discrete i n) (λ q. 
     go : Dec (i ≡ n) → (i < n → P (f i)) → P (f i)
     go (yes e) below = rw e (all-right P (upTo f n) (f n ∷ []) p .0)
     go (no e) below = below (omega arith)
+
+-- ---- some element
+
+abbrev pub Any : {A : Type 0} → (A → Type 0) → List A → Type 0
+Any P [] = ⊥
+Any P (x ∷ xs) = P x ⊎ Any P xs
+
+-- what follows from it for each element, follows
+pub any-elim : {A : Type 0} {C : Type 0} (P : A → Type 0) (l : List A) → All (λ x. P x → C) l → Any P l → C
+any-elim P [] f p = absurd p
+any-elim P (x ∷ l) f (_⊎_.inl p) = f .0 p
+any-elim P (x ∷ l) f (_⊎_.inr p) = any-elim P l (f .1) p

@@ -1,82 +1,176 @@
--- The writes that a cut keeps, and the card after it, block by block. What follows from a cut goes by the four laws of Leaves.antt.
-use Prim.Native.Nat.{ℕ, _+_, _<_}
+-- The card after a cut: byte by byte; and as document 01 has it where no write is torn. What follows from a cut goes by the four laws of
+-- Leaves.antt.
+use Prim.Native.Nat.{ℕ, zero, suc, _+_, _≤_, _<_}
 use mathlib.Core.Path.{_≡_, refl, ap, sym, _∙_}
 use mathlib.Core.Bool.{Bool, true, false, cond}
 use mathlib.Core.Logic.{_≢_}
 use mathlib.Core.List.{List, [], _∷_, _++_}
-use native.Mathlib.Numerals.{add-one}
+use native.Mathlib.Decide.{decLt}
+use native.Mathlib.Nat.{zero-add}
 use native.Mathlib.Omega.{arith}
-use borrow.Author.Tests.{eqb-true, eqb-false}
 use lib.Dec.{eqb}
-use lib.ListN.{length, getD, take}
-use lib.Seq.{take-suc, length-take-le}
-use Rattle.cells.specs.Upto.{upTo}
-use Rattle.cells.specs.Upto.Laws.{length-upTo}
-use Rattle.cells.specs.Entry.{Entry}
+use lib.ListN.{length, getD, drop, drop-of-length-le, List·getD-eq-default}
+use lib.Seq.{ext-getD, drop-cons}
+use Rattle.cells.specs.Cell.{setCell}
+use Rattle.cells.specs.Cell.Laws.{length-cell, length-setCell, set-own}
+use Rattle.cells.specs.Entry.{blockBytes, Entry}
 use Rattle.card.specs.Disk.{overlay}
-use Rattle.card.specs.Card.{Card, queue, kept, cut, blockAt, blocksIn}
-use Rattle.card.proofs.All.{All}
-use Rattle.card.proofs.Runs.{Whole, length-settle, settle-overlay}
+use Rattle.card.specs.Card.{Card, queue, settle, torn, settleKept, cut, blockAt, blocksIn}
+use Rattle.card.specs.Marks.{marksAt, keptAt, spread, marksOf}
+use Rattle.card.specs.Torn.{newestByte, kept, wholeCut}
+use Rattle.card.proofs.All.{All, all-map}
+use Rattle.card.proofs.Overlays.{overlay-keeps}
+use Rattle.card.proofs.Runs.{Whole}
+use Rattle.card.proofs.Torn.{length-torn, getD-torn, length-settleKept, newestCell, cell-flat, settleKept-byte, newest-one, newest-kept}
+use Rattle.card.proofs.MarkLaws.{kept-marks, spread-mark, singles}
 
--- ---- the writes that are kept
-
-pub kept-nil : (es : List Entry) → kept [] es ≡ []
-unfolding kept
-kept-nil es = refl
-
--- what holds if the oldest write is kept, and if it is lost, holds of what is kept
-pub kept-step : (P : List Entry → Type 0) (m : ℕ) (ms : List ℕ) (e : Entry) (es : List Entry)
-    → (m ≡ 1 → P (e ∷ kept ms es)) → (m ≢ 1 → P (kept ms es)) → P (kept (m ∷ ms) (e ∷ es))
-unfolding kept
-kept-step P m ms e es one other = go (eqb m 1) refl
-  where
-    go : (t : Bool) → eqb m 1 ≡ t → P (cond t (e ∷ kept ms es) (kept ms es))
-    go true p = one (eqb-true _ _ p)
-    go false p = other (eqb-false _ _ p)
-
-pub kept-yes : (m : ℕ) (ms : List ℕ) (e : Entry) (es : List Entry) → m ≡ 1 → kept (m ∷ ms) (e ∷ es) ≡ e ∷ kept ms es
-kept-yes m ms e es h = kept-step (λ l. l ≡ e ∷ kept ms es) m ms e es (λ y. refl) (λ n. absurd (n h))
-
-pub kept-no : (m : ℕ) (ms : List ℕ) (e : Entry) (es : List Entry) → m ≢ 1 → kept (m ∷ ms) (e ∷ es) ≡ kept ms es
-kept-no m ms e es h = kept-step (λ l. l ≡ kept ms es) m ms e es (λ y. absurd (h y)) (λ n. refl)
-
-pub kept-append : (ms ns : List ℕ) (es fs : List Entry) → length ms ≡ length es → kept (ms ++ ns) (es ++ fs) ≡ kept ms es ++ kept ns fs
-kept-append [] ns [] fs h = rw (kept-nil)
-kept-append [] ns (e ∷ es) fs h = absurd (omega arith)
-kept-append (m ∷ ms) ns [] fs h = absurd (omega arith)
-kept-append (m ∷ ms) ns (e ∷ es) fs h =
-    kept-step (λ l. kept (m ∷ (ms ++ ns)) (e ∷ (es ++ fs)) ≡ l ++ kept ns fs) m ms e es
-    (λ y. kept-yes m (ms ++ ns) e (es ++ fs) y ∙ ap (λ (l : List Entry). e ∷ l) (kept-append ms ns es fs (omega arith)))
-    (λ n. kept-no m (ms ++ ns) e (es ++ fs) n ∙ kept-append ms ns es fs (omega arith))
-
--- one mark and one write more
-pub kept-more : (ms : List ℕ) (f : ℕ → Entry) (i : ℕ) → i < length ms
-    → kept (take (i + 1) ms) (upTo f (i + 1)) ≡ kept (take i ms) (upTo f i) ++ kept (getD ms i 0 ∷ []) (f i ∷ [])
-kept-more ms f i h =
-    rw (add-one, take-suc ms i 0 h)
-    (kept-append (take i ms) (getD ms i 0 ∷ []) (upTo f i) (f i ∷ []) (length-take-le i ms (omega arith) ∙ sym (length-upTo f i)))
-
-pub kept-all : (ms : List ℕ) (es : List Entry) → length ms ≡ length es → All (λ m. m ≡ 1) ms → kept ms es ≡ es
-kept-all [] [] h k = kept-nil []
-kept-all [] (e ∷ es) h k = absurd (omega arith)
-kept-all (m ∷ ms) [] h k = absurd (omega arith)
-kept-all (m ∷ ms) (e ∷ es) h k = kept-yes m ms e es (k .0) ∙ ap (λ (l : List Entry). e ∷ l) (kept-all ms es (omega arith) (k .1))
-
--- what holds of all writes holds of those that are kept
-pub all-kept : (P : Entry → Type 0) (ms : List ℕ) (es : List Entry) → All P es → All P (kept ms es)
-unfolding kept
-all-kept P [] es p = tt
-all-kept P (m ∷ ms) [] p = tt
-all-kept P (m ∷ ms) (e ∷ es) p = kept-step (All P) m ms e es (λ y. (p .0, all-kept P ms es (p .1))) (λ n. all-kept P ms es (p .1))
-
--- ---- the card after a cut
+-- ---- the card
 
 pub cut-length : (ms : List ℕ) (c : Card) → length (cut ms c .settled) ≡ length (c .settled)
 unfolding cut
-cut-length ms c = length-settle (kept ms (queue c)) (c .settled)
+cut-length ms c = length-settleKept ms 0 (queue c) (c .settled)
 
--- block by block: the kept writes laid over the settled disk
-pub cut-block : (ms : List ℕ) (c : Card) (a : ℕ) → a < blocksIn (c .settled) → All Whole (queue c)
-    → blockAt (cut ms c .settled) a ≡ overlay (kept ms (queue c)) (blockAt (c .settled)) a
+-- "byte by byte the newest kept write wins"
+pub cut-byte : (ms : List ℕ) (c : Card) (a j : ℕ) → a < blocksIn (c .settled) → j < blockBytes → All Whole (queue c)
+    → getD (blockAt (cut ms c .settled) a) j 0 ≡ newestCell ms 0 a j (queue c) (getD (blockAt (c .settled) a) j 0)
 unfolding cut
-cut-block ms c a h w = settle-overlay (kept ms (queue c)) (c .settled) a h (all-kept Whole ms (queue c) w)
+cut-byte ms c a j h l w = settleKept-byte ms 0 (queue c) (c .settled) a j h l w
+
+-- by the marks in a row
+pub cut-flat : (ms : List ℕ) (c : Card) (a j : ℕ) → a < blocksIn (c .settled) → j < blockBytes → All Whole (queue c)
+    → getD (blockAt (cut ms c .settled) a) j 0 ≡ newestByte ms 0 a j (queue c) (getD (blockAt (c .settled) a) j 0)
+cut-flat ms c a j h l w = cut-byte ms c a j h l w ∙ cell-flat ms 0 a j (queue c) _ l
+
+cut-long : (ms : List ℕ) (c : Card) (a : ℕ) → a < blocksIn (c .settled) → length (blockAt (cut ms c .settled) a) ≡ blockBytes
+cut-long ms c a h = length-cell blockBytes (cut ms c .settled) a (let e = cut-length ms c in omega arith)
+
+-- a block to which one write waits is torn by that write's marks
+pub cut-one : (ms : List ℕ) (c : Card) (a : ℕ) (es fs : List Entry) (e : Entry) → queue c ≡ es ++ (e ∷ fs) → a < blocksIn (c .settled) → All Whole (queue c) → Whole e
+    → e .address ≡ a → All (λ f. a ≢ f .address) es → All (λ f. a ≢ f .address) fs → blockAt (cut ms c .settled) a ≡ torn (marksAt ms (length es)) (e .block) (blockAt (c .settled) a)
+cut-one ms c a es fs e q h w b z o p =
+    let old : length (blockAt (c .settled) a) ≡ blockBytes = length-cell blockBytes (c .settled) a (omega arith) in
+    let new : length (torn (marksAt ms (length es)) (e .block) (blockAt (c .settled) a)) ≡ blockBytes = length-torn (marksAt ms (length es)) (e .block) (blockAt (c .settled) a) ∙ old in
+    ext-getD 0 (blockAt (cut ms c .settled) a) (torn (marksAt ms (length es)) (e .block) (blockAt (c .settled) a)) (cut-long ms c a h ∙ sym new)
+    (λ j l.
+    let k : j < blockBytes = rw (cut-long ms c a h) at l in
+    cut-byte ms c a j h k w
+    ∙ ap (λ (v : List Entry). newestCell ms 0 a j v (getD (blockAt (c .settled) a) j 0)) q
+    ∙ newest-one ms a j es fs e (getD (blockAt (c .settled) a) j 0) z o p
+    ∙ sym (getD-torn (marksAt ms (length es)) (e .block) (blockAt (c .settled) a) j (b ∙ sym old) (rw old k)))
+
+-- by a write that is kept, it is that write's
+pub torn-kept : (ms : List ℕ) (i : ℕ) (new old : List ℕ) → keptAt ms i ≡ true → length new ≡ blockBytes → length old ≡ blockBytes → torn (marksAt ms i) new old ≡ new
+torn-kept ms i new old k n o =
+    ext-getD 0 (torn (marksAt ms i) new old) new (length-torn (marksAt ms i) new old ∙ o ∙ sym n)
+    (λ j l.
+    let inside : j < length old = rw (length-torn (marksAt ms i) new old) at l in
+    getD-torn (marksAt ms i) new old j (n ∙ sym o) inside ∙ rw (kept-marks ms i k j (rw o at inside)))
+
+-- ---- equal marks
+
+-- what the marks of a write keep of a block if they are equal, or if there are none
+spread-torn : (ms : List ℕ) (i : ℕ) (new old : List ℕ) → length new ≡ blockBytes → length old ≡ blockBytes → torn (marksAt (spread ms) i) new old ≡ cond (eqb (getD ms i 0) 1) new old
+spread-torn ms i new old n o =
+    ext-getD 0 (torn (marksAt (spread ms) i) new old) (cond (eqb (getD ms i 0) 1) new old) (length-torn (marksAt (spread ms) i) new old ∙ sym (size (eqb (getD ms i 0) 1)))
+    (λ j l.
+    let inside : j < length old = rw (length-torn (marksAt (spread ms) i) new old) at l in
+    getD-torn (marksAt (spread ms) i) new old j (n ∙ sym o) inside
+    ∙ ap (λ (m : ℕ). cond (eqb m 1) (getD new j 0) (getD old j 0)) (spread-mark ms i j (rw o at inside))
+    ∙ split (eqb (getD ms i 0) 1) j)
+  where
+    size : (t : Bool) → length (cond t new old) ≡ length old
+    size true = n ∙ sym o
+    size false = refl
+
+    split : (t : Bool) (j : ℕ) → cond t (getD new j 0) (getD old j 0) ≡ getD (cond t new old) j 0
+    split true j = refl
+    split false j = refl
+
+-- one write settles, or nothing does
+spread-one : (ms : List ℕ) (i : ℕ) (e : Entry) (s : List ℕ) → Whole e → e .address < blocksIn s
+    → setCell blockBytes s (e .address) (torn (marksAt (spread ms) i) (e .block) (blockAt s (e .address))) ≡ cond (eqb (getD ms i 0) 1) (setCell blockBytes s (e .address) (e .block)) s
+spread-one ms i e s w h =
+    ap (setCell blockBytes s (e .address)) (spread-torn ms i (e .block) (blockAt s (e .address)) w (length-cell blockBytes s (e .address) (omega arith)))
+    ∙ go (eqb (getD ms i 0) 1)
+  where
+    go : (t : Bool) → setCell blockBytes s (e .address) (cond t (e .block) (blockAt s (e .address))) ≡ cond t (setCell blockBytes s (e .address) (e .block)) s
+    go true = refl
+    go false = set-own blockBytes s (e .address)
+
+-- the oldest of the writes from place i on, and those behind it
+kept-front : (ms : List ℕ) (i : ℕ) (e : Entry) (q : List Entry) (s : List ℕ)
+    → settle (kept (drop i ms) (e ∷ q)) s ≡ settle (kept (drop (suc i) ms) q) (cond (eqb (getD ms i 0) 1) (setCell blockBytes s (e .address) (e .block)) s)
+unfolding kept settle
+kept-front ms i e q s = go (decLt i (length ms))
+  where
+    go : Dec (i < length ms) → settle (kept (drop i ms) (e ∷ q)) s ≡ settle (kept (drop (suc i) ms) q) (cond (eqb (getD ms i 0) 1) (setCell blockBytes s (e .address) (e .block)) s)
+    go (yes l) = rw (drop-cons ms i 0 l) (at (eqb (getD ms i 0) 1))
+      where
+        at : (t : Bool) → settle (cond t (e ∷ kept (drop (suc i) ms) q) (kept (drop (suc i) ms) q)) s ≡ settle (kept (drop (suc i) ms) q) (cond t (setCell blockBytes s (e .address) (e .block)) s)
+        at true = refl
+        at false = refl
+    go (no l) =
+        let past : length ms ≤ i = omega arith in
+        rw (drop-of-length-le ms {i = i} past, drop-of-length-le ms {i = suc i} (omega arith), List·getD-eq-default ms 0 past)
+
+kept-none : (ms : List ℕ) → kept ms [] ≡ []
+unfolding kept
+kept-none [] = refl
+kept-none (m ∷ ms) = refl
+
+spread-settles : (ms : List ℕ) (i : ℕ) (q : List Entry) (s : List ℕ) → All Whole q → All (λ e. e .address < blocksIn s) q → settleKept (spread ms) i q s ≡ settle (kept (drop i ms) q) s
+unfolding settleKept settle
+spread-settles ms i [] s w h = rw (kept-none (drop i ms))
+spread-settles ms i (e ∷ q) s w h =
+    rw (spread-one ms i e s (w .0) (h .0), kept-front ms i e q s)
+    (spread-settles ms (suc i) q _ (w .1) (all-map (λ f. f .address < blocksIn s) (λ f. f .address < blocksIn (cond (eqb (getD ms i 0) 1) (setCell blockBytes s (e .address) (e .block)) s)) (λ f l. rw (size (eqb (getD ms i 0) 1)) l) q (h .1)))
+  where
+    size : (t : Bool) → length (cond t (setCell blockBytes s (e .address) (e .block)) s) ≡ length s
+    size true = length-setCell blockBytes s (e .address) (e .block)
+    size false = refl
+
+-- "The script's single mark stands for 512 equal ones": so marked, a cut is document 01's
+pub spread-cut : (ms : List ℕ) (c : Card) → All Whole (queue c) → All (λ e. e .address < blocksIn (c .settled)) (queue c) → cut (spread ms) c ≡ wholeCut ms c
+unfolding cut wholeCut
+spread-cut ms c w h =
+    ap (λ (s : List ℕ). record { settled = s; waiting = c .waiting; count = 0; power = c .power }) (spread-settles ms 0 (queue c) (c .settled) w h)
+
+-- ---- the writes that are chosen
+
+abbrev pub chosen : List Bool → List Entry → List Entry
+chosen [] es = []
+chosen (k ∷ ks) [] = []
+chosen (k ∷ ks) (e ∷ es) = cond k (e ∷ chosen ks es) (chosen ks es)
+
+singles-chosen : (ks : List Bool) (es : List Entry) → kept (singles ks) es ≡ chosen ks es
+unfolding kept
+singles-chosen [] es = refl
+singles-chosen (k ∷ ks) [] = refl
+singles-chosen (true ∷ ks) (e ∷ es) = ap (λ (l : List Entry). e ∷ l) (singles-chosen ks es)
+singles-chosen (false ∷ ks) (e ∷ es) = singles-chosen ks es
+
+-- by marks that keep some writes a cut leaves just those, laid over
+pub cut-chosen : (ks : List Bool) (c : Card) (a : ℕ) → a < blocksIn (c .settled) → All Whole (queue c)
+    → blockAt (cut (marksOf ks) c .settled) a ≡ overlay (chosen ks (queue c)) (blockAt (c .settled)) a
+unfolding marksOf
+cut-chosen ks c a h w =
+    ext-getD 0 (blockAt (cut (marksOf ks) c .settled) a) (overlay (chosen ks (queue c)) (blockAt (c .settled)) a) (long ∙ sym laid)
+    (λ j l.
+    let b : j < blockBytes = omega (arith, long) in
+    cut-byte (marksOf ks) c a j h b w
+    ∙ newest-kept (spread (singles ks)) 0 a j (singles ks) (queue c) (blockAt (c .settled)) (λ k z. ap (λ (m : ℕ). eqb m 1) (spread-mark (singles ks) (0 + k) j b ∙ ap (λ (i : ℕ). getD (singles ks) i 0) (zero-add k)))
+    ∙ ap (λ (es : List Entry). getD (overlay es (blockAt (c .settled)) a) j 0) (singles-chosen ks (queue c)))
+  where
+    long : length (blockAt (cut (marksOf ks) c .settled) a) ≡ blockBytes
+    long = cut-long (marksOf ks) c a h
+
+    laid : length (overlay (chosen ks (queue c)) (blockAt (c .settled)) a) ≡ blockBytes
+    laid =
+        overlay-keeps (λ b. length b ≡ blockBytes) (chosen ks (queue c)) (blockAt (c .settled)) a (length-cell blockBytes (c .settled) a (omega arith))
+        (all-map Whole (λ e. e .address ≡ a → Whole e) (λ e p z. p) (chosen ks (queue c)) (all-chosen ks (queue c) w))
+      where
+        all-chosen : (ks : List Bool) (es : List Entry) → All Whole es → All Whole (chosen ks es)
+        all-chosen [] es p = tt
+        all-chosen (k ∷ ks) [] p = tt
+        all-chosen (true ∷ ks) (e ∷ es) p = (p .0, all-chosen ks es (p .1))
+        all-chosen (false ∷ ks) (e ∷ es) p = all-chosen ks es (p .1)

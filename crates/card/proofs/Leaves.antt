@@ -1,41 +1,27 @@
 -- What a cut may leave of a disk: four laws. The crash theory goes by these, and by no more of what a cut does.
-use Prim.Native.Nat.{ℕ, suc, _+_, _<_}
+use Prim.Native.Nat.{ℕ, suc, _+_, _≤_, _<_}
 use mathlib.Core.Path.{_≡_, refl, ap, sym, subst, _∙_}
-use mathlib.Core.Bool.{Bool, true, false, cond, _&&_, true≢false}
+use mathlib.Core.Bool.{Bool, true, false, cond, not, _&&_, _||_, true≢false}
 use mathlib.Core.Logic.{_≢_, _⊎_}
 use mathlib.Core.List.{List, [], _∷_, _++_}
-use native.Mathlib.Nat.{zero-add, suc-add}
+use native.Mathlib.Nat.{zero-add, add-zero, suc-add}
 use native.Mathlib.Omega.{arith}
-use borrow.Author.Tests.{eqb-true, eq-eqb}
+use native.Mathlib.Decide.{decLt, ℕ-discrete}
+use borrow.Author.Tests.{eqb-true, eq-eqb, ne-eqb}
 use lib.Dec.{eqb}
-use lib.ListN.{length, getD}
+use lib.ListN.{length, getD, List·getD-eq-default}
+use lib.Seq.{ext-getD}
 use Rattle.cells.specs.Cell.Laws.{length-cell}
-use Rattle.cells.specs.Upto.Laws.{length-upTo}
-use Rattle.cells.specs.Entry.{Entry, entryAt, blockBytes}
-use Rattle.card.specs.Disk.{Disk, lay, overlay}
-use Rattle.card.specs.Card.{Card, queue, settle, kept, cut, blockAt, blocksIn}
-use Rattle.card.specs.Marks.{marksFit, keptAt, allKept, marksOf}
-use Rattle.card.proofs.All.{All, all-map}
-use Rattle.card.proofs.Overlays.{overlay-other, overlay-keeps}
-use Rattle.card.proofs.Runs.{Whole, settle-overlay}
-use Rattle.card.proofs.Cuts.{kept-all, all-kept, cut-block}
-use Rattle.card.proofs.MarkLaws.{fits-length, all-ones, chosen, marksOf-chosen, ones, ones-fit, ones-kept}
-
--- what holds of some element of a list
-abbrev pub Any : {A : Type 0} → (A → Type 0) → List A → Type 0
-Any P [] = ⊥
-Any P (x ∷ xs) = P x ⊎ Any P xs
-
--- what follows from it for each element, follows
-pub any-elim : {A : Type 0} {C : Type 0} (P : A → Type 0) (l : List A) → All (λ x. P x → C) l → Any P l → C
-any-elim P [] f p = absurd p
-any-elim P (x ∷ l) f (_⊎_.inl p) = f .0 p
-any-elim P (x ∷ l) f (_⊎_.inr p) = any-elim P l (f .1) p
-
--- each element is some element
-each-any : {A : Type 0} (R : A → A → Type 0) → ((x : A) → R x x) → (l : List A) → All (λ x. Any (R x) l) l
-each-any R r [] = tt
-each-any {A} R r (x ∷ l) = (_⊎_.inl (r x), all-map (λ (y : A). Any (R y) l) (λ (y : A). Any (R y) (x ∷ l)) (λ y p. _⊎_.inr p) l (each-any R r l))
+use Rattle.cells.specs.Entry.{Entry, blockBytes}
+use Rattle.card.specs.Disk.{Disk, overlay}
+use Rattle.card.specs.Card.{Card, queue, settle, cut, blockAt, blocksIn}
+use Rattle.card.specs.Marks.{marksAt, keptAt, lostAt, allKept, wholeAt, wholeBlock, headersWhole, marksFit}
+use Rattle.card.proofs.All.{All, all-map, Any}
+use Rattle.card.proofs.Overlays.{overlay-keeps}
+use Rattle.card.proofs.Runs.{Whole, length-settle, settle-overlay}
+use Rattle.card.proofs.Torn.{newestCell, newest-none, newest-either, newest-all}
+use Rattle.card.proofs.MarkLaws.{both, fits-headers, kept-marks, lost-marks, all-marks, ones, ones-fit, ones-kept}
+use Rattle.card.proofs.Cuts.{cut-length, cut-byte}
 
 -- ---- the newest kept write to a block
 
@@ -73,6 +59,16 @@ newest-lost keeps a (e ∷ q) b l = newest-lost (λ i. keeps (suc i)) a q _ (l .
     go true false p r = refl
     go true true p r = absurd (true≢false (sym p ∙ l .0 (eqb-true _ _ r)))
 
+-- it is a whole block
+newest-long : (keeps : ℕ → Bool) (q : List Entry) (b : List ℕ) → All Whole q → length b ≡ blockBytes → length (newestKept keeps 0 q b) ≡ blockBytes
+unfolding newestKept
+newest-long keeps [] b w h = h
+newest-long keeps (e ∷ q) b w h = newest-long (λ i. keeps (suc i)) q _ (w .1) (go (keeps 0 && eqb 0 (e .address)))
+  where
+    go : (t : Bool) → length (cond t (e .block) b) ≡ blockBytes
+    go true = w .0
+    go false = h
+
 newest-here : (keeps : ℕ → Bool) (a : ℕ) (es fs : List Entry) (e : Entry) (b : List ℕ) → a ≡ e .address → AllLost (λ i. keeps (length es + suc i)) a fs → keeps (length es) ≡ true
     → newestKept keeps a (es ++ (e ∷ fs)) b ≡ e .block
 unfolding newestKept
@@ -82,7 +78,7 @@ newest-here keeps a (x ∷ es) fs e b z l k = newest-here (λ i. keeps (suc i)) 
 -- ---- the four laws: t is what a cut with the marks ms may leave of the disk s, of N blocks, on which the writes q wait
 
 pub record Leaves (N : ℕ) (ms : List ℕ) (q : List Entry) (s t : Disk) : Type 0 where
-  pub fits : marksFit ms (length q) ≡ true
+  pub fits : marksFit ms q ≡ true
   -- (i) a block with no waiting write is as settled
   pub untouched : (a : ℕ) → a < N → All (λ e. a ≢ e .address) q → t a ≡ s a
   -- (ii) each byte of a block is its settled byte or that of a waiting write to the block, and the block is as long
@@ -104,67 +100,74 @@ lost-header {ms = ms} {q} {s} v l = v .header ∙ newest-lost (keptAt ms) 0 q (s
 
 -- ---- a cut of this card obeys them
 
--- kept writes laid over a disk: at each block the newest of them
-laid-newest : (ms : List ℕ) (q : List Entry) (d : Disk) (a : ℕ) → overlay (kept ms q) d a ≡ newestKept (keptAt ms) a q (d a)
-unfolding keptAt kept overlay lay newestKept
-laid-newest [] q d a = none q
+-- of the writes to block 0, none of them torn, every byte comes from the same one
+header-byte : (keeps : ℕ → Bool) (ms : List ℕ) (i j : ℕ) (q : List Entry) (b : List ℕ) → ((k : ℕ) → keeps k ≡ keptAt ms (i + k)) → headersWhole ms i q ≡ true → j < blockBytes
+    → newestCell ms i 0 j q (getD b j 0) ≡ getD (newestKept keeps 0 q b) j 0
+unfolding newestCell newestKept headersWhole wholeAt
+header-byte keeps ms i j [] b h f l = refl
+header-byte keeps ms i j (e ∷ q) b h f l =
+    let p = both (not (eqb (e .address) wholeBlock) || wholeAt ms i) (headersWhole ms (suc i) q) f in
+    ap (λ (x : ℕ). newestCell ms (suc i) 0 j q x) (one (p .0) (ℕ-discrete 0 (e .address)) (keeps 0) refl)
+    ∙ header-byte (λ k. keeps (suc k)) ms (suc i) j q _ (λ k. h (suc k) ∙ ap (keptAt ms) (let z : i + suc k ≡ suc i + k = omega arith in z)) (p .1) l
   where
-    none : (q : List Entry) → d a ≡ newestKept (keptAt []) a q (d a)
-    none [] = refl
-    none (e ∷ q) = none q
-laid-newest (m ∷ ms) [] d a = refl
-laid-newest (m ∷ ms) (e ∷ q) d a = go (eqb m 1) (laid-newest ms q (lay e d) a) (laid-newest ms q d a)
-  where
-    go : (t : Bool) → overlay (kept ms q) (lay e d) a ≡ newestKept (keptAt ms) a q (lay e d a) → overlay (kept ms q) d a ≡ newestKept (keptAt ms) a q (d a)
-        → overlay (cond t (e ∷ kept ms q) (kept ms q)) d a ≡ newestKept (keptAt ms) a q (cond (t && eqb a (e .address)) (e .block) (d a))
-    go true one other = one
-    go false one other = other
+    here : keeps 0 ≡ keptAt ms i
+    here = h 0 ∙ ap (keptAt ms) (add-zero i)
 
--- kept writes laid over a disk of whole blocks obey the laws
-pub laid-leaves : (N : ℕ) (ms : List ℕ) (q : List Entry) (s t : Disk) → 0 < N → marksFit ms (length q) ≡ true → All Whole q
-    → ((a : ℕ) → a < N → length (s a) ≡ blockBytes) → ((a : ℕ) → a < N → t a ≡ overlay (kept ms q) s a)
+    one : not (eqb (e .address) wholeBlock) || wholeAt ms i ≡ true → Dec (0 ≡ e .address) → (t : Bool) → keeps 0 ≡ t
+        → cond (eqb 0 (e .address) && eqb (getD (marksAt ms i) j 0) 1) (getD (e .block) j 0) (getD b j 0) ≡ getD (cond (t && eqb 0 (e .address)) (e .block) b) j 0
+    one w (no z) true k = rw (ne-eqb _ _ z)
+    one w (no z) false k = rw (ne-eqb _ _ z)
+    one w (yes z) true k = rw (eq-eqb _ _ z, kept-marks ms i (sym here ∙ k) j l)
+    one w (yes z) false k = rw (eq-eqb _ _ z, lost-marks ms i (lost (sym here ∙ k) (rw (eq-eqb _ _ (sym z)) at w)) j l)
+      where
+        lost : keptAt ms i ≡ false → wholeAt ms i ≡ true → lostAt ms i ≡ true
+        lost k w = rw k at w
+
+-- a byte that no block has
+past : (b : List ℕ) (j : ℕ) → length b ≡ blockBytes → blockBytes ≤ j → getD b j 0 ≡ 0
+past b j e h = List·getD-eq-default b 0 (omega arith)
+
+-- the newest kept bytes over a disk of whole blocks obey the laws
+pub byte-leaves : (N : ℕ) (ms : List ℕ) (q : List Entry) (s t : Disk) → 0 < N → marksFit ms q ≡ true → All Whole q
+    → ((a : ℕ) → a < N → length (s a) ≡ blockBytes) → ((a : ℕ) → a < N → length (t a) ≡ blockBytes)
+    → ((a j : ℕ) → a < N → j < blockBytes → getD (t a) j 0 ≡ newestCell ms 0 a j q (getD (s a) j 0))
     → Leaves N ms q s t
-laid-leaves N ms q s t some f w size laid = record {
+byte-leaves N ms q s t some f w old new bytes = record {
   fits = f;
-  untouched = λ a h o. laid a h ∙ overlay-other (kept ms q) s a (all-kept (λ e. a ≢ e .address) ms q o);
-  byte = λ a j h.
-      rw (laid a h)
-      (overlay-keeps (λ b. (getD b j 0 ≡ getD (s a) j 0) ⊎ Any (λ e. (e .address ≡ a) × (getD b j 0 ≡ getD (e .block) j 0)) q) (kept ms q) s a (_⊎_.inl refl)
-      (all-kept (λ x. x .address ≡ a → (getD (x .block) j 0 ≡ getD (s a) j 0) ⊎ Any (λ e. (e .address ≡ a) × (getD (x .block) j 0 ≡ getD (e .block) j 0)) q) ms q
-      (all-map (λ x. Any (λ e. (x .address ≡ a → e .address ≡ a) × (getD (x .block) j 0 ≡ getD (e .block) j 0)) q) _ (λ x p z. _⊎_.inr (strip x a j z q p)) q
-      (each-any (λ x e. (x .address ≡ a → e .address ≡ a) × (getD (x .block) j 0 ≡ getD (e .block) j 0)) (λ x. ((λ z. z), refl)) q))));
-  long = λ a h.
-      rw (laid a h)
-      (overlay-keeps (λ b. length b ≡ blockBytes) (kept ms q) s a (size a h)
-      (all-map Whole (λ e. e .address ≡ a → Whole e) (λ e p z. p) (kept ms q) (all-kept Whole ms q w)));
-  header = laid 0 some ∙ laid-newest ms q s 0;
-  whole = λ k a h. laid a h ∙ ap (λ (l : List Entry). overlay l s a) (kept-all ms q (fits-length ms (length q) f) (all-ones ms k));
+  untouched = λ a h o. equal a h (s a) (old a h) (λ j l. newest-none ms 0 a j q (getD (s a) j 0) o);
+  byte = λ a j h. at a j h (decLt j blockBytes);
+  long = new;
+  header = equal 0 some (newestKept (keptAt ms) 0 q (s 0)) (newest-long (keptAt ms) q (s 0) w (old 0 some))
+      (λ j l. header-byte (keptAt ms) ms 0 j q (s 0) (λ k. ap (keptAt ms) (sym (zero-add k))) (fits-headers ms q f) l);
+  whole = λ k a h.
+      equal a h (overlay q s a) (overlay-keeps (λ b. length b ≡ blockBytes) q s a (old a h) (all-map Whole (λ e. e .address ≡ a → Whole e) (λ e p z. p) q w))
+      (λ j l. newest-all ms 0 a j q s (λ i b. ap (λ (p : ℕ). getD (marksAt ms p) j 0) (zero-add i) ∙ all-marks ms q i j f k b l));
 }
   where
-    strip : (x : Entry) (a j : ℕ) → x .address ≡ a → (l : List Entry) → Any (λ e. (x .address ≡ a → e .address ≡ a) × (getD (x .block) j 0 ≡ getD (e .block) j 0)) l
-        → Any (λ e. (e .address ≡ a) × (getD (x .block) j 0 ≡ getD (e .block) j 0)) l
-    strip x a j z (y ∷ l) (_⊎_.inl p) = _⊎_.inl (p .0 z, p .1)
-    strip x a j z (y ∷ l) (_⊎_.inr p) = _⊎_.inr (strip x a j z l p)
+    -- blocks that are equal byte by byte
+    equal : (a : ℕ) → a < N → (b : List ℕ) → length b ≡ blockBytes → ((j : ℕ) → j < blockBytes → newestCell ms 0 a j q (getD (s a) j 0) ≡ getD b j 0) → t a ≡ b
+    equal a h b size same = ext-getD 0 (t a) b (new a h ∙ sym size) (λ j l. let k : j < blockBytes = rw (new a h) at l in bytes a j h k ∙ same j k)
+
+    at : (a j : ℕ) → a < N → Dec (j < blockBytes) → (getD (t a) j 0 ≡ getD (s a) j 0) ⊎ Any (λ e. (e .address ≡ a) × (getD (t a) j 0 ≡ getD (e .block) j 0)) q
+    at a j h (yes l) = rw (bytes a j h l) (newest-either ms 0 a j q (getD (s a) j 0))
+    at a j h (no l) = _⊎_.inl (past (t a) j (new a h) (omega arith) ∙ sym (past (s a) j (old a h) (omega arith)))
 
 whole-blocks : (s : List ℕ) (a : ℕ) → a < blocksIn s → length (blockAt s a) ≡ blockBytes
 whole-blocks s a h = length-cell blockBytes s a (omega arith)
 
 -- a cut of this card
-pub cut-leaves : (ms : List ℕ) (c : Card) → 0 < blocksIn (c .settled) → marksFit ms (c .count) ≡ true → All Whole (queue c)
+pub cut-leaves : (ms : List ℕ) (c : Card) → 0 < blocksIn (c .settled) → marksFit ms (queue c) ≡ true → All Whole (queue c)
     → Leaves (blocksIn (c .settled)) ms (queue c) (blockAt (c .settled)) (blockAt (cut ms c .settled))
-unfolding queue
 cut-leaves ms c some f w =
-    laid-leaves (blocksIn (c .settled)) ms (queue c) (blockAt (c .settled)) (blockAt (cut ms c .settled)) some
-    (ap (marksFit ms) (length-upTo (entryAt (c .waiting)) (c .count)) ∙ f) w (whole-blocks (c .settled)) (λ a h. cut-block ms c a h w)
-
--- by marks that keep some writes it leaves just those, laid over
-pub cut-chosen : (ks : List Bool) (c : Card) (a : ℕ) → a < blocksIn (c .settled) → All Whole (queue c)
-    → blockAt (cut (marksOf ks) c .settled) a ≡ overlay (chosen ks (queue c)) (blockAt (c .settled)) a
-cut-chosen ks c a h w = cut-block (marksOf ks) c a h w ∙ ap (λ (l : List Entry). overlay l (blockAt (c .settled)) a) (marksOf-chosen ks (queue c))
+    byte-leaves (blocksIn (c .settled)) ms (queue c) (blockAt (c .settled)) (blockAt (cut ms c .settled)) some f w (whole-blocks (c .settled))
+    (λ a h. whole-blocks (cut ms c .settled) a (rw (cut-length ms c) h)) (λ a j h l. cut-byte ms c a j h l w)
 
 -- ---- a flush is a cut that keeps all
 
-pub settle-leaves : (es : List Entry) (s : List ℕ) → 0 < blocksIn s → All Whole es → Leaves (blocksIn s) (ones (length es)) es (blockAt s) (blockAt (settle es s))
+pub settle-leaves : (es : List Entry) (s : List ℕ) → 0 < blocksIn s → All Whole es → Leaves (blocksIn s) (ones es) es (blockAt s) (blockAt (settle es s))
 settle-leaves es s some w =
-    laid-leaves (blocksIn s) (ones (length es)) es (blockAt s) (blockAt (settle es s)) some (ones-fit (length es)) w (whole-blocks s)
-    (λ a h. settle-overlay es s a h w ∙ ap (λ (l : List Entry). overlay l (blockAt s) a) (sym (kept-all (ones (length es)) es (fits-length (ones (length es)) (length es) (ones-fit (length es))) (all-ones (ones (length es)) (ones-kept (length es))))))
+    byte-leaves (blocksIn s) (ones es) es (blockAt s) (blockAt (settle es s)) some (ones-fit es) w (whole-blocks s)
+    (λ a h. whole-blocks (settle es s) a (rw (length-settle es s) h))
+    (λ a j h l.
+    ap (λ (b : List ℕ). getD b j 0) (settle-overlay es s a h w)
+    ∙ sym (newest-all (ones es) 0 a j es (blockAt s) (λ i b. ap (λ (p : ℕ). getD (marksAt (ones es) p) j 0) (zero-add i) ∙ all-marks (ones es) es i j (ones-fit es) (ones-kept es) b l)))

@@ -1,6 +1,6 @@
 -- "The card is two lent buffers: the settled bytes, N blocks; and the waiting writes, 34 places of 516 bytes, each a 4-byte
 -- address and a block, oldest first." The power count says how many orders still happen.
-use Prim.Native.Nat.{ℕ, _+_, _-_, _/_}
+use Prim.Native.Nat.{ℕ, suc, _+_, _-_, _/_}
 use mathlib.Core.Bool.{cond}
 use mathlib.Core.List.{List, [], _∷_}
 use lib.Dec.{eqb}
@@ -9,6 +9,7 @@ use Rattle.cells.specs.Cell.{cell, setCell}
 use Rattle.cells.specs.Upto.{upTo}
 use Rattle.cells.specs.Entry.{blockBytes, Entry, entryAt, setEntry}
 use Rattle.card.specs.Disk.{Disk}
+use Rattle.card.specs.Marks.{marksAt}
 
 -- no queue has more places than this, so that its count fits 4 bytes
 abbrev pub mostPlaces : ℕ
@@ -52,12 +53,20 @@ unfoldable pub run : List Order → Card → Card
 run [] c = c
 run (o ∷ os) c = cond (eqb (c .power) 0) c (run os (order o c))
 
--- "one mark for each waiting write, 1 kept or 0 lost": the writes that are kept
-unfoldable pub kept : List ℕ → List Entry → List Entry
-kept [] es = []
-kept (m ∷ ms) [] = []
-kept (m ∷ ms) (e ∷ es) = cond (eqb m 1) (e ∷ kept ms es) (kept ms es)
+-- W-204: "After a cut, each byte of another block is its settled one or that of any waiting write": a block with the bytes of a write
+-- laid over it whose mark is 1
+unfoldable pub torn : List ℕ → List ℕ → List ℕ → List ℕ
+torn [] new old = old
+torn (m ∷ ms) [] old = old
+torn (m ∷ ms) (x ∷ new) [] = []
+torn (m ∷ ms) (x ∷ new) (y ∷ old) = cond (eqb m 1) x y ∷ torn ms new old
 
--- "Kept writes settle, oldest first, whole. The queue is emptied […] the power count stay[s]."
+-- the settled bytes once the kept bytes of the writes q, which wait from a place on, have settled, oldest write first: so "byte by byte
+-- the newest kept write wins"
+unfoldable pub settleKept : List ℕ → ℕ → List Entry → List ℕ → List ℕ
+settleKept ms i [] s = s
+settleKept ms i (e ∷ q) s = settleKept ms (suc i) q (setCell blockBytes s (e .address) (torn (marksAt ms i) (e .block) (blockAt s (e .address))))
+
+-- "The queue is emptied […] the power count stay[s]."
 unfoldable pub cut : List ℕ → Card → Card
-cut marks c = record { settled = settle (kept marks (queue c)) (c .settled); waiting = c .waiting; count = 0; power = c .power }
+cut marks c = record { settled = settleKept marks 0 (queue c) (c .settled); waiting = c .waiting; count = 0; power = c .power }

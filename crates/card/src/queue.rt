@@ -1,5 +1,7 @@
 // The queue of waiting writes, and the orders: write, flush, and the cut that ends them.
 use crate::settled::settle;
+use crate::settled::settle_kept;
+use cells::BLOCK;
 use cells::entry;
 ghost use mathlib.Core.Path.{_≡_};
 ghost use mathlib.Core.Bool.{true, false};
@@ -90,14 +92,14 @@ impl Queue {
         self.done(0)
     }
 
-    // The cut: the waiting writes whose mark is 1 settle, oldest first, and the queue is empty.
+    // The cut: of the waiting writes, oldest first, the bytes settle whose mark is 1, and the queue is empty.
     pub fn cut(self, settled: &mut [u8], waiting: &[u8], marks: &[u8]) -> Queue
         requires { ⌜ entryBytes * self .waiting ≤ length (now waiting) ⌝ }
         requires { ⌜ Below (blocksIn (now settled)) (now waiting) (self .waiting) ⌝ }
-        requires { ⌜ length (now marks) ≡ self .waiting ⌝ }
+        requires { ⌜ length (now marks) ≡ blockBytes * self .waiting ⌝ }
         ensures { λ r. ⌜ cardOf (now (settled .exit)) (now (waiting .entry)) r ≡ Card.cut (now (marks .entry)) (cardOf (now (settled .entry)) (now (waiting .entry)) self) ⌝ }
     {
-        settle_kept(settled, waiting, marks);
+        settle_marked(settled, waiting, marks, self.waiting as usize);
         Queue {
             waiting: 0,
             power: self.power,
@@ -118,15 +120,20 @@ fn settle_one(settled: &mut [u8], waiting: &[u8], i: usize)
     );
 }
 
-// Settles the i-th waiting write if it is marked as kept.
-fn settle_marked(settled: &mut [u8], waiting: &[u8], i: usize, mark: u8)
+// Settles the bytes of the i-th waiting write that its marks keep.
+fn settle_bytes(settled: &mut [u8], waiting: &[u8], marks: &[u8], i: usize)
     requires { ⌜ entryBytes * i + entryBytes ≤ length (now waiting) ⌝ }
     requires { ⌜ entryAt (now waiting) i .address < blocksIn (now settled) ⌝ }
-    ensures { λ _. ⌜ now (settled .exit) ≡ Card.settle (Card.kept (mark ∷ []) (entryAt (now (waiting .entry)) i ∷ [])) (now (settled .entry)) ⌝ }
+    requires { ⌜ blockBytes * i + blockBytes ≤ length (now marks) ⌝ }
+    ensures { λ _. ⌜ now (settled .exit) ≡ Card.settleKept (now (marks .entry)) i (entryAt (now (waiting .entry)) i ∷ []) (now (settled .entry)) ⌝ }
 {
-    if mark == 1 {
-        settle_one(settled, waiting, i);
-    }
+    let at = BLOCK * i;
+    settle_kept(
+        settled,
+        entry::address(waiting, i),
+        entry::block(waiting, i),
+        &marks[at..at + BLOCK],
+    );
 }
 
 // Settles the first n waiting writes.
@@ -142,15 +149,16 @@ fn settle_all(settled: &mut [u8], waiting: &[u8], n: usize)
     }
 }
 
-// Settles the waiting writes that are marked as kept.
-fn settle_kept(settled: &mut [u8], waiting: &[u8], marks: &[u8])
-    requires { ⌜ entryBytes * length (now marks) ≤ length (now waiting) ⌝ }
-    requires { ⌜ Below (blocksIn (now settled)) (now waiting) (length (now marks)) ⌝ }
-    ensures { λ _. ⌜ now (settled .exit) ≡ Card.settle (Card.kept (now (marks .entry)) (upTo (entryAt (now (waiting .entry))) (length (now (marks .entry))))) (now (settled .entry)) ⌝ }
+// Settles the bytes of the first n waiting writes that their marks keep.
+fn settle_marked(settled: &mut [u8], waiting: &[u8], marks: &[u8], n: usize)
+    requires { ⌜ entryBytes * n ≤ length (now waiting) ⌝ }
+    requires { ⌜ Below (blocksIn (now settled)) (now waiting) n ⌝ }
+    requires { ⌜ length (now marks) ≡ blockBytes * n ⌝ }
+    ensures { λ _. ⌜ now (settled .exit) ≡ Card.settleKept (now (marks .entry)) 0 (upTo (entryAt (now (waiting .entry))) n) (now (settled .entry)) ⌝ }
 {
     let mut i = 0;
-    while i < marks.len() {
-        settle_marked(settled, waiting, i, marks[i]);
+    while i < n {
+        settle_bytes(settled, waiting, marks, i);
         i += 1;
     }
 }

@@ -1,5 +1,6 @@
-// The settled bytes: how many blocks they hold; a block read where it lies, or no bytes of them; and, without orders, a block settled and
-// all bytes wiped.
+// The settled bytes: how many blocks they hold; a block read where it lies, or no bytes of them; and, without orders, a block settled, or
+// its kept bytes, and all bytes wiped.
+use crate::marks::copy_kept;
 use cells::BLOCK;
 use cells::bytes::copy;
 use cells::bytes::zero;
@@ -9,7 +10,7 @@ ghost use lib.ListN.{length, replicate};
 ghost use Rattle.cells.specs.Cell.{setCell};
 ghost use Rattle.cells.specs.Entry.{blockBytes};
 ghost use Rattle.cells.specs.Part.{viewOf, partOf};
-ghost use Rattle.card.specs.Card.{blocksIn};
+ghost use Rattle.card.specs.Card.{blocksIn, blockAt, torn};
 
 // The block at an address, where it lies.
 pub fn read<'a>(settled: &'a [u8], address: u32) -> &'a [u8]
@@ -42,6 +43,16 @@ pub fn settle(settled: &mut [u8], address: u32, block: &[u8])
 {
     let at = BLOCK * (address as usize);
     copy(&mut settled[at..at + BLOCK], block);
+}
+
+// Settles the bytes of a block whose mark is 1, at no order: the same part is lent on to the copier that takes marks.
+pub fn settle_kept(settled: &mut [u8], address: u32, block: &[u8], marks: &[u8])
+    requires { ⌜ address < blocksIn (now settled) ⌝ }
+    requires { ⌜ (length (now block) ≡ blockBytes) × (length (now marks) ≡ blockBytes) ⌝ }
+    ensures { λ _. ⌜ now (settled .exit) ≡ setCell blockBytes (now (settled .entry)) address (torn (now (marks .entry)) (now (block .entry)) (blockAt (now (settled .entry)) address)) ⌝ }
+{
+    let at = BLOCK * (address as usize);
+    copy_kept(&mut settled[at..at + BLOCK], block, marks);
 }
 
 // Makes all settled and all waiting bytes zero, at no order.

@@ -1,4 +1,4 @@
-// Whole slices: the copier, the zero-fill and the comparison.
+// Whole slices: the copier, the fill and the comparison.
 use crate::number::read_u64;
 ghost use mathlib.Core.Path.{_≡_};
 ghost use mathlib.Core.Bool.{_&&_};
@@ -18,15 +18,22 @@ pub fn copy(dst: &mut [u8], src: &[u8])
     }
 }
 
+// Makes every byte of s this one.
+pub fn fill(s: &mut [u8], byte: u8)
+    ensures { λ _. ⌜ now (s .exit) ≡ replicate (length (now (s .entry))) byte ⌝ }
+{
+    let mut i = 0;
+    while i < s.len() {
+        s[i] = byte;
+        i += 1;
+    }
+}
+
 // Makes every byte of s zero.
 pub fn zero(s: &mut [u8])
     ensures { λ _. ⌜ now (s .exit) ≡ replicate (length (now (s .entry))) 0 ⌝ }
 {
-    let mut i = 0;
-    while i < s.len() {
-        s[i] = 0;
-        i += 1;
-    }
+    fill(s, 0);
 }
 
 // What was seen of two runs of words, with one more of each: 0 as long as they are the same.

@@ -21,6 +21,7 @@ use Rattle.card.specs.Marks.{keptAt, allKept}
 use Rattle.card.proofs.All.{All, all-append, all-map, all-take, all-at, all-upTo}
 use Rattle.card.proofs.Overlays.{lay-same, lay-other, overlay-append, overlay-agree, overlay-other}
 use Rattle.card.proofs.Runs.{Whole, NarrowAddress}
+use Rattle.card.proofs.MarkLaws.{HeaderLast}
 use Rattle.card.proofs.Leaves.{Leaves, only-lost, kept-header, lost-header}
 use Rattle.journal.specs.Geometry.{Geometry, perDescriptor}
 use Rattle.journal.specs.Layout.{headerAt, descriptorAt, describedIn, describedAt, slotAt, firstData, isData}
@@ -60,14 +61,7 @@ module _ (geo : Geometry) (N : ℕ) (s : List ℕ) (n h c : ℕ) (G : List Entry
       all-append (λ e. e .address < X) (slotBlocks geo n G) (descriptors geo s n G ++ (top ∷ [])) (slots-below geo X n G (omega arith))
       (all-append (λ e. e .address < X) (descriptors geo s n G) (top ∷ []) (all-upTo (λ e. e .address < X) (descriptorEntry s n G) (geo .descriptors) (λ j k. omega arith)) (omega arith, tt))
 
-  module _ (room : n + length G ≤ geo .slots) (big : firstData geo < N) (size : Sized N (blockAt s)) where
-    -- a descriptor block has the old addresses as they were
-    described-aside : (j : ℕ) → j < geo .descriptors → Aside geo n (blockAt s) (descriptorEntry s n G j)
-    described-aside j l = record {
-      names = λ i b h k z. listed-old s n G j i b z (size (describedIn i) (omega arith)) h k;
-      above = λ i h z. omega arith;
-    }
-
+  module _ (room : n + length G ≤ geo .slots) where
     -- what holds of the writes to slots and of those to descriptor blocks holds of all but the header
     front-all : (P : Entry → Type 0) → ((e : Entry) → slotAt geo n ≤ e .address → e .address < firstData geo → P e) → ((j : ℕ) → j < geo .descriptors → P (descriptorEntry s n G j)) → All P front
     front-all P f g =
@@ -79,23 +73,38 @@ module _ (geo : Geometry) (N : ℕ) (s : List ℕ) (n h c : ℕ) (G : List Entry
         slots-all [] a b = tt
         slots-all (e ∷ es) a b = (f e (a .0) (b .0), slots-all es (a .1) (b .1))
 
+    front-high : Besides front headerAt
+    front-high = front-all (λ e. headerAt ≢ e .address) (λ e q u z. omega arith) (λ j l z. omega arith)
+
+    -- a header waits behind all the others, and before that none does
+    pub header-none : (k : ℕ) → k ≤ length front → HeaderLast false (take k (appendWrites geo N s n h c G))
+    header-none k l = rw (writes-split, take-append-le k front (top ∷ []) l) (all-take (λ e. headerAt ≢ e .address) k front front-high)
+
+    pub header-last : HeaderLast true (appendWrites geo N s n h c G)
+    header-last = (front, top, writes-split, front-high, refl)
+
+  module _ (room : n + length G ≤ geo .slots) (big : firstData geo < N) (size : Sized N (blockAt s)) where
+    -- a descriptor block has the old addresses as they were
+    described-aside : (j : ℕ) → j < geo .descriptors → Aside geo n (blockAt s) (descriptorEntry s n G j)
+    described-aside j l = record {
+      names = λ i b h k z. listed-old s n G j i b z (size (describedIn i) (omega arith)) h k;
+      above = λ i h z. omega arith;
+    }
+
     front-aside : All (Aside geo n (blockAt s)) front
     front-aside =
-        front-all (Aside geo n (blockAt s))
+        front-all room (Aside geo n (blockAt s))
         (λ e q u. record { names = λ i j l k z. absurd (omega (arith, geo .described)); above = λ i l z. omega arith })
         described-aside
 
     top-aside : Aside geo n (blockAt s) top
     top-aside = record { names = λ i j l k z. absurd (omega arith); above = λ i l z. omega arith }
 
-    front-high : Besides front headerAt
-    front-high = front-all (λ e. headerAt ≢ e .address) (λ e q u z. omega arith) (λ j l z. omega arith)
-
     -- no write goes to a data block
     front-homes : (a : ℕ) → isData geo N a ≡ true → Besides front a
     front-homes a l =
         let above : firstData geo ≤ a = data-above geo N a l in
-        front-all (λ e. a ≢ e .address) (λ e q u z. omega arith) (λ j k z. omega arith)
+        front-all room (λ e. a ≢ e .address) (λ e q u z. omega arith) (λ j k z. omega arith)
 
     all-aside : All (Aside geo n (blockAt s)) (appendWrites geo N s n h c G)
     all-aside = rw writes-split (all-append (Aside geo n (blockAt s)) front (top ∷ []) front-aside (top-aside, tt))
@@ -112,7 +121,7 @@ module _ (geo : Geometry) (N : ℕ) (s : List ℕ) (n h c : ℕ) (G : List Entry
           let p : take k (appendWrites geo N s n h c G) ≡ take k front = ap (take k) writes-split ∙ take-append-le k front (top ∷ []) l in
           let u : Leaves N ms (q₀ ++ take k front) (blockAt s) e = rw p at v in
           aside-stands geo N ms q₀ (take k front) n (blockAt s) e big (omega arith) off u size (all-take (Aside geo n (blockAt s)) k front front-aside)
-          (u .untouched headerAt (omega arith) (all-append (λ x. headerAt ≢ x .address) q₀ (take k front) (off-low geo q₀ off headerAt (omega arith)) (all-take (λ x. headerAt ≢ x .address) k front front-high)))
+          (u .untouched headerAt (omega arith) (all-append (λ x. headerAt ≢ x .address) q₀ (take k front) (off-low geo q₀ off headerAt (omega arith)) (all-take (λ x. headerAt ≢ x .address) k front (front-high room))))
           (λ a q. all-take (λ x. a ≢ x .address) k front (front-homes a q))
 
       module _ (v : Leaves N ms (q₀ ++ appendWrites geo N s n h c G) (blockAt s) e) where
@@ -127,7 +136,7 @@ module _ (geo : Geometry) (N : ℕ) (s : List ℕ) (n h c : ℕ) (G : List Entry
         pub header-lost : keptAt ms (length q₀ + (length G + geo .descriptors)) ≡ false → Stands geo N n q₀ (blockAt s) e
         header-lost z =
             aside-stands geo N ms q₀ (appendWrites geo N s n h c G) n (blockAt s) e big (omega arith) off v size all-aside
-            (lost-header v (only-lost (keptAt ms) headerAt (q₀ ++ front) [] top last-write (all-append (λ x. headerAt ≢ x .address) q₀ front (off-low geo q₀ off headerAt (omega arith)) front-high) tt (ap (keptAt ms) last-place ∙ z))) all-homes
+            (lost-header v (only-lost (keptAt ms) headerAt (q₀ ++ front) [] top last-write (all-append (λ x. headerAt ≢ x .address) q₀ front (off-low geo q₀ off headerAt (omega arith)) (front-high room)) tt (ap (keptAt ms) last-place ∙ z))) all-homes
 
         -- its header was written, and kept
         pub header-kept : keptAt ms (length q₀ + (length G + geo .descriptors)) ≡ true → e headerAt ≡ encode (header N n h (n + length G) (sumOf h G) c)

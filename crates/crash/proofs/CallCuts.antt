@@ -33,21 +33,21 @@ leaves-at : {N M : ℕ} (ms : List ℕ) {q v : List Entry} {s t : List ℕ} (e :
 leaves-at ms e x y z l = rw (x, y, z) at l
 
 -- what a cut leaves of a card on which q waits
-pub left-leaves : (c r : Card) (s : List ℕ) (q : List Entry) (p N : ℕ) (ms : List ℕ) → Left c r s q p → 0 < N → N ≡ blocksIn s → marksFit ms (length q) ≡ true → All Whole q
+pub left-leaves : (c r : Card) (s : List ℕ) (q : List Entry) (p N : ℕ) (ms : List ℕ) → Left c r s q p → 0 < N → N ≡ blocksIn s → marksFit ms q ≡ true → All Whole q
     → Leaves N ms q (blockAt s) (blockAt (cut ms r .settled))
 left-leaves c r s q p N ms l some size f w =
     let some-r : 0 < blocksIn (r .settled) = rw (l .settled) (omega arith) in
-    leaves-at ms (blockAt (cut ms r .settled)) (ap blocksIn (l .settled) ∙ sym size) (l .waits) (l .settled) (cut-leaves ms r some-r (rw (l .count) f) (rw (l .waits) w))
+    leaves-at ms (blockAt (cut ms r .settled)) (ap blocksIn (l .settled) ∙ sym size) (l .waits) (l .settled) (cut-leaves ms r some-r (rw (l .waits) f) (rw (l .waits) w))
 
 -- settled bytes are what a cut that keeps all leaves
-pub settled-leaves : (es : List Entry) (s : List ℕ) (N : ℕ) → 0 < N → N ≡ blocksIn s → All Whole es → Leaves N (ones (length es)) es (blockAt s) (blockAt (settle es s))
+pub settled-leaves : (es : List Entry) (s : List ℕ) (N : ℕ) → 0 < N → N ≡ blocksIn s → All Whole es → Leaves N (ones es) es (blockAt s) (blockAt (settle es s))
 settled-leaves es s N some size w = rw size (settle-leaves es s (omega arith) w)
 
 -- the last write of a cut that keeps all is kept
-last-kept : (q₀ : List Entry) (e : Entry) → keptAt (ones (length (q₀ ++ (e ∷ [])))) (length q₀) ≡ true
+last-kept : (q₀ : List Entry) (e : Entry) → keptAt (ones (q₀ ++ (e ∷ []))) (length q₀) ≡ true
 last-kept q₀ e =
     let k : length (q₀ ++ (e ∷ [])) ≡ length q₀ + 1 = length-append q₀ (e ∷ []) in
-    all-kept-at (ones (length (q₀ ++ (e ∷ [])))) (length (q₀ ++ (e ∷ []))) (length q₀) (ones-fit (length (q₀ ++ (e ∷ [])))) (omega arith) (ones-kept (length (q₀ ++ (e ∷ []))))
+    all-kept-at (ones (q₀ ++ (e ∷ []))) (q₀ ++ (e ∷ [])) (length q₀) (ones-fit (q₀ ++ (e ∷ []))) (omega arith) (ones-kept (q₀ ++ (e ∷ [])))
 
 module _ (geo : Geometry) where
   -- ---- a header behind the queue, cut and settled
@@ -56,11 +56,11 @@ module _ (geo : Geometry) where
     header-whole : All Whole (q₀ ++ (headerEntry h ∷ []))
     header-whole = all-append Whole q₀ (headerEntry h ∷ []) (b .whole) (length-encode h, tt)
 
-    header-left : (c r : Card) (ms : List ℕ) → Left c r s (q₀ ++ (headerEntry h ∷ [])) 0 → marksFit ms (length (q₀ ++ (headerEntry h ∷ []))) ≡ true
+    header-left : (c r : Card) (ms : List ℕ) → Left c r s (q₀ ++ (headerEntry h ∷ [])) 0 → marksFit ms (q₀ ++ (headerEntry h ∷ [])) ≡ true
         → Leaves N ms (q₀ ++ (headerEntry h ∷ [])) (blockAt s) (blockAt (cut ms r .settled))
     header-left c r ms left fit = left-leaves c r s (q₀ ++ (headerEntry h ∷ [])) 0 N ms left (omega (arith, b .big)) (b .size) fit header-whole
 
-    header-settled : Leaves N (ones (length (q₀ ++ (headerEntry h ∷ [])))) (q₀ ++ (headerEntry h ∷ [])) (blockAt s) (blockAt (settle (q₀ ++ (headerEntry h ∷ [])) s))
+    header-settled : Leaves N (ones (q₀ ++ (headerEntry h ∷ []))) (q₀ ++ (headerEntry h ∷ [])) (blockAt s) (blockAt (settle (q₀ ++ (headerEntry h ∷ [])) s))
     header-settled = settled-leaves (q₀ ++ (headerEntry h ∷ [])) s N (omega (arith, b .big)) (b .size) header-whole
 
   -- ---- an append
@@ -76,19 +76,19 @@ module _ (geo : Geometry) where
     whole-writes = writes-whole geo N s n h (S .groups + 1) G (x .blocks)
 
     -- done
-    done-leaves : Leaves N (ones (length (q₀ ++ W))) (q₀ ++ W) (blockAt s) (blockAt (settle (q₀ ++ W) s))
+    done-leaves : Leaves N (ones (q₀ ++ W)) (q₀ ++ W) (blockAt s) (blockAt (settle (q₀ ++ W) s))
     done-leaves = settled-leaves (q₀ ++ W) s N some (x .behind .size) (all-append Whole q₀ W (x .behind .whole) whole-writes)
 
     pub done-card : WholeCard geo Y N (blockAt (settle (q₀ ++ W) s)) (logD geo (blockAt s) n ++ G) (layOver G S) (n + length G)
-    done-card = append-all geo x (settle (q₀ ++ W) s) (ones (length (q₀ ++ W))) done-leaves (ones-kept (length (q₀ ++ W)))
+    done-card = append-all geo x (settle (q₀ ++ W) s) (ones (q₀ ++ W)) done-leaves (ones-kept (q₀ ++ W))
 
     pub done-append : Appended geo Y N (blockAt s) (blockAt (settle (q₀ ++ W) s)) n h (S .groups) G
     done-append =
-        on-card geo x (settle (q₀ ++ W) s) (ones (length (q₀ ++ W))) done-leaves
-        (kept-top geo x (settle (q₀ ++ W) s) (ones (length (q₀ ++ W))) done-leaves (ones-kept (length (q₀ ++ W))))
+        on-card geo x (settle (q₀ ++ W) s) (ones (q₀ ++ W)) done-leaves
+        (kept-top geo x (settle (q₀ ++ W) s) (ones (q₀ ++ W)) done-leaves (ones-kept (q₀ ++ W)))
 
     -- cut short after k writes
-    module _ (c r : Card) (k : ℕ) (left : Left c r s (q₀ ++ take k W) 0) (ms : List ℕ) (fit : marksFit ms (length (q₀ ++ take k W)) ≡ true) where
+    module _ (c r : Card) (k : ℕ) (left : Left c r s (q₀ ++ take k W) 0) (ms : List ℕ) (fit : marksFit ms (q₀ ++ take k W) ≡ true) where
       part-left : Leaves N ms (q₀ ++ take k W) (blockAt s) (blockAt (cut ms r .settled))
       part-left = left-leaves c r s (q₀ ++ take k W) 0 N ms left some (x .behind .size) fit (all-append Whole q₀ (take k W) (x .behind .whole) (all-take Whole k W whole-writes))
 
@@ -133,19 +133,19 @@ module _ (geo : Geometry) where
     pub homes-settled : All Whole (logD geo (blockAt s) n)
         → WholeCard geo Y N (blockAt (settle (q₀ ++ logD geo (blockAt s) n) s)) w S n × ((a : ℕ) → isData geo N a ≡ true → Y a → S .disk a ≡ blockAt (settle (q₀ ++ logD geo (blockAt s) n) s) a)
     homes-settled whole =
-        homes-done geo b (settle (q₀ ++ log) s) (ones (length (q₀ ++ log))) (settled-leaves (q₀ ++ log) s N (omega (arith, b .big)) (b .size) (all-append Whole q₀ log (b .whole) whole))
-        (ones-kept (length (q₀ ++ log)))
+        homes-done geo b (settle (q₀ ++ log) s) (ones (q₀ ++ log)) (settled-leaves (q₀ ++ log) s N (omega (arith, b .big)) (b .size) (all-append Whole q₀ log (b .whole) whole))
+        (ones-kept (q₀ ++ log))
 
     module _ (c r : Card) (ms : List ℕ) where
       -- among the home blocks
-      pub homes-cuts : (k : ℕ) → All Whole (logD geo (blockAt s) n) → Left c r s (q₀ ++ take k (logD geo (blockAt s) n)) 0 → marksFit ms (length (q₀ ++ take k (logD geo (blockAt s) n))) ≡ true
+      pub homes-cuts : (k : ℕ) → All Whole (logD geo (blockAt s) n) → Left c r s (q₀ ++ take k (logD geo (blockAt s) n)) 0 → marksFit ms (q₀ ++ take k (logD geo (blockAt s) n)) ≡ true
           → Leads geo Y N (cut ms r .settled) w S n false
       homes-cuts k whole left fit =
           homes-leads geo b (cut ms r .settled) ms k
           (left-leaves c r s (q₀ ++ take k log) 0 N ms left (omega (arith, b .big)) (b .size) fit (all-append Whole q₀ (take k log) (b .whole) (all-take Whole k log whole)))
 
       -- behind their flush an empty log's header waits
-      pub header-cuts : ((a : ℕ) → isData geo N a ≡ true → X a → S .disk a ≡ blockAt s a) → Left c r s (q₀ ++ (headerEntry (emptyHeader N (S .groups)) ∷ [])) 0 → marksFit ms (length (q₀ ++ (headerEntry (emptyHeader N (S .groups)) ∷ []))) ≡ true
+      pub header-cuts : ((a : ℕ) → isData geo N a ≡ true → X a → S .disk a ≡ blockAt s a) → Left c r s (q₀ ++ (headerEntry (emptyHeader N (S .groups)) ∷ [])) 0 → marksFit ms (q₀ ++ (headerEntry (emptyHeader N (S .groups)) ∷ [])) ≡ true
           → (t : Bool) → keptAt ms (length q₀) ≡ t → Leads geo Y N (cut ms r .settled) (cond t [] w) S (cond t 0 n) false
       header-cuts homes left fit true z = closed-leads geo Y N (cut ms r .settled) [] S 0 false (empty-card geo b (cut ms r .settled) ms homes (header-left b (emptyHeader N (S .groups)) c r ms left fit) z)
       header-cuts homes left fit false z = lost-leads geo b (cut ms r .settled) ms (emptyHeader N (S .groups)) (header-left b (emptyHeader N (S .groups)) c r ms left fit) z
@@ -153,18 +153,18 @@ module _ (geo : Geometry) where
     -- an empty log's header is settled
     pub empty-settled : ((a : ℕ) → isData geo N a ≡ true → X a → S .disk a ≡ blockAt s a) → WholeCard geo Y N (blockAt (settle (q₀ ++ (headerEntry (emptyHeader N (S .groups)) ∷ [])) s)) [] S 0
     empty-settled homes =
-        empty-card geo b (settle (q₀ ++ (headerEntry (emptyHeader N (S .groups)) ∷ [])) s) (ones (length (q₀ ++ (headerEntry (emptyHeader N (S .groups)) ∷ [])))) homes (header-settled b (emptyHeader N (S .groups))) (last-kept q₀ (headerEntry (emptyHeader N (S .groups))))
+        empty-card geo b (settle (q₀ ++ (headerEntry (emptyHeader N (S .groups)) ∷ [])) s) (ones (q₀ ++ (headerEntry (emptyHeader N (S .groups)) ∷ []))) homes (header-settled b (emptyHeader N (S .groups))) (last-kept q₀ (headerEntry (emptyHeader N (S .groups))))
 
   -- ---- nothing more waits
 
   pub still-cuts : {X Y : ℕ → Type 0} {N : ℕ} {s : List ℕ} {q₀ w : List Entry} {S : Laid} {n : ℕ} {F : Bool} → Behind geo X Y N s q₀ w S n F → (c r : Card) (p : ℕ) (ms : List ℕ)
-      → Left c r s q₀ p → marksFit ms (length q₀) ≡ true → Leads geo Y N (cut ms r .settled) w S n F
+      → Left c r s q₀ p → marksFit ms q₀ ≡ true → Leads geo Y N (cut ms r .settled) w S n F
   still-cuts {N = N} {s = s} {q₀ = q₀} b c r p ms left fit = still-leads geo b (cut ms r .settled) ms (left-leaves c r s q₀ p N ms left (omega (arith, b .big)) (b .size) fit (b .whole))
 
   -- ---- a fallback
 
   module _ {X Y : ℕ → Type 0} {N : ℕ} {s : List ℕ} {q₀ w : List Entry} {S : Laid} {n : ℕ} (b : Behind geo X Y N s q₀ w S n true) where
-    pub fall-cuts : (c r : Card) (ms : List ℕ) → Left c r s (q₀ ++ (headerEntry (fallHeader geo N s n (S .groups)) ∷ [])) 0 → marksFit ms (length (q₀ ++ (headerEntry (fallHeader geo N s n (S .groups)) ∷ []))) ≡ true
+    pub fall-cuts : (c r : Card) (ms : List ℕ) → Left c r s (q₀ ++ (headerEntry (fallHeader geo N s n (S .groups)) ∷ [])) 0 → marksFit ms (q₀ ++ (headerEntry (fallHeader geo N s n (S .groups)) ∷ [])) ≡ true
         → (t : Bool) → keptAt ms (length q₀) ≡ t → Leads geo Y N (cut ms r .settled) (cond t (logD geo (blockAt s) n) w) S n (not t)
     fall-cuts c r ms left fit true z =
         closed-leads geo Y N (cut ms r .settled) (logD geo (blockAt s) n) S n false (fallen-card geo b (cut ms r .settled) ms (header-left b (fallHeader geo N s n (S .groups)) c r ms left fit) z)
@@ -172,7 +172,7 @@ module _ (geo : Geometry) where
 
     pub fall-settled : WholeCard geo Y N (blockAt (settle (q₀ ++ (headerEntry (fallHeader geo N s n (S .groups)) ∷ [])) s)) (logD geo (blockAt s) n) S n
     fall-settled =
-        fallen-card geo b (settle (q₀ ++ (headerEntry (fallHeader geo N s n (S .groups)) ∷ [])) s) (ones (length (q₀ ++ (headerEntry (fallHeader geo N s n (S .groups)) ∷ [])))) (header-settled b (fallHeader geo N s n (S .groups)))
+        fallen-card geo b (settle (q₀ ++ (headerEntry (fallHeader geo N s n (S .groups)) ∷ [])) s) (ones (q₀ ++ (headerEntry (fallHeader geo N s n (S .groups)) ∷ []))) (header-settled b (fallHeader geo N s n (S .groups)))
         (last-kept q₀ (headerEntry (fallHeader geo N s n (S .groups))))
 
   -- ---- any queue of whole writes to data blocks will do, and what it does not write to is spared

@@ -11,9 +11,9 @@ use Rattle.cells.specs.Cell.{cell}
 use Rattle.cells.specs.Cell.Laws.{length-cell, getD-cell}
 use Rattle.cells.specs.Entry.{blockBytes, Entry}
 use Rattle.card.specs.Disk.{Disk, overlay}
-use Rattle.card.proofs.All.{All, all-append, all-map}
+use Rattle.card.proofs.All.{All, all-append, all-map, Any, any-elim}
 use Rattle.card.proofs.Overlays.{overlay-agree, overlay-cover}
-use Rattle.card.proofs.Leaves.{Any, any-elim, Leaves}
+use Rattle.card.proofs.Leaves.{Leaves}
 use Rattle.journal.specs.Geometry.{Geometry}
 use Rattle.journal.specs.Layout.{headerAt, describedIn, describedAt, slotAt, firstData, isData}
 use Rattle.journal.specs.Log.{allData}

@@ -263,7 +263,7 @@ module _ (geo : Geometry) where
           kept-top =
               let e : length W ≡ length G + geo .descriptors + 1 = length-append-writes geo N s n h (S .groups + 1) G in
               let m : length (q₀ ++ W) ≡ length q₀ + length W = length-append q₀ W in
-              all-kept-at ms (length (q₀ ++ W)) ownPlace (v .fits) (omega arith) all
+              all-kept-at ms (q₀ ++ W) ownPlace (v .fits) (omega arith) all
 
           found : logD geo (blockAt t) (n + length G) ≡ logD geo (blockAt s) n ++ G
           found = found-written geo N s n h (S .groups + 1) G (x .room) big sized (x .narrow) ms q₀ (x .behind .off) (blockAt t) v all

@@ -1,5 +1,6 @@
--- Refusals, and the same calls through C and through the script.
+-- Refusals, the cut of any state, and the same calls through C and through the script.
 pub mod Refusals
+pub mod Cuts
 pub mod Costs
 pub mod FaceRefusals
 pub mod Links

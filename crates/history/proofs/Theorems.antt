@@ -1,4 +1,4 @@
--- The theorems about histories. Their types stand in specs/Statements.antt, specs/Refusals.antt, specs/Costs.antt, specs/Dispatch.antt,
+-- The theorems about histories. Their types stand in specs/Statements.antt, specs/Refusals.antt, specs/Cuts.antt, specs/Costs.antt, specs/Dispatch.antt,
 -- specs/Linked.antt and specs/Scripts.antt.
 use Prim.Native.Nat.{ℕ}
 use mathlib.Core.Path.{_≡_, refl, ap, sym, _∙_}
@@ -26,6 +26,7 @@ use Rattle.history.specs.Ledger.{Ledger}
 use Rattle.history.specs.History.{World, begun, after, foundWritten}
 use Rattle.history.specs.Statements.{Sound, Safety, FallbackNumbered, Refinement, ReadBack, WrittenSummed, Logged, Written, CrashAtomicity}
 use Rattle.history.specs.Refusals.{Refusals}
+use Rattle.history.specs.Cuts.{AllCuts}
 use Rattle.history.specs.Costs.{Costs}
 use Rattle.history.specs.Linked.{Linked}
 use Rattle.history.specs.Scripts.{ScriptsAreHistories}
@@ -40,6 +41,7 @@ use Rattle.history.proofs.Relation.PlainAnswers.{Either, served-answer}
 use Rattle.history.proofs.Atomicity.ReadsBack as ReadsBack
 use Rattle.history.proofs.Atomicity.Splits as Atomicity
 use Rattle.history.proofs.Boundary.Refusals as RefusalsProof
+use Rattle.history.proofs.Boundary.Cuts as CutsProof
 use Rattle.history.proofs.Boundary.FaceRefusals as FaceRefusals
 use Rattle.history.proofs.Boundary.Costs as CostsProof
 use Rattle.history.proofs.Boundary.Links as Links
@@ -152,6 +154,11 @@ module _ (geo : Geometry) where
     gets = FaceRefusals.gets geo;
     asks = FaceRefusals.asks geo;
   }
+
+  -- ---- The cut
+
+  pub all-cuts : AllCuts geo
+  all-cuts = CutsProof.all-cuts geo
 
   -- ---- What a call will take
 

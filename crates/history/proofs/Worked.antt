@@ -4,4 +4,5 @@ pub mod Card
 pub mod Plain
 pub mod Sync
 pub mod Blank
+pub mod TornMarks
 pub mod Both

@@ -94,7 +94,7 @@ noted (h ∷ hs) k l =
     (cond (eqb k (suc (h .at))) (waitsBehind (h .place) (h .list) l)
     (noted hs k (settledBy (h .list))))
 
--- an accepted cut: the header that waits is the card's if its mark is 1
+-- an accepted cut: the header that waits is the card's if it is kept, all of it
 unfoldable pub resolved : List ℕ → Pending → List Entry → List Entry
 resolved ms nothing written = written
 resolved ms (waits place list) written = cond (keptAt ms place) list written

@@ -5,6 +5,7 @@ pub mod Dispatch
 pub mod Ledger
 pub mod History
 pub mod Statements
+pub mod Cuts
 pub mod Scripts
 pub mod Refusals
 pub mod Costs

@@ -1,5 +1,5 @@
 -- "The plain disk": a machine of its own, from its own section of document 01. Of the store it shares entries, the overlay, the
--- numbers of the causes, the data-block test, the largest save number, the names of the calls, and those of a cut's marks.
+-- numbers of the causes, the data-block test, the largest save number, the names of the calls, and the tests of a cut's marks.
 use Prim.Native.Nat.{ℕ, _+_, _-_}
 use mathlib.Core.Bool.{Bool, true, false, cond, not, _&&_, _||_}
 use mathlib.Core.List.{List, [], _∷_}
@@ -7,7 +7,7 @@ use lib.Dec.{eqb, leb, ltb}
 use lib.ListN.{length, replicate}
 use Rattle.cells.specs.Entry.{blockBytes, Entry}
 use Rattle.card.specs.Disk.{overlay}
-use Rattle.card.specs.Marks.{marksFit, keptAt}
+use Rattle.card.specs.Marks.{marksFor, wholeAt, keptAt}
 use Rattle.journal.specs.Geometry.{Geometry}
 use Rattle.journal.specs.Layout.{isData}
 use Rattle.journal.specs.Header.{mostSave}
@@ -92,32 +92,9 @@ unfoldable pub merge : List Entry → List Entry → List Entry
 merge [] g = g
 merge (e ∷ es) g = merge es (insert e g)
 
--- ---- refusals
-
--- "mode closed" 3, "mode down" 4, else as the rest says
-abbrev pub whenOpen : Plain → ℕ → ℕ
-whenOpen d rest = cond (eqb (d .mode) 0) 3 (cond (eqb (d .mode) 2) 4 rest)
-
--- W-201: 12, "when a nonempty sync meets the largest save number"
-abbrev pub lastSave : Plain → Bool
-lastSave d = not (eqb (length (d .G)) 0) && eqb (d .S .groups) mostSave
+-- ---- orders
 
 module _ (geo : Geometry) where
-  unfoldable pub refusal : Call → Plain → ℕ
-  refusal (local (Local.power k)) d = 0
-  refusal (local (Local.put a b)) d =
-      cond (not (eqb (length b) blockBytes)) 1
-      (whenOpen d (cond (not (isData geo (d .N) a)) 6 (cond (not (has a (d .T)) && leb (geo .slots) (length (d .T))) 7 0)))
-  refusal (local (Local.get a)) d = whenOpen d (cond (not (isData geo (d .N) a)) 6 0)
-  refusal (local Local.commit) d = whenOpen d (cond (ltb (geo .slots) (length (merge (d .T) (d .G)))) 7 0)
-  refusal (local Local.abandon) d = whenOpen d 0
-  refusal (save Save.sync) d = whenOpen d (cond (lastSave d) 12 0)
-  refusal (save Save.apply) d = whenOpen d 0
-  refusal (save Save.recover) d = cond (eqb (d .mode) 2) 4 (cond (eqb (d .mode) 1) 5 0)
-  refusal (cut ms) d = cond (not (marksFit ms (d .waiting))) 10 0
-
-  -- ---- orders
-
   -- "If n+m > 32, apply runs first"
   abbrev pub applies : ℕ → ℕ → Bool
   applies n m = not (leb (n + m) (geo .slots))
@@ -172,6 +149,44 @@ module _ (geo : Geometry) where
       cond (applies geo n m)
       (cond (eqb k (applyTakes n + (m + geo .descriptors + 1))) (ownVerdict 0 m kept found) (applyVerdict k n F kept))
       (cond (eqb k (m + geo .descriptors + 1)) (ownVerdict n m kept found) (unchanged n F))
+
+-- ---- refusals
+
+-- "mode closed" 3, "mode down" 4, else as the rest says
+abbrev pub whenOpen : Plain → ℕ → ℕ
+whenOpen d rest = cond (eqb (d .mode) 0) 3 (cond (eqb (d .mode) 2) 4 rest)
+
+-- W-201: 12, "when a nonempty sync meets the largest save number"
+abbrev pub lastSave : Plain → Bool
+lastSave d = not (eqb (length (d .G)) 0) && eqb (d .S .groups) mostSave
+
+module _ (geo : Geometry) where
+  -- whether the last header write of the call cut short waits; it is the last waiting write then
+  unfoldable pub headerWaits : Short → ℕ → ℕ → Bool
+  headerWaits none n m = false
+  headerWaits (ofRecover k) n m = eqb k 1
+  headerWaits (ofApply k) n m = eqb k (n + 2)
+  headerWaits (ofSync k) n m =
+      cond (applies geo n m)
+      (eqb k (n + 2) || eqb k (applyTakes n + (m + geo .descriptors + 1)))
+      (eqb k (m + geo .descriptors + 1))
+
+  -- 10: W-204: "for each waiting write, 512 marks", none over 1, and those of a header that waits "all 0 or all 1"
+  unfoldable pub plainFit : List ℕ → Plain → Bool
+  plainFit ms d = marksFor ms (d .waiting) && (not (headerWaits (d .short) (d .n) (length (d .G))) || wholeAt ms (d .waiting - 1))
+
+  unfoldable pub refusal : Call → Plain → ℕ
+  refusal (local (Local.power k)) d = 0
+  refusal (local (Local.put a b)) d =
+      cond (not (eqb (length b) blockBytes)) 1
+      (whenOpen d (cond (not (isData geo (d .N) a)) 6 (cond (not (has a (d .T)) && leb (geo .slots) (length (d .T))) 7 0)))
+  refusal (local (Local.get a)) d = whenOpen d (cond (not (isData geo (d .N) a)) 6 0)
+  refusal (local Local.commit) d = whenOpen d (cond (ltb (geo .slots) (length (merge (d .T) (d .G)))) 7 0)
+  refusal (local Local.abandon) d = whenOpen d 0
+  refusal (save Save.sync) d = whenOpen d (cond (lastSave d) 12 0)
+  refusal (save Save.apply) d = whenOpen d 0
+  refusal (save Save.recover) d = cond (eqb (d .mode) 2) 4 (cond (eqb (d .mode) 1) 5 0)
+  refusal (cut ms) d = cond (not (plainFit ms d)) 10 0
 
 -- ---- the steps
 
@@ -230,7 +245,7 @@ plainRecover d =
     let k : ℕ = cond (d .F) 2 0 in
     cond (leb k (d .power)) (done k (recovered k d)) (cutShort (ofRecover (d .power)) (d .power) d)
 
--- "if that write was kept": a header that waits is the last waiting write, and so is its mark
+-- "if that write was kept": a header that waits is the last waiting write, and so are its marks
 unfoldable pub headerKept : List ℕ → ℕ → Bool
 headerKept ms waiting = keptAt ms (waiting - 1)
 

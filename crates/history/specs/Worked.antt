@@ -1,5 +1,6 @@
 -- "Around it", document 01's two worked scripts on a card of 64 blocks, as lists of calls: "format / put 40 7 / commit / sync / put 40 9 /
--- commit / power 3 / sync / cut 101 / power 100 / recover / get 40", and the same with cut 111.
+-- commit / power 3 / sync / cut 101 / power 100 / recover / get 40", and the same with cut 111. W-204: and the same with cuts that tear the log
+-- block, or the descriptor.
 use Prim.Native.Nat.{ℕ}
 use mathlib.Core.Path.{_≡_}
 use mathlib.Core.Bool.{Bool, true, false}
@@ -9,6 +10,7 @@ use Rattle.cells.specs.Entry.{blockBytes, Entry}
 use Rattle.card.specs.Card.{blocksIn}
 use Rattle.card.specs.Marks.{marksOf}
 use Rattle.store.specs.State.{State}
+use Rattle.script.specs.Replies.{marks}
 use Rattle.store.specs.Format.{formatCall}
 use Rattle.journal.specs.Geometry.{trap}
 use Rattle.history.specs.Call.{Call, power, put, get, commit, sync, recover, cut}
@@ -35,12 +37,34 @@ filed = put 40 sevens ∷ commit ∷ sync ∷ []
 abbrev pub halted : List Call
 halted = put 40 nines ∷ commit ∷ power 3 ∷ sync ∷ []
 
--- the marks of "cut 101" and of "cut 111": "1 kept or 0 lost"
+-- the marks of "cut 101" and of "cut 111": "1 kept or 0 lost", each "stands for 512 equal ones"
 abbrev pub cut101 : List ℕ
 cut101 = marksOf (true ∷ false ∷ true ∷ [])
 
 abbrev pub cut111 : List ℕ
 cut111 = marksOf (true ∷ true ∷ true ∷ [])
+
+-- of the log block the first half is kept; descriptor and header are kept
+abbrev pub half : List ℕ
+half = replicate 256 1 ++ replicate 256 0
+
+abbrev pub cutHalf : List ℕ
+cutHalf = half ++ marksOf (true ∷ true ∷ [])
+
+-- of the descriptor the fifth byte alone is kept, the first of the new slot's address; log block and header are kept
+abbrev pub fifth : List ℕ
+fifth = replicate 4 0 ++ (1 ∷ replicate 507 0)
+
+abbrev pub cutFifth : List ℕ
+cutFifth = replicate blockBytes 1 ++ (fifth ++ marksOf (true ∷ []))
+
+-- of the header the first half is kept
+abbrev pub cutHeader : List ℕ
+cutHeader = replicate blockBytes 1 ++ (replicate blockBytes 1 ++ half)
+
+-- "cut", a tab and digits
+abbrev pub cutLine : List ℕ → List ℕ
+cutLine digits = 99 ∷ 117 ∷ 116 ∷ 9 ∷ digits
 
 -- then "cut […] / power 100"
 abbrev pub crashed : List ℕ → List Call
@@ -79,9 +103,16 @@ pub record Script (st : State) (ms : List ℕ) (same new all : Bool) (k c : ℕ)
   pub groups : groupsLaid trap (filed ++ crashed ms) (begun trap st) (known quiet) ≡ c
   pub block : blockOf trap 40 (storeNext trap recover (metByRecover ms st)) ≡ b
 
--- cut 101 loses the new descriptor: another log than the one written, no collision, old, save 1; cut 111 keeps every write: new, save 2.
--- There is such a card
+-- cut 101 loses the new descriptor: another log than the one written, no collision, old, save 1; cut 111 keeps every write: new, save 2. Where
+-- half of the log block is kept: again another log, no collision, old, save 1; where of the descriptor just the byte is kept that is new: the
+-- log written, new, save 2, though not every write was kept. A torn header is refused, and leaves everything. The digits of a line are
+-- the marks of its cut. There is such a card
 pub record Worked : Type 0 where
-  pub torn : (st : State) → formatCall trap st .answer ≡ 0 → blocksIn (st .settled) ≡ 64 → Script st cut101 false false false 2 1 sevens
+  pub lost : (st : State) → formatCall trap st .answer ≡ 0 → blocksIn (st .settled) ≡ 64 → Script st cut101 false false false 2 1 sevens
   pub whole : (st : State) → formatCall trap st .answer ≡ 0 → blocksIn (st .settled) ≡ 64 → Script st cut111 true true true 0 2 nines
+  pub halved : (st : State) → formatCall trap st .answer ≡ 0 → blocksIn (st .settled) ≡ 64 → Script st cutHalf false false false 2 1 sevens
+  pub harmless : (st : State) → formatCall trap st .answer ≡ 0 → blocksIn (st .settled) ≡ 64 → Script st cutFifth true true false 0 2 nines
+  pub header : (st : State) → formatCall trap st .answer ≡ 0 → blocksIn (st .settled) ≡ 64
+      → dispatch trap (cut cutHeader) (metByCut st .store) ≡ record { answer = 10; orders = 0; state = metByCut st .store }
+  pub digits : (marks (cutLine (49 ∷ 48 ∷ 49 ∷ [])) ≡ cut101) × (marks (cutLine (49 ∷ 49 ∷ 49 ∷ [])) ≡ cut111) × (marks (cutLine (49 ∷ 49 ∷ 48 ∷ [])) ≡ marksOf (true ∷ true ∷ false ∷ []))
   pub card : (st : State) × (formatCall trap st .answer ≡ 0) × (blocksIn (st .settled) ≡ 64)

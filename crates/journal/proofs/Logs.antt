@@ -1,7 +1,7 @@
 -- The laws of the log's entries, their sum and the tests on them.
 use Prim.Native.Nat.{ℕ, _+_, _*_, _^_, _≤_, _<_}
 use mathlib.Core.Path.{_≡_, refl, ap, sym, _∙_}
-use mathlib.Core.Bool.{Bool, true, false, _&&_, _||_, and-true, true≢false, false≢true}
+use mathlib.Core.Bool.{Bool, true, false, _&&_, _||_, and-true, true≢false}
 use mathlib.Core.List.{List, [], _∷_, _++_, append-nil}
 use native.Mathlib.Numerals.{add-one}
 use native.Mathlib.Omega.{arith}
@@ -23,16 +23,12 @@ use Rattle.fnv.proofs.Laws.{sumFrom-nil, sumFrom-append, sumFrom-lt}
 use Rattle.card.specs.Card.{blockAt, blocksIn}
 use Rattle.card.proofs.All.{All, all-upTo, upTo-all}
 use Rattle.card.proofs.Runs.{Whole, NarrowAddress}
+pub use Rattle.card.proofs.MarkLaws.{both}
 use Rattle.journal.specs.Geometry.{Geometry}
 use Rattle.journal.specs.Layout.{slotAt, describedIn, describedAt, firstData, isData}
 use Rattle.journal.specs.Log.{slotAddress, slotEntry, entries, entriesFrom, sumOf, allData}
 
 -- ---- tests
-
-pub both : (a b : Bool) → a && b ≡ true → (a ≡ true) × (b ≡ true)
-both true true e = (refl, refl)
-both true false e = (refl, e)
-both false b e = absurd (false≢true e)
 
 pub neither : (a b : Bool) → a || b ≡ false → (a ≡ false) × (b ≡ false)
 neither true b e = absurd (true≢false e)

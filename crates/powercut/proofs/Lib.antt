@@ -1,2 +1,3 @@
 -- The laws of the map.
 pub mod EverySet
+pub mod TryBytes

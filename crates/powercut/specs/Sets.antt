@@ -1,5 +1,6 @@
--- The sets of kept writes that a cut is tried with, by number. Write i is the i-th waiting one, oldest first, from 0. Up to 5: all
--- sets, each by its bits. More, n of them: 0 keeps none; 1 to n keep one alone; n + 1 to 2n lose one alone; 2n + 1 keeps all.
+-- The sets of kept writes that a cut is tried with, by number. Each write is kept whole or lost whole. Write i is the i-th waiting one,
+-- oldest first, from 0. Up to 5: all sets, each by its bits. More, n of them: 0 keeps none; 1 to n keep one alone; n + 1 to 2n lose one
+-- alone; 2n + 1 keeps all.
 use Prim.Native.Nat.{ℕ, zero, suc, _≤_, _+_, _*_, _/_, _%_, _^_}
 use mathlib.Core.Path.{_≡_}
 use mathlib.Core.Bool.{Bool, cond, not}
@@ -19,11 +20,11 @@ setCount n = cond (leb n few) (2 ^ n) (2 * n + 2)
 unfoldable pub keeps : ℕ → ℕ → ℕ → Bool
 keeps n set i = cond (leb n few) (eqb (set / 2 ^ i % 2) 1) (cond (leb set n) (eqb set (i + 1)) (not (eqb set (n + 1 + i))))
 
--- its mark
+-- its mark, that of each byte
 unfoldable pub mark : ℕ → ℕ → ℕ → ℕ
 mark n set i = cond (keeps n set i) 1 0
 
--- the marks of a set
+-- the marks of a set, one for each write
 unfoldable pub marks : ℕ → ℕ → List ℕ
 marks n set = upTo (λ i. mark n set i) n
 

@@ -2,7 +2,9 @@
 use crate::buffers::Settled;
 use crate::buffers::Waiting;
 use crate::buffers::Work;
-use crate::sets;
+use crate::tears;
+use crate::tries;
+use cells::BLOCK;
 use cells::bytes::copy;
 use journal::PLACES;
 use store::record::Record;
@@ -11,12 +13,13 @@ ghost use Prim.Native.Nat.{_≤_};
 ghost use Rattle.store.specs.CodeState.{stateOf};
 ghost use Rattle.store.specs.Cut.{cutCall};
 ghost use Rattle.journal.specs.Geometry.{trap};
-ghost use Rattle.powercut.specs.Sets.{marks};
+ghost use Rattle.powercut.specs.Tears.{tearable};
+ghost use Rattle.powercut.specs.Tries.{tryMarks};
 
-// The orders that happen before it, and the number of the set of writes that it keeps.
+// The orders that happen before it, and the number of the try of its cut.
 pub(crate) struct Loss {
     pub orders: u32,
-    pub set: u32,
+    pub attempt: u32,
 }
 
 // The power that suffices for any recovery.
@@ -37,24 +40,31 @@ pub(crate) fn saved(
     save.rec
 }
 
-// The cut with a set. A record with more waiting writes than there are places stays as it is.
-fn cut(r: Record, s: &mut Settled, w: &Waiting, k: &Work, set: u32) -> Record
-    ensures { λ q. ⌜ (r .waiting ≤ trap .places → stateOf q (now (s .exit)) (now (w .entry)) (now (k .entry)) ≡ cutCall trap (marks (r .waiting) set) (stateOf r (now (s .entry)) (now (w .entry)) (now (k .entry))) .state) ⌝ }
+// The cut of a try. A record with more waiting writes than there are places stays as it is.
+fn cut(r: Record, s: &mut Settled, w: &Waiting, k: &Work, attempt: u32) -> Record
+    ensures { λ q. ⌜ (r .waiting ≤ trap .places → stateOf q (now (s .exit)) (now (w .entry)) (now (k .entry)) ≡ cutCall trap (tryMarks (r .waiting) (tearable (now (w .entry)) (r .waiting)) attempt) (stateOf r (now (s .entry)) (now (w .entry)) (now (k .entry))) .state) ⌝ }
 {
     let n = r.waiting;
     if PLACES < n as usize {
         return r;
     }
-    let mut marks = [0u8; PLACES];
-    sets::marks(n, set, &mut marks);
-    let end = n as usize;
+    let mut marks = [0u8; BLOCK * PLACES];
+    tries::marks(n, tears::tearable(w, n), attempt, &mut marks);
+    let end = BLOCK * (n as usize);
     let a = r.cut(s, w, k, &marks[..end]);
     a.rec
 }
 
 // The cut, then a recovery with power for so many orders.
-fn booted(r: Record, s: &mut Settled, w: &mut Waiting, k: &Work, set: u32, orders: u32) -> Record {
-    let closed = cut(r, s, w, k, set);
+fn booted(
+    r: Record,
+    s: &mut Settled,
+    w: &mut Waiting,
+    k: &Work,
+    attempt: u32,
+    orders: u32,
+) -> Record {
+    let closed = cut(r, s, w, k, attempt);
     let powered = closed.power(s, w, k, orders);
     let recovered = powered.rec.recover(s, w, k);
     recovered.rec
@@ -71,7 +81,7 @@ pub(crate) fn recovered(
     orders: u32,
 ) -> Record {
     let save = saved(r, start, s, w, k, loss.orders);
-    booted(save, s, w, k, loss.set, orders)
+    booted(save, s, w, k, loss.attempt, orders)
 }
 
 // The save lost, the recovery lost, then a recovery with all its power.
@@ -85,5 +95,5 @@ pub(crate) fn recovered_again(
     again: Loss,
 ) -> Record {
     let first = recovered(r, start, s, w, k, loss, again.orders);
-    booted(first, s, w, k, again.set, ENOUGH)
+    booted(first, s, w, k, again.attempt, ENOUGH)
 }

@@ -1,11 +1,11 @@
-// The map of power cuts: a save of three blocks, lost at every order with every set of kept writes.
+// The map of power cuts: a save of three blocks, lost at every order, with every set of kept writes and with writes torn.
 //
 // The card has 64 blocks. `append` saves behind a log of one save, in 6 orders; `apply` behind a log of ten, 30 entries, which has no
-// room, so that the save applies it first, in 39. A line is the scenario, the power of the save, and a character for each set of
-// kept writes of the cut that follows, in the order of `sets`. A character is what is found in the end: `o`, every data block is
-// old; `n`, the three are new and the others old; `?`, anything else. Behind each cut stands a recovery with all its power, and each
-// cut inside it: with power for 0, 1 and 2 orders, with every set of its own kept writes, and a recovery then. If these differ it
-// is `?`.
+// room, so that the save applies it first, in 39. A line is the scenario, the power of the save, and a character for each try of the
+// cut that follows: the sets of kept writes, in the order of `sets`, then the tears, in the order of `tears`. A character is what is
+// found in the end: `o`, every data block is old; `n`, the three are new and the others old; `?`, anything else. Behind each cut
+// stands a recovery with all its power, and each cut inside it: with power for 0, 1 and 2 orders, with every try of its own, and a
+// recovery then. If these differ it is `?`.
 //
 // The last line says whether there is a `?`. The file stdout holds the map; docs/powercut.py draws it.
 mod buffers;
@@ -13,6 +13,8 @@ mod contents;
 mod loss;
 mod map;
 mod sets;
+mod tears;
+mod tries;
 
 use crate::buffers::SETTLED;
 use crate::map::map;

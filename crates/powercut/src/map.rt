@@ -1,4 +1,4 @@
-// The map: a line for each power of the save, a character for each set of kept writes.
+// The map: a line for each power of the save, a character for each try of its cut.
 use crate::buffers::Settled;
 use crate::buffers::Waiting;
 use crate::buffers::Work;
@@ -10,19 +10,27 @@ use crate::loss::Loss;
 use crate::loss::recovered;
 use crate::loss::recovered_again;
 use crate::loss::saved;
-use crate::sets;
+use crate::tears;
+use crate::tries;
 use cells::bytes::copy;
 use journal::PLACES;
 use libc::STDOUT_FILENO;
 use store::record::Record;
+ghost use mathlib.Core.Path.{_≡_};
 ghost use Prim.Native.Nat.{_≤_};
+ghost use Rattle.journal.specs.Geometry.{trap};
+ghost use Rattle.powercut.specs.Tears.{tearable};
+ghost use Rattle.powercut.specs.Tries.{tryCount};
 
-// How many sets there are for what waits in a record. One that can't be cut is tried once, and then found as `?`.
-fn sets_of(r: Record) -> u32 {
-    if PLACES < r.waiting as usize {
+// How many tries there are of a record's cut. One that can't be cut is tried once, and then found as `?`.
+fn tries_of(r: Record, w: &Waiting) -> u32
+    ensures { λ q. ⌜ (r .waiting ≤ trap .places → q ≡ tryCount (r .waiting) (tearable (now (w .entry)) (r .waiting))) ⌝ }
+{
+    let n = r.waiting;
+    if PLACES < n as usize {
         return 1;
     }
-    sets::count(r.waiting)
+    tries::count(n, tears::tearable(w, n))
 }
 
 // Two findings that should be one.
@@ -33,8 +41,8 @@ fn both(one: u8, other: u8) -> u8 {
     b'?'
 }
 
-// The recovery with power for so many orders, lost with every set of its kept writes.
-fn with_sets(
+// The recovery with power for so many orders, lost with every try of its cut.
+fn with_tries(
     c: Scenario,
     start: &Settled,
     s: &mut Settled,
@@ -46,14 +54,15 @@ fn with_sets(
 ) -> u8
     requires { ⌜ c .saves ≤ 10 ⌝ }
 {
-    let n = sets_of(recovered(c.rec, start, s, w, k, loss, orders));
+    let stopped = recovered(c.rec, start, s, w, k, loss, orders);
+    let n = tries_of(stopped, w);
     let mut found = before;
-    let mut set = 0;
-    while set < n {
-        let again = Loss { orders, set };
+    let mut attempt = 0;
+    while attempt < n {
+        let again = Loss { orders, attempt };
         let last = recovered_again(c.rec, start, s, w, k, loss, again);
         found = both(found, letter(last, s, w, k, c.saves));
-        set += 1;
+        attempt += 1;
     }
     found
 }
@@ -66,7 +75,7 @@ fn found(c: Scenario, start: &Settled, s: &mut Settled, w: &mut Waiting, k: &Wor
     let mut found = letter(first, s, w, k, c.saves);
     let mut orders = 0;
     while orders <= ENOUGH {
-        found = with_sets(c, start, s, w, k, loss, orders, found);
+        found = with_tries(c, start, s, w, k, loss, orders, found);
         orders += 1;
     }
     found
@@ -83,14 +92,15 @@ fn characters(
 ) -> bool
     requires { ⌜ c .saves ≤ 10 ⌝ }
 {
-    let n = sets_of(saved(c.rec, start, s, w, k, orders));
+    let stopped = saved(c.rec, start, s, w, k, orders);
+    let n = tries_of(stopped, w);
     let mut whole = true;
-    let mut set = 0;
-    while set < n {
-        let found = found(c, start, s, w, k, Loss { orders, set });
+    let mut attempt = 0;
+    while attempt < n {
+        let found = found(c, start, s, w, k, Loss { orders, attempt });
         io::write_all(STDOUT_FILENO, &[found]);
         whole = whole && found != b'?';
-        set += 1;
+        attempt += 1;
     }
     whole
 }

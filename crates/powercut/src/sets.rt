@@ -1,10 +1,10 @@
-// The sets of kept writes that a cut is tried with, by number. Write i is the i-th waiting one, oldest first, from 0.
+// The sets of kept writes that a cut is tried with, by number. Each write is kept whole or lost whole. Write i is the i-th waiting one,
+// oldest first, from 0.
 //
 // Up to 5 waiting writes: all sets. Set j keeps write i if bit i of j is 1, so the first keeps none and the last keeps all.
 // More than 5, n of them: 0 keeps none; 1 to n keep one alone, oldest first; n + 1 to 2n lose one alone; 2n + 1 keeps all.
 ghost use mathlib.Core.Path.{_≡_};
-ghost use Prim.Native.Nat.{_+_, _≤_, _<_};
-ghost use lib.ListN.{length, take};
+ghost use Prim.Native.Nat.{_+_, _*_, _≤_, _<_};
 ghost use Rattle.journal.specs.Geometry.{trapPlaces};
 ghost use Rattle.powercut.specs.Sets as Sets;
 
@@ -14,7 +14,7 @@ const FEW: u32 = 5;
 // How many sets there are for n waiting writes.
 pub(crate) fn count(n: u32) -> u32
     requires { ⌜ n ≤ trapPlaces ⌝ }
-    ensures { λ r. ⌜ r ≡ Sets.setCount n ⌝ }
+    ensures { λ r. ⌜ (r ≡ Sets.setCount n) × (r ≤ 2 * trapPlaces + 2) ⌝ }
 {
     if n <= FEW {
         return 1 << n;
@@ -36,7 +36,8 @@ fn keeps(n: u32, set: u32, i: u32) -> bool
     set != n + 1 + i
 }
 
-fn mark(n: u32, set: u32, i: u32) -> u8
+// The mark of each byte of write i.
+pub(crate) fn mark(n: u32, set: u32, i: u32) -> u8
     requires { ⌜ (n ≤ trapPlaces) × (i < n) ⌝ }
     ensures { λ r. ⌜ r ≡ Sets.mark n set i ⌝ }
 {
@@ -44,16 +45,4 @@ fn mark(n: u32, set: u32, i: u32) -> u8
         return 1;
     }
     0
-}
-
-// The marks of a set, in front of the buffer.
-pub(crate) fn marks(n: u32, set: u32, to: &mut [u8])
-    requires { ⌜ (n ≤ trapPlaces) × (length (now to) ≡ trapPlaces) ⌝ }
-    ensures { λ _. ⌜ take n (now (to .exit)) ≡ Sets.marks n set ⌝ }
-{
-    let mut i = 0;
-    while i < n {
-        to[i as usize] = mark(n, set, i);
-        i += 1;
-    }
 }

@@ -1,15 +1,15 @@
 -- The laws of replies.
-use Prim.Native.Nat.{ℕ, suc, _+_, _-_, _<_, _≤_}
+use Prim.Native.Nat.{ℕ, suc, _+_, _*_, _-_, _<_, _≤_}
 use mathlib.Core.Path.{_≡_, refl, ap, _∙_}
 use mathlib.Core.Bool.{Bool, true, false, cond}
 use mathlib.Core.List.{List, _++_, append-assoc, append-nil}
 use native.Mathlib.Omega.{arith}
-use native.Mathlib.Numerals.{add-one}
 use denote.Ref.{RefT}
 use lib.Dec.{eqb}
-use lib.ListN.{length, take, drop, set, getD, drop-of-length-le}
-use lib.Seq.{take-suc-set, drop-cons}
+use lib.ListN.{length, take, drop, getD, replicate, length-append, length-drop, length-replicate, drop-of-length-le}
+use lib.Seq.{length-take-le, take-at, drop-cons}
 use Rattle.cells.specs.Part.{View, viewOf}
+use Rattle.card.specs.Marks.{spread}
 use Rattle.store.specs.declared.place.Place.{Place}
 use Rattle.store.specs.declared.place.Place.the-variants.{Settled, Work, Nowhere}
 use Rattle.store.specs.State.{State}
@@ -48,13 +48,21 @@ got-done a n t st r settled work hs hw hn hr ht =
 
 -- ---- marks
 
-pub marks-turn : (line ms : List ℕ) (i v : ℕ) → i + 4 < length line → i < length ms → v ≡ getD line (i + 4) 0 - zeroDigit
-    → take (i + 1) (set ms i v) ++ values (drop (i + 1 + 4) line) ≡ take i ms ++ values (drop (i + 4) line)
-unfolding values
-marks-turn line ms i v h l e =
-    let n : i + 1 + 4 ≡ suc (i + 4) = omega arith in
-    rw (n, add-one, take-suc-set ms i v l, drop-cons line (i + 4) 0 h, e, append-assoc)
+-- one digit more: its marks, once their part is back, and the digits behind it
+pub marks-turn : (line ms part : List ℕ) (i v n : ℕ) → i + 4 < length line → 512 * i + 512 ≤ length ms → n ≡ 512 → v ≡ getD line (i + 4) 0 - zeroDigit
+    → part ≡ replicate (length (take n (drop (512 * i) ms))) v
+    → take (512 * (i + 1)) (take (512 * i) ms ++ (part ++ drop n (drop (512 * i) ms))) ++ spread (values (drop (i + 1 + 4) line)) ≡ take (512 * i) ms ++ spread (values (drop (i + 4) line))
+unfolding values spread
+marks-turn line ms part i v n h l k e p =
+    let next : i + 1 + 4 ≡ suc (i + 4) = omega arith in
+    let front : length (take (512 * i) ms) ≡ 512 * i = length-take-le (512 * i) ms (omega arith) in
+    let behind : length (drop (512 * i) ms) ≡ length ms - 512 * i = length-drop (512 * i) ms in
+    let long : length (take n (drop (512 * i) ms)) ≡ 512 = length-take-le n (drop (512 * i) ms) (omega arith) ∙ k in
+    let own : part ≡ replicate 512 v = p ∙ ap (λ (x : ℕ). replicate x v) long in
+    let size : length (take (512 * i) ms ++ part) ≡ 512 * (i + 1) = length-append (take (512 * i) ms) part ∙ rw (front, own, length-replicate) (omega arith) in
+    rw (← append-assoc (take (512 * i) ms) part (drop n (drop (512 * i) ms)), take-at (take (512 * i) ms ++ part) (drop n (drop (512 * i) ms)) (512 * (i + 1)) size, next, drop-cons line (i + 4) 0 h, ← e, own, append-assoc)
 
-pub marks-over : (line ms : List ℕ) (i : ℕ) → length line ≤ i + 4 → take i ms ++ values (drop (i + 4) line) ≡ take i ms
-unfolding values
+-- behind the last digit there are none
+pub marks-over : (line ms : List ℕ) (i : ℕ) → length line ≤ i + 4 → take (512 * i) ms ++ spread (values (drop (i + 4) line)) ≡ take (512 * i) ms
+unfolding values spread
 marks-over line ms i h = rw (drop-of-length-le line {i = i + 4} h, append-nil)

@@ -1,10 +1,11 @@
 -- What a line does to the store, and the numbers that answer it.
-use Prim.Native.Nat.{ℕ, _-_}
+use Prim.Native.Nat.{ℕ, _*_, _-_}
 use mathlib.Core.Bool.{cond}
 use mathlib.Core.List.{List, [], _∷_}
 use lib.Dec.{eqb}
 use lib.ListN.{drop, getD, replicate}
 use Rattle.cells.specs.Entry.{blockBytes}
+use Rattle.card.specs.Marks.{spread}
 use Rattle.store.specs.State.{State, Outcome}
 use Rattle.store.specs.Request.{get}
 use Rattle.store.specs.Causes.{cause}
@@ -51,13 +52,20 @@ unfoldable pub values : List ℕ → List ℕ
 values [] = []
 values (b ∷ s) = (b - zeroDigit) ∷ values s
 
--- the most that the kept bytes of a line hold behind a word of three and a tab
-abbrev pub mostMarks : ℕ
-mostMarks = keptBytes - 4
+-- a cut's digits, behind its word of three and a tab. A lacking field "gives no marks"
+abbrev pub digits : List ℕ → List ℕ
+digits line = values (drop 4 line)
 
--- a cut's marks, behind its word and a tab. A lacking field "gives no marks"
+-- W-204: "The script's single mark stands for 512 equal ones."
 abbrev pub marks : List ℕ → List ℕ
-marks line = values (drop 4 line)
+marks line = spread (digits line)
+
+-- the most digits and marks that the kept bytes of a line can give
+abbrev pub mostDigits : ℕ
+mostDigits = keptBytes - 4
+
+abbrev pub mostMarks : ℕ
+mostMarks = blockBytes * mostDigits
 
 unfoldable pub perform : Command → List ℕ → State → Reply
 perform Format line st = called (formatCall trap st)

@@ -3,6 +3,7 @@ use crate::KEPT;
 use crate::command::Command;
 use crate::number::value_of;
 use cells::BLOCK;
+use cells::bytes::fill;
 use store::record::Answer;
 use store::record::Record;
 use store::saved::Saved;
@@ -22,10 +23,10 @@ ghost use Rattle.script.specs.CodeSession.{replyOf};
 // The answer to a line that is not understood.
 const NOT_UNDERSTOOD: u32 = 11;
 
-// Where the marks start in the line of a cut, and the most that there are.
-const MARKS_AT: usize = 4;
+// Where the digits start in the line of a cut, and the most marks that they give.
+const DIGITS_AT: usize = 4;
 
-const MARKS: usize = KEPT - MARKS_AT;
+const MARKS: usize = BLOCK * (KEPT - DIGITS_AT);
 
 // The answer, the third number and the record.
 pub(crate) struct Done {
@@ -126,16 +127,17 @@ fn cut(line: &[u8], rec: Record, settled: &mut [u8], waiting: &[u8], work: &[u8]
     called(rec.cut(settled, waiting, work, &marks[..count]))
 }
 
-// The values of the digits behind the line's fourth byte; how many there are.
+// For each digit behind the line's fourth byte 512 marks, its value each; how many marks there are.
 fn read_marks(line: &[u8], marks: &mut [u8]) -> usize
     requires { ⌜ length (now line) ≤ keptBytes ⌝ }
     requires { ⌜ length (now marks) ≡ mostMarks ⌝ }
     ensures { λ r. ⌜ (r ≤ mostMarks) × (take r (now (marks .exit)) ≡ Replies.marks (now (line .entry))) ⌝ }
 {
     let mut i = 0;
-    while i + MARKS_AT < line.len() {
-        marks[i] = value_of(line[i + MARKS_AT]);
+    while i + DIGITS_AT < line.len() {
+        let at = BLOCK * i;
+        fill(&mut marks[at..at + BLOCK], value_of(line[i + DIGITS_AT]));
         i += 1;
     }
-    i
+    BLOCK * i
 }

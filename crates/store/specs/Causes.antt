@@ -6,7 +6,7 @@ use mathlib.Core.List.{List, [], _∷_}
 use lib.Dec.{eqb, leb, ltb}
 use lib.ListN.{length}
 use Rattle.cells.specs.Entry.{blockBytes, entryBytes, entryAt}
-use Rattle.card.specs.Card.{blocksIn}
+use Rattle.card.specs.Card.{blocksIn, queue}
 use Rattle.card.specs.Marks.{marksFit}
 use Rattle.journal.specs.Geometry.{Geometry}
 use Rattle.journal.specs.declared.lookup.Found.{Found}
@@ -15,7 +15,7 @@ use Rattle.journal.specs.Layout.{isData, wrongSize}
 use Rattle.journal.specs.Header.{mostSave}
 use Rattle.journal.specs.Log.{entries, allData}
 use Rattle.journal.specs.Choice.{choose, choiceNumber}
-use Rattle.store.specs.State.{State, closed, openMode, down}
+use Rattle.store.specs.State.{State, closed, openMode, down, cardIn}
 use Rattle.store.specs.Lists.{openFrom, groupFrom, listed, find}
 use Rattle.store.specs.Local as Local
 use Rattle.store.specs.Save as Save
@@ -149,10 +149,11 @@ module _ (geo : Geometry) where
   abbrev pub unsoundRow : Row
   unsoundRow = record { number = 9; behind = lib.Dec.lit< tt; test = λ st. eqb (choiceNumber (choose geo (st .rec .blocks) (st .settled))) 9 }
 
--- ---- 10: "cut: marks not as many as waiting, or a mark over 1"
+-- ---- 10: "cut: marks not as many as waiting, or a mark over 1". W-204: "for each waiting write, 512 marks"; "the marks of each write to
+-- block 0 must be all 0 or all 1, or the cut is refused as 10"
 
 abbrev pub marksRow : List ℕ → Row
-marksRow ms = record { number = 10; behind = lib.Dec.lit< tt; test = λ st. not (marksFit ms (st .rec .waiting)) }
+marksRow ms = record { number = 10; behind = lib.Dec.lit< tt; test = λ st. not (marksFit ms (queue (cardIn st))) }
 
 -- ---- 12: W-201: "when a nonempty sync meets the largest save number, checked after 4 and before any order"
 

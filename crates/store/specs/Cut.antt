@@ -1,6 +1,6 @@
--- "Cut. It takes one mark for each waiting write, 1 kept or 0 lost. Kept writes settle, oldest first, whole. The queue is emptied, the
--- record closed, its open, group and log counts 0, its sum the empty list's. N and the power count stay." W-201: the record's save number
--- is "0 after a cut".
+-- "Cut." W-204: "A cut now takes, for each waiting write, 512 marks instead of one; byte by byte the newest kept write wins". "The queue is
+-- emptied, the record closed, its open, group and log counts 0, its sum the empty list's. N and the power count stay." W-201: the record's
+-- save number is "0 after a cut".
 use Prim.Native.Nat.{ℕ}
 use mathlib.Core.List.{List}
 use Rattle.fnv.specs.Fnv.{start}

@@ -1,4 +1,4 @@
-// cut: the waiting writes that are marked as kept settle, and the record is closed.
+// cut: of the waiting writes the bytes settle that are marked as kept, and the record is closed.
 use crate::record::Answer;
 use crate::record::CLOSED;
 use crate::record::Record;

@@ -71,7 +71,7 @@ impl Record {
         if number != 0 {
             return number;
         }
-        if !fit(marks, self.waiting) {
+        if !fit(marks, waiting, self.waiting) {
             return 10;
         }
         0

@@ -8,7 +8,7 @@ use native.Mathlib.Decide.{decLt}
 use native.Mathlib.Omega.{arith}
 use lib.Dec.{lit<}
 use lib.ListN.{length, take, drop, getD, set, replicate, length-take, length-drop, length-replicate, getD-replicate}
-use lib.Seq.{sets, sets-eq, length-sets, length-take-le, take-nil, take-all, take-at, drop-at, drop-drop, getD-take, getD-drop, getD-set-other, ext-getD}
+use lib.Seq.{sets, sets-eq, length-sets, length-take-le, take-nil, take-all, take-at, drop-at, drop-drop, getD-take, getD-drop, getD-set-other, set-getD, ext-getD}
 use Rattle.cells.specs.Cell.{cell, setCell}
 use Rattle.cells.specs.Little.{Bytes}
 
@@ -91,6 +91,20 @@ cell-same k s i v h e =
     let p : k * i + length v ≤ length s = omega arith in
     rw (take-all k v (omega arith), sets-eq v s (k * i) p, append-assoc, drop-at (take (k * i) s) (v ++ drop (k * i + length v) s) (k * i) (length-take-le (k * i) s (omega arith)))
     (take-at v (drop (k * i + length v) s) k e)
+
+-- the cell that stands there, stored, changes nothing
+pub set-own : (k : ℕ) (s : List ℕ) (i : ℕ) → setCell k s i (cell k s i) ≡ s
+unfolding cell setCell
+set-own k s i = own (take k (take k (drop (k * i) s))) (k * i) s (λ j l. getD-take k (take k (drop (k * i) s)) j 0 (inner j l) ∙ getD-take k (drop (k * i) s) j 0 (inner j l) ∙ getD-drop (k * i) s j 0)
+  where
+    inner : (j : ℕ) → j < length (take k (take k (drop (k * i) s))) → j < k
+    inner j l = let e : length (take k (take k (drop (k * i) s))) ≡ min k (length (take k (drop (k * i) s))) = length-take k (take k (drop (k * i) s)) in omega arith
+
+    own : (vs : List ℕ) (p : ℕ) (l : List ℕ) → ((j : ℕ) → j < length vs → getD vs j 0 ≡ getD l (p + j) 0) → sets l p vs ≡ l
+    own [] p l h = refl
+    own (v ∷ vs) p l h =
+        let same : set l p v ≡ l = (let z : v ≡ getD l p 0 = h 0 (omega arith) ∙ ap (λ (x : ℕ). getD l x 0) (native.Mathlib.Nat.add-zero p) in ap (set l p) z ∙ set-getD l p 0) in
+        rw same (own vs (suc p) l (λ j b. let z : suc p + j ≡ p + suc j = omega arith in rw z (h (suc j) (omega arith))))
 
 pub cell-other : (k : ℕ) (s : List ℕ) (i j : ℕ) (v : List ℕ) → j ≢ i → cell k (setCell k s i v) j ≡ cell k s j
 unfolding cell setCell

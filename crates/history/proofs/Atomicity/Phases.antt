@@ -18,7 +18,7 @@ use Rattle.journal.proofs.Choices.{both}
 use Rattle.crash.proofs.Leads.{foundIn}
 use Rattle.store.specs.Save as Save
 use Rattle.store.specs.Request as Request
-use Rattle.store.specs.State.{State, Outcome, closed, openMode, down, withQueue, withRecord}
+use Rattle.store.specs.State.{State, Outcome, closed, openMode, down, withQueue, withRecord, cardIn}
 use Rattle.store.specs.Causes.{cause}
 use Rattle.history.specs.Call.{Call, requestOf, local, save, cut, power, sync, apply, recover}
 use Rattle.history.specs.Plain.{Plain, Done, withPower, Verdict, verdict, headerKept, lastSave, refusal}
@@ -58,7 +58,7 @@ module _ (geo : Geometry) where
     pub S : d .S ≡ old
     pub group : d .G ≡ G
     pub laid : (ms : List ℕ) (found : Bool) → planned geo d ms found .laid ≡ made && keptAt ms place && found
-    pub whole : made ≡ true → (ms : List ℕ) → marksFit ms (st .rec .waiting) ≡ true → allKept ms ≡ true → (keptAt ms place ≡ true) × (sameLog (foundIn geo (cutSettled ms st)) (cutWritten ms l) ≡ true)
+    pub whole : made ≡ true → (ms : List ℕ) → marksFit ms (queue (cardIn st)) ≡ true → allKept ms ≡ true → (keptAt ms place ≡ true) × (sameLog (foundIn geo (cutSettled ms st)) (cutWritten ms l) ≡ true)
 
   abbrev pub Watch : Laid → Progress → State → Ledger → Plain → Type 0
   Watch old (known quiet) st l d = OpenPhase old st d ⊎ OtherPhase old quiet st d

@@ -11,7 +11,7 @@ use lib.Dec.{eqb, leb}
 use lib.ListN.{length}
 use Rattle.cells.specs.Entry.{Entry}
 use Rattle.crash.specs.Laid.{Laid, layOver}
-use Rattle.card.specs.Marks.{marksFit, keptAt, allKept}
+use Rattle.card.specs.Marks.{keptAt, allKept}
 use Rattle.journal.specs.Geometry.{Geometry}
 use Rattle.journal.proofs.Choices.{both}
 use Rattle.crash.proofs.Leads.{foundIn}
@@ -233,7 +233,7 @@ module _ (geo : Geometry) where
           laid = λ ns u. ap (λ (v : Verdict). v .laid) (PlainLaws.choose-none geo _ _ _ _ u);
           whole = λ e.
               let q = both made (allKept ms) e in
-              let y = x .whole (q .0) ms (ap (marksFit ms) (sym (m .basics .mirrors .waiting)) ∙ CutStep.marks-fit geo ms (w .plain) h) (q .1) in
+              let y = x .whole (q .0) ms (CutStep.fits-cut geo ms w m h) (q .1) in
               rw (q .0, y .0, y .1);
         })
 

@@ -10,15 +10,16 @@ use lib.Dec.{eqb, ltb}
 use lib.ListN.{length}
 use Rattle.cells.specs.Upto.Laws.{length-upTo}
 use Rattle.cells.specs.Entry.{blockBytes, entryAt}
-use Rattle.card.specs.Card.{blocksIn}
+use Rattle.card.specs.Card.{blocksIn, queue}
+use Rattle.card.specs.Marks.{marksFit}
 use Rattle.card.specs.CodeQueue.{Below}
-use Rattle.card.proofs.All.{All, all-map}
+use Rattle.card.proofs.All.{All}
 use Rattle.journal.specs.Geometry.{Geometry}
 use Rattle.journal.specs.Layout.{wrongSize}
 use Rattle.journal.specs.Log.{entries}
 use Rattle.journal.specs.Choice.{choose, choiceNumber}
 use Rattle.journal.proofs.Logs.{neither, allData-all, all-allData}
-use Rattle.store.specs.State.{State, closed, openMode, down}
+use Rattle.store.specs.State.{State, closed, openMode, down, cardIn}
 use Rattle.store.specs.Lists.{openFrom, groupFrom, listed, listOf}
 use Rattle.store.specs.Local as Local
 use Rattle.store.specs.Save as Save
@@ -28,7 +29,7 @@ use Rattle.store.specs.Causes as Causes
 use Rattle.store.specs.Causes.{wrongSizes, wrongCounts, wrongWaiting, wrongLists, wrongRecord, Row, closedRow, downRow, addressRow, openFullRow, groupFullRow, lastSaveRow, Rules, ofBytes, ofRecord, ofOpen, rules, ownSize, wrongBlock, some, first, causeBy, cause}
 use Rattle.store.proofs.Causes.{readsRecord, needsOpen, other, SizeFacts, sizes-facts, counts-facts, waiting-facts, Passes, cause-passes as Causes·cause-passes}
 use Rattle.history.specs.Call.{Call, requestOf, local, save, cut, recover}
-use Rattle.history.specs.Plain.{Plain, whenOpen, refusal}
+use Rattle.history.specs.Plain.{Plain, whenOpen, plainFit, refusal}
 use Rattle.history.proofs.Relation.Lists.{none-some, find-has, Distinct, twice-distinct, distinct-twice, Data, strays-all, all-strays}
 use Rattle.history.proofs.Relation.WorkLists.{newcomers-merge}
 
@@ -173,23 +174,23 @@ module _ (geo : Geometry) where
     open-refusal own rs k e =
         rw (sizes, counts, m .mode) (ap (λ (n : ℕ). cond own 1 n) (when-open (st .rec .mode) (first rs st) k (record-facts geo st counts .mode) e))
 
-    pub cause-refusal : (c : Call) → (c ≡ recover → st .rec .mode ≡ closed → choiceNumber (choose geo (st .rec .blocks) (st .settled)) ≡ 0)
+    pub cause-refusal : (c : Call) → (c ≡ recover → st .rec .mode ≡ closed → choiceNumber (choose geo (st .rec .blocks) (st .settled)) ≡ 0) → ((ms : List ℕ) → marksFit ms (queue (cardIn st)) ≡ plainFit geo ms d)
         → cause geo (requestOf c) st ≡ refusal geo c d
     unfolding refusal
-    cause-refusal (local (Local.power k)) h = rw (sizes, counts)
-    cause-refusal (local (Local.put a b)) h =
+    cause-refusal (local (Local.power k)) h f = rw (sizes, counts)
+    cause-refusal (local (Local.put a b)) h f =
         open-refusal (not (eqb (length b) blockBytes)) (addressRow geo a ∷ openFullRow geo a ∷ []) _
         (λ o. rw (m .N, find-has (st .work) openFrom (st .rec .opened) a, m .T o, length-upTo (listed (st .work) openFrom) (st .rec .opened)))
-    cause-refusal (local (Local.get a)) h = open-refusal false (addressRow geo a ∷ []) _ (λ o. rw (m .N))
-    cause-refusal (local Local.commit) h =
+    cause-refusal (local (Local.get a)) h f = open-refusal false (addressRow geo a ∷ []) _ (λ o. rw (m .N))
+    cause-refusal (local Local.commit) h f =
         open-refusal false (groupFullRow geo ∷ []) _
         (λ o. rw (newcomers-merge geo (st .work) (st .rec .grouped) (st .rec .opened) (record-facts geo st counts .lists o .open-distinct), m .T o, m .G o))
-    cause-refusal (local Local.abandon) h = open-refusal false [] 0 (λ o. refl)
-    cause-refusal (save Save.sync) h =
+    cause-refusal (local Local.abandon) h f = open-refusal false [] 0 (λ o. refl)
+    cause-refusal (save Save.sync) h f =
         open-refusal false (lastSaveRow ∷ []) _
         (λ o. rw (m .save o, m .G o, length-upTo (listed (st .work) (groupFrom geo)) (st .rec .grouped)))
-    cause-refusal (save Save.apply) h = open-refusal false [] 0 (λ o. refl)
-    cause-refusal (save Save.recover) h = rw (sizes, counts, m .mode) (go (eqb (st .rec .mode) down) (eqb (st .rec .mode) openMode) refl refl)
+    cause-refusal (save Save.apply) h f = open-refusal false [] 0 (λ o. refl)
+    cause-refusal (save Save.recover) h f = rw (sizes, counts, m .mode) (go (eqb (st .rec .mode) down) (eqb (st .rec .mode) openMode) refl refl)
       where
         choice : ℕ
         choice = choiceNumber (choose geo (st .rec .blocks) (st .settled))
@@ -203,7 +204,7 @@ module _ (geo : Geometry) where
             let b : st .rec .mode ≢ openMode = eqb-false _ _ q in
             let k : st .rec .mode ≤ down = record-facts geo st counts .mode in
             rw (h refl (omega arith))
-    cause-refusal (cut ms) h = rw (sizes, counts, m .waiting)
+    cause-refusal (cut ms) h f = rw (sizes, counts, f ms)
 
 -- ---- numbers that are not given
 

@@ -2,7 +2,7 @@
 use Prim.Native.Nat.{ℕ, suc, _+_, _-_, _≤_, _<_}
 use mathlib.Core.Path.{_≡_, refl, ap, sym, _∙_}
 use mathlib.Core.Logic.{_≢_}
-use mathlib.Core.Bool.{Bool, true, false, cond, not, _&&_}
+use mathlib.Core.Bool.{Bool, true, false, cond, not, _&&_, _||_, or-false}
 use mathlib.Core.List.{List}
 use native.Mathlib.Omega.{arith}
 use native.Mathlib.Decide.{ℕ-discrete}
@@ -13,7 +13,7 @@ use Rattle.card.specs.Marks.{keptAt}
 use Rattle.journal.specs.Geometry.{Geometry}
 use Rattle.journal.specs.Header.{mostSave}
 use Rattle.history.specs.Call.{sync}
-use Rattle.history.specs.Plain.{Plain, Done, none, ofSync, ofApply, ofRecover, applies, applyTakes, syncTakes, applyWaits, syncWaits, unchanged, Verdict, applyVerdict, ownVerdict, verdict, cutShort, plainSync, plainApply, plainRecover, headerKept, refusal, lastSave, done, still, synced, cleared, recovered}
+use Rattle.history.specs.Plain.{Plain, Done, none, ofSync, ofApply, ofRecover, applies, applyTakes, syncTakes, applyWaits, syncWaits, unchanged, Verdict, applyVerdict, ownVerdict, verdict, cutShort, plainSync, plainApply, plainRecover, headerKept, headerWaits, refusal, lastSave, done, still, synced, cleared, recovered}
 use Rattle.history.specs.Ledger.{Ledger}
 
 -- ---- equal field by field
@@ -225,6 +225,36 @@ own-new n m = refl
 pub own-other : (n m : ℕ) → ownVerdict n m true false ≡ unchanged n true
 unfolding ownVerdict
 own-other n m = refl
+
+-- ---- whether a header waits
+
+module _ (geo : Geometry) where
+  pub header-none : (n m : ℕ) → headerWaits geo none n m ≡ false
+  unfolding headerWaits
+  header-none n m = refl
+
+  pub header-recover : (k n m : ℕ) → headerWaits geo (ofRecover k) n m ≡ eqb k 1
+  unfolding headerWaits
+  header-recover k n m = refl
+
+  pub header-apply : (k n m : ℕ) → headerWaits geo (ofApply k) n m ≡ eqb k (n + 2)
+  unfolding headerWaits
+  header-apply k n m = refl
+
+  -- inside a sync, before its own orders
+  pub header-sync-apply : (k n m : ℕ) → geo .slots < n + m → k < n + 3 → headerWaits geo (ofSync k) n m ≡ eqb k (n + 2)
+  unfolding headerWaits
+  header-sync-apply k n m h l = rw (do-apply geo n m h, ne-eqb k (n + 3 + (m + geo .descriptors + 1)) (λ e. omega arith), or-false (eqb k (n + 2)))
+
+  -- its own
+  pub header-sync-own : (k n m : ℕ) → innerTakes geo n m ≤ k → headerWaits geo (ofSync k) n m ≡ eqb k (innerTakes geo n m + (m + geo .descriptors + 1))
+  unfolding headerWaits
+  header-sync-own k n m h = go (applies geo n m) h
+    where
+      go : (t : Bool) → cond t (n + 3) 0 ≤ k
+          → cond t (eqb k (n + 2) || eqb k (n + 3 + (m + geo .descriptors + 1))) (eqb k (m + geo .descriptors + 1)) ≡ eqb k (cond t (n + 3) 0 + (m + geo .descriptors + 1))
+      go true l = rw (ne-eqb k (n + 2) (λ e. omega arith))
+      go false l = let e : 0 + (m + geo .descriptors + 1) ≡ m + geo .descriptors + 1 = omega arith in rw e
 
 -- the header's mark
 pub kept-mark : (ms : List ℕ) (w k : ℕ) → w ≡ suc k → headerKept ms w ≡ keptAt ms k

@@ -9,15 +9,16 @@ use Rattle.cells.specs.Entry.{Entry}
 use Rattle.fnv.specs.Fnv.{start}
 use Rattle.crash.specs.Laid.{Laid, layOver}
 use Rattle.card.specs.Card as Card
-use Rattle.card.specs.Card.{blockAt}
+use Rattle.card.specs.Card.{queue, blockAt}
 use Rattle.card.specs.Marks.{marksFit}
+use Rattle.card.proofs.MarkLaws.{HeaderLast}
 use Rattle.journal.specs.Geometry.{Geometry}
 use Rattle.journal.specs.Log.{entries, sumOf}
 use Rattle.crash.proofs.Cards.{Every, WholeCard, ClosedCard}
 use Rattle.crash.proofs.Leads.{Leads, foundIn}
 use Rattle.store.specs.State.{State, closed, openMode, down, cardIn}
 use Rattle.store.specs.Causes.{wrongSizes, wrongRecord}
-use Rattle.history.specs.Plain.{Plain, none, Verdict, verdict, headerKept}
+use Rattle.history.specs.Plain.{Plain, none, headerWaits, Verdict, verdict, headerKept}
 use Rattle.history.specs.Ledger.{Ledger, nothing, resolved, sameLog}
 use Rattle.history.proofs.Relation.CauseLaws.{Mirrors}
 use Rattle.history.proofs.Relation.EvenLedgers.{Even}
@@ -77,10 +78,11 @@ module _ (geo : Geometry) where
       → Leads geo Every N s w (cond (v .laid) X S) (v .n) (v .F)
   leads-laid S X v v′ e l = rw e l
 
-  -- down: every cut leads to what the plain disk chooses
+  -- down: a header waits as the last write or none does, as the plain disk has it, and every cut leads to what it chooses
   pub record DownSim (st : State) (l : Ledger) (d : Plain) : Type 0 where
     pub mode : st .rec .mode ≡ down
-    pub cuts : (ms : List ℕ) → marksFit ms (st .rec .waiting) ≡ true → CutLeads ms st l d
+    pub top : HeaderLast (headerWaits geo (d .short) (d .n) (length (d .G))) (queue (cardIn st))
+    pub cuts : (ms : List ℕ) → marksFit ms (queue (cardIn st)) ≡ true → CutLeads ms st l d
 
   pub record Sim (st : State) (l : Ledger) (d : Plain) : Type 0 where
     pub basics : Basics geo st d

@@ -6,12 +6,14 @@ use mathlib.Core.List.{List, [], _++_}
 use native.Mathlib.Omega.{arith}
 use native.Mathlib.Nat.{zero-add}
 use lib.ListN.{length, take, length-append}
+use lib.Seq.{take-all}
 use Rattle.cells.specs.Upto.Laws.{length-upTo}
 use Rattle.cells.specs.Entry.{Entry}
 use Rattle.fnv.specs.Fnv.{start}
 use Rattle.crash.specs.Laid.{Laid, layOver}
 use Rattle.card.specs.Card.{Card, cut, settle, blockAt}
 use Rattle.card.specs.Marks.{marksFit, keptAt, allKept}
+use Rattle.card.proofs.MarkLaws.{HeaderLast}
 use Rattle.journal.specs.Geometry.{Geometry}
 use Rattle.journal.specs.Layout.{headerAt}
 use Rattle.journal.specs.Header.{encode, header}
@@ -24,7 +26,7 @@ use Rattle.crash.proofs.CallCuts.{append-cuts, append-cuts-lost, append-cuts-ne
 use Rattle.crash.proofs.Cards.{Every, WholeCard, append-head}
 use Rattle.crash.proofs.Leads.{Leads, Appending, ownPlace, foundIn}
 use Rattle.crash.proofs.Logs.{slotE, logD, entries-disk}
-use Rattle.crash.proofs.Appends.{writes-whole, writes-below}
+use Rattle.crash.proofs.Appends.{writes-whole, writes-below, length-front, header-none, header-last}
 use Rattle.history.specs.Plain.{ownVerdict}
 use Rattle.history.specs.Ledger.{sameLog}
 use Rattle.history.proofs.Relation.PlainLaws.{own-lost, own-new, own-other}
@@ -46,16 +48,25 @@ module _ (geo : Geometry) where
       low = writes-below geo N s n h (S .groups + 1) G N (x .room) (omega (arith, x .behind .big));
     }
 
+    -- a header waits behind all its orders but the flush, and before that none does
+    pub top-none : (j : ℕ) → j ≤ length G + geo .descriptors → HeaderLast false (take j W)
+    top-none j l = header-none geo N s n h (S .groups + 1) G (x .room) j (rw (length-front geo N s n h (S .groups + 1) G) l)
+
+    pub top-last : (j : ℕ) → j ≡ length G + geo .descriptors + 1 → HeaderLast true (take j W)
+    top-last j e =
+        let size : length W ≡ length G + geo .descriptors + 1 = length-append-writes geo N s n h (S .groups + 1) G in
+        rw (take-all j W (omega arith)) (header-last geo N s n h (S .groups + 1) G (x .room))
+
     -- its header's place
     place : ownPlace geo x ≡ length G + geo .descriptors
     place = zero-add (length G + geo .descriptors)
 
     -- ---- cut short after j of its orders
 
-    pub short-before : (c r : Card) (j : ℕ) → Left c r s (take j W) 0 → j ≤ length G + geo .descriptors → (ms : List ℕ) → marksFit ms (length (take j W)) ≡ true → Leads geo Every N (cut ms r .settled) v S n false
+    pub short-before : (c r : Card) (j : ℕ) → Left c r s (take j W) 0 → j ≤ length G + geo .descriptors → (ms : List ℕ) → marksFit ms (take j W) ≡ true → Leads geo Every N (cut ms r .settled) v S n false
     short-before c r j f l ms m = append-cuts geo x c r j f ms m l
 
-    pub short-top : (c r : Card) (j : ℕ) → Left c r s (take j W) 0 → j ≡ length G + geo .descriptors + 1 → (ms : List ℕ) → marksFit ms (length (take j W)) ≡ true
+    pub short-top : (c r : Card) (j : ℕ) → Left c r s (take j W) 0 → j ≡ length G + geo .descriptors + 1 → (ms : List ℕ) → marksFit ms (take j W) ≡ true
         → (t u : Bool) → keptAt ms (length G + geo .descriptors) ≡ t → sameLog (foundIn geo (cut ms r .settled)) (cond t (logD geo (blockAt s) n ++ G) v) ≡ u
         → Leads geo Every N (cut ms r .settled) (cond t (logD geo (blockAt s) n ++ G) v) (cond (ownVerdict n (length G) t u .laid) (layOver G S) S) (ownVerdict n (length G) t u .n) (ownVerdict n (length G) t u .F)
     short-top c r j f e ms m false u p q =
@@ -69,7 +80,7 @@ module _ (geo : Geometry) where
         (append-cuts-old geo x c r j f ms m e (ap (keptAt ms) place ∙ p) q)
 
     -- with every write kept the log found is the log written
-    pub whole-found : (c r : Card) (j : ℕ) → Left c r s (take j W) 0 → j ≡ length G + geo .descriptors + 1 → (ms : List ℕ) → marksFit ms (length (take j W)) ≡ true → allKept ms ≡ true
+    pub whole-found : (c r : Card) (j : ℕ) → Left c r s (take j W) 0 → j ≡ length G + geo .descriptors + 1 → (ms : List ℕ) → marksFit ms (take j W) ≡ true → allKept ms ≡ true
         → (keptAt ms (length G + geo .descriptors) ≡ true) × (sameLog (foundIn geo (cut ms r .settled)) (logD geo (blockAt s) n ++ G) ≡ true)
     whole-found c r j f e ms m all = (
       ap (keptAt ms) (sym place) ∙ append-cuts-kept geo x c r j f ms m e all,

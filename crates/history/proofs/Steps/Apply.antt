@@ -26,7 +26,7 @@ use Rattle.history.specs.History.{World, ledgerNext, foundWritten}
 use Rattle.crash.proofs.Plans.{Plan, planned, takes, Throughout, throughout-map}
 use Rattle.history.proofs.Relation.CauseLaws.{RecordFacts, record-facts}
 use Rattle.history.proofs.Relation.Sim.{Basics, OpenSim, leads-still}
-use Rattle.history.proofs.Relation.PlainLaws.{apply-laid, apply-nothing, apply-finished, apply-short, choose-apply}
+use Rattle.history.proofs.Relation.PlainLaws.{apply-laid, apply-nothing, apply-finished, apply-short, choose-apply, header-apply}
 use Rattle.history.proofs.Steps.Shown.{WorldSim, StepOK, sim-step, sim-at, same-cause, plain-served, noted-none}
 use Rattle.history.proofs.Steps.Notes.{note-past, noted-end}
 use Rattle.history.proofs.Steps.Gives.{openPlain, countable, open-listed, group-listed, CutsAt, Gives, gives-step}
@@ -99,6 +99,7 @@ module _ (geo : Geometry) where
           throughout-map (CheckpointCuts geo st (settledLedger v) (plainNow geo st S) b o []) (CutsAt geo w (applyHeader st ∷ []) ofApply (applyWaits (st .rec .logged))) [] plan (st .settled) 0
           (λ s q k h y. record {
             waiting = y .waiting;
+            top = rw (header-apply geo k (st .rec .logged) (length (groupOf geo st))) (y .top);
             leads = λ r l ms e. leads-still geo _ _ _ (choose-apply geo k (st .rec .logged) (length (groupOf geo st)) false (headerKept ms (applyWaits (st .rec .logged) k)) _) (apply-laid k _ _ _) (y .leads r l ms e);
           })
           (checkpoint-cuts geo st (settledLedger v) (plainNow geo st S) b o [])

@@ -2,14 +2,18 @@
 use Prim.Native.Nat.{ℕ, _+_, _/_, _≤_, _<_}
 use mathlib.Core.Path.{_≡_, refl, ap, ap₂, sym, _∙_}
 use mathlib.Core.Bool.{true, false}
+use mathlib.Core.Logic.{_≢_}
 use mathlib.Core.List.{List, [], _∷_}
 use native.Mathlib.Omega.{arith}
+use borrow.Author.Tests.{eq-eqb, ne-eqb}
+use lib.Dec.{eqb}
 use lib.ListN.{length, take, length-take}
 use Rattle.cells.specs.Entry.{blockBytes, Entry}
 use Rattle.card.specs.Card.{Card, cut, settle, blockAt, blocksIn}
-use Rattle.card.proofs.All.{All, all-map}
+use Rattle.card.proofs.All.{All, all-map, all-take}
 use Rattle.card.proofs.Runs.{Whole, length-settle}
-use Rattle.card.specs.Marks.{marksFit, keptAt}
+use Rattle.card.specs.Marks.{wholeBlock, marksFit, keptAt}
+use Rattle.card.proofs.MarkLaws.{HeaderLast}
 use Rattle.journal.specs.Geometry.{Geometry}
 use Rattle.journal.specs.Layout.{isData}
 use Rattle.journal.specs.Header.{emptyHeader}
@@ -21,7 +25,7 @@ use Rattle.crash.proofs.Batches.{Left}
 use Rattle.crash.proofs.CallCuts.{homes-settled, homes-cuts, header-cuts, empty-settled, still-cuts}
 use Rattle.crash.proofs.Cards.{Every, WholeCard}
 use Rattle.crash.proofs.Leads.{Leads, Behind, none-behind}
-use Rattle.crash.proofs.Logs.{data-below}
+use Rattle.crash.proofs.Logs.{data-above, data-below}
 use Rattle.store.specs.State.{State, cardIn}
 use Rattle.history.specs.Plain.{Plain, applyVerdict, applyWaits, headerKept}
 use Rattle.history.specs.Ledger.{Ledger, PlannedHeader, noted, applyHeader, resolved}
@@ -65,6 +69,9 @@ module _ (geo : Geometry) where
     log-low : All (λ e. e .address < N) log
     log-low = all-map (Data geo N) (λ e. e .address < N) (λ e q. data-below geo N (e .address) q) log (Facts.log-data geo st l d b o)
 
+    log-high : All (λ e. wholeBlock ≢ e .address) log
+    log-high = all-map (Data geo N) (λ e. wholeBlock ≢ e .address) (λ e q z. let u = data-above geo N (e .address) q in omega arith) log (Facts.log-data geo st l d b o)
+
     pub checkpoint-fits : All (Fits geo N 0) checkpoint
     checkpoint-fits = (
       record { few = omega (arith, length-log, Facts.n-most geo st l d b o); whole = Facts.log-whole geo st l d b o; low = log-low },
@@ -102,7 +109,8 @@ module _ (geo : Geometry) where
 
     pub record CheckpointCuts (hs : List PlannedHeader) (s : List ℕ) (q : List Entry) (k : ℕ) : Type 0 where
       pub waiting : applyWaits n k ≡ length q
-      pub leads : (r : Card) → Left (cardIn st) r s q 0 → (ms : List ℕ) → marksFit ms (length q) ≡ true
+      pub top : HeaderLast (eqb k (n + 2)) q
+      pub leads : (r : Card) → Left (cardIn st) r s q 0 → (ms : List ℕ) → marksFit ms q ≡ true
           → Leads geo Every N (cut ms r .settled) (cutWritten ms (noted (applyHeader st ∷ hs) k l)) (d .S)
           (applyVerdict k n false (headerKept ms (applyWaits n k)) .n) (applyVerdict k n false (headerKept ms (applyWaits n k)) .F)
 
@@ -115,6 +123,7 @@ module _ (geo : Geometry) where
       at-home : (j k : ℕ) → j ≤ length log → k ≡ 0 + j → CheckpointCuts hs (st .settled) (take j log) k
       at-home j k h e = record {
         waiting = waits-homes n k (omega (arith, length-log)) ∙ sym (length-take j log ∙ (omega arith));
+        top = rw (ne-eqb k (n + 2) (λ z. omega (arith, length-log))) (all-take (λ e. wholeBlock ≢ e .address) j log log-high);
         leads = λ r f ms m.
             rw (note-before (applyHeader st) hs k l (omega (arith, length-log)), nothing-waits ms, apply-before k n false (headerKept ms (applyWaits n k)) (omega (arith, length-log)))
             (homes-cuts geo begins (cardIn st) r ms j (Facts.log-whole geo st l d b o) f m);
@@ -124,6 +133,7 @@ module _ (geo : Geometry) where
       flushed : (k : ℕ) → k ≡ n + 1 → CheckpointCuts hs homed [] k
       flushed k e = record {
         waiting = waits-flushed n k e;
+        top = rw (ne-eqb k (n + 2) (λ z. omega arith)) tt;
         leads = λ r f ms m.
             rw (note-before (applyHeader st) hs k l (omega arith), nothing-waits ms, apply-before k n false (headerKept ms (applyWaits n k)) (omega arith))
             (still-cuts geo flushed-behind (cardIn st) r 0 ms f m);
@@ -136,6 +146,7 @@ module _ (geo : Geometry) where
           let one : applyWaits n k ≡ 1 = waits-header n k e in
           record {
             waiting = one;
+            top = rw (eq-eqb k (n + 2) e) ([], top, refl, tt, refl);
             leads = λ r f ms m.
                 rw (note-at (applyHeader st) hs k l (omega arith), apply-at k n false (headerKept ms (applyWaits n k)) e, kept-mark ms (applyWaits n k) 0 one)
                 (header-cuts geo flushed-behind (cardIn st) r ms (homes .1) f m (keptAt ms 0) refl);

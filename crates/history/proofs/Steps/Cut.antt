@@ -12,7 +12,7 @@ use lib.ListN.{length}
 use Rattle.cells.specs.Entry.{Entry}
 use Rattle.crash.specs.Laid.{Laid, layOver}
 use Rattle.card.specs.Card as Card
-use Rattle.card.specs.Card.{blockAt}
+use Rattle.card.specs.Card.{queue, blockAt}
 use Rattle.card.proofs.Cuts.{cut-length}
 use Rattle.card.specs.Marks.{marksFit}
 use Rattle.crash.proofs.Cards.{Every, ClosedCard}
@@ -27,29 +27,29 @@ use Rattle.store.specs.Cut.{shut}
 use Rattle.store.proofs.Causes.{sizes-facts}
 use Rattle.journal.specs.Geometry.{Geometry}
 use Rattle.history.specs.Call.{get, cut}
-use Rattle.history.specs.Plain.{Plain, Done, plainStep, none, still, closedWith, Verdict, refusal, plainCut, headerKept}
+use Rattle.history.specs.Plain.{Plain, Done, plainStep, none, still, closedWith, Verdict, plainFit, refusal, plainCut, headerKept}
 use Rattle.history.specs.Dispatch.{called, dispatch}
 use Rattle.history.specs.Ledger.{Ledger, nothing, settledBy, resolved, entered, logFound, sameLog, collides}
 use Rattle.history.specs.History.{World, storeNext, ledgerNext, foundWritten, acceptedCut, exception}
 use Rattle.history.proofs.Relation.CauseLaws.{facts-sizes, record-facts, facts-record, idle}
 use Rattle.history.proofs.Relation.Sim.{Basics, OpenSim, ClosedSim, DownSim, Sim, cutSettled, cutWritten, cutVerdict, CutLeads}
 use Rattle.history.proofs.Relation.PlainLaws.{choose-none}
-use Rattle.history.proofs.Steps.Shown.{WorldSim, StepOK, sim-at, small-N, big-N, same-cause, refused-step, plain-served}
+use Rattle.history.proofs.Steps.Shown.{WorldSim, StepOK, sim-at, small-N, big-N, same-fit, same-cause, refused-step, plain-served}
 
 -- ---- every cut leads to what the plain disk chooses
 
 module _ (geo : Geometry) where
   -- nothing waits, no header does, no call was cut short: the card stands as it is
-  still-leads : (ms : List ℕ) (st : State) (l : Ledger) (d : Plain) → Basics geo st d → st .rec .waiting ≡ 0 → marksFit ms (st .rec .waiting) ≡ true → d .short ≡ none → l .pending ≡ nothing
+  still-leads : (ms : List ℕ) (st : State) (l : Ledger) (d : Plain) → Basics geo st d → st .rec .waiting ≡ 0 → marksFit ms (queue (cardIn st)) ≡ true → d .short ≡ none → l .pending ≡ nothing
       → ClosedCard geo Every (st .rec .blocks) (blockAt (st .settled)) (l .written) (d .S) (d .n) (d .F) → CutLeads geo ms st l d
   unfolding resolved
   still-leads ms st l d b z h s p r =
       rw (s, p, choose-none geo (d .n) (length (d .G)) (d .F) (headerKept ms (d .waiting)) (sameLog (foundIn geo (cutSettled ms st)) (l .written)))
       (still-cuts geo (none-behind geo (big-N geo st d b) (small-N geo st d b) (record-facts geo st (b .counts) .blocks) r) (cardIn st) (cardIn st) (st .rec .power) ms
       (record { settled = refl; waits = no-queue (cardIn st) z; count = z; power = refl; room = refl })
-      (ap (marksFit ms) (sym z) ∙ h))
+      (ap (marksFit ms) (sym (no-queue (cardIn st) z)) ∙ h))
 
-  pub all-cuts : (ms : List ℕ) (st : State) (l : Ledger) (d : Plain) → Sim geo st l d → marksFit ms (st .rec .waiting) ≡ true → CutLeads geo ms st l d
+  pub all-cuts : (ms : List ℕ) (st : State) (l : Ledger) (d : Plain) → Sim geo st l d → marksFit ms (queue (cardIn st)) ≡ true → CutLeads geo ms st l d
   all-cuts ms st l d m h = go (m .phase)
     where
       quiet : st .rec .mode ≢ down → st .rec .waiting ≡ 0
@@ -118,9 +118,9 @@ module _ (geo : Geometry) where
   -- ---- the step
 
   -- a cut that is not refused has marks that fit
-  pub marks-fit : (ms : List ℕ) (d : Plain) → refusal geo (cut ms) d ≡ 0 → marksFit ms (d .waiting) ≡ true
+  marks-fit : (ms : List ℕ) (d : Plain) → refusal geo (cut ms) d ≡ 0 → plainFit geo ms d ≡ true
   unfolding refusal
-  marks-fit ms d h = go (marksFit ms (d .waiting)) h
+  marks-fit ms d h = go (plainFit geo ms d) h
     where
       go : (t : Bool) → _≡_ {A = ℕ} (cond (not t) 10 0) 0 → t ≡ true
       go true q = refl
@@ -146,7 +146,9 @@ module _ (geo : Geometry) where
     -- what is found is what the relation speaks of
     pub found-cut : foundWritten geo (cut ms) w ≡ sameLog (foundIn geo (cutSettled ms (w .store))) (cutWritten ms (w .ledger))
     unfolding foundWritten logFound
-    found-cut = rw (store-cut, ledger-cut)
+    found-cut =
+        ap (λ (s : State). sameLog (logFound geo s) (ledgerNext geo (cut ms) w .written)) store-cut
+        ∙ ap (λ (l : Ledger). sameLog (foundIn geo (cutSettled ms (w .store))) (l .written)) ledger-cut
 
     pub exception-cut : exception geo (cut ms) w ≡ collides (foundIn geo (cutSettled ms (w .store))) (cutWritten ms (w .ledger))
     unfolding exception acceptedCut logFound
@@ -163,8 +165,11 @@ module _ (geo : Geometry) where
     unfolding plainCut
     plain-cut = plain-served geo (cut ms) (foundWritten geo (cut ms) w) (w .plain) h ∙ ap (λ (t : Bool). plainCut geo ms t (w .plain)) found-cut
 
+    pub fits-cut : marksFit ms (queue (cardIn (w .store))) ≡ true
+    fits-cut = same-fit geo (w .store) (w .ledger) (w .plain) m ms ∙ marks-fit geo ms (w .plain) h
+
     leads-cut : CutLeads geo ms (w .store) (w .ledger) (w .plain)
-    leads-cut = all-cuts geo ms (w .store) (w .ledger) (w .plain) m (ap (marksFit ms) (sym (m .basics .mirrors .waiting)) ∙ marks-fit geo ms (w .plain) h)
+    leads-cut = all-cuts geo ms (w .store) (w .ledger) (w .plain) m fits-cut
 
     pub accepted-step : StepOK geo (cut ms) w
     unfolding Card.cut

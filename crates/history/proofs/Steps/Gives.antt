@@ -15,6 +15,7 @@ use Rattle.card.specs.CodeQueue.{Below}
 use Rattle.card.proofs.All.{All}
 use Rattle.card.proofs.Runs.{queue-below}
 use Rattle.card.specs.Marks.{marksFit}
+use Rattle.card.proofs.MarkLaws.{HeaderLast}
 use Rattle.journal.specs.Geometry.{Geometry}
 use Rattle.journal.specs.Log.{entries, sumOf}
 use Rattle.crash.proofs.Batches.{Left, no-queue}
@@ -26,7 +27,7 @@ use Rattle.store.specs.Lists.{openFrom, groupFrom, listOf}
 use Rattle.store.specs.Saves.{carried}
 use Rattle.store.proofs.Causes.{SizeFacts, sizes-facts}
 use Rattle.history.specs.Call.{Call, get}
-use Rattle.history.specs.Plain.{Plain, Short, Done, plainStep, cutShort, withS, withLists, withCount, withPower, blankPlain}
+use Rattle.history.specs.Plain.{Plain, Short, headerWaits, Done, plainStep, cutShort, withS, withLists, withCount, withPower, blankPlain}
 use Rattle.history.specs.Dispatch.{dispatch}
 use Rattle.history.specs.Ledger.{PlannedHeader, noted, settledBy}
 use Rattle.history.specs.History.{World, ledgerNext, foundWritten}
@@ -83,7 +84,8 @@ module _ (geo : Geometry) where
   openPlain st r S p =
       withLists (listOf (st .work) (groupFrom geo) (r .grouped)) (listOf (st .work) openFrom (r .opened)) (withCount (r .logged) (withPower p (withS S (blankPlain (st .rec .blocks)))))
 
--- ---- what is asked wherever the call can be cut short: how many writes wait, and that every cut leads to what the plain disk chooses
+-- ---- what is asked wherever the call can be cut short: how many writes wait, whether a header does, and that every cut leads to what the
+-- plain disk chooses
 
 abbrev pub cutFrom : (ℕ → Short) → (ℕ → ℕ) → ℕ → Plain → Plain
 cutFrom short waits k d = cutShort (short k) (waits k) d .plain
@@ -91,7 +93,8 @@ cutFrom short waits k d = cutShort (short k) (waits k) d .plain
 module _ (geo : Geometry) where
   pub record CutsAt (w : World) (headers : List PlannedHeader) (short : ℕ → Short) (waits : ℕ → ℕ) (s : List ℕ) (q : List Entry) (k : ℕ) : Type 0 where
     pub waiting : waits k ≡ length q
-    pub leads : (r : Card) → Left (cardIn (w .store)) r s q 0 → (ms : List ℕ) → marksFit ms (length q) ≡ true
+    pub top : HeaderLast (headerWaits geo (short k) (w .plain .n) (length (w .plain .G))) q
+    pub leads : (r : Card) → Left (cardIn (w .store)) r s q 0 → (ms : List ℕ) → marksFit ms q ≡ true
         → CutLeads geo ms (withCard r (w .store)) (noted headers k (w .ledger)) (cutFrom short waits k (w .plain))
 
   -- ---- the call
@@ -265,7 +268,7 @@ module _ (geo : Geometry) where
             mirrors = record { mode = refl; N = b .mirrors .N ∙ sym (f .counts .blocks); waiting = x .met .waiting ∙ sym (x .left .count); T = λ z. absurd (omega arith); G = λ z. absurd (omega arith); save = λ z. absurd (omega arith) };
             power = sym (x .left .power);
           };
-          phase = _⊎_.inr (_⊎_.inr (record { mode = refl; cuts = λ ms h. rw (f .counts .blocks) (x .met .leads _ (x .left) ms (ap (marksFit ms) (sym (x .left .count)) ∙ h)) }));
+          phase = _⊎_.inr (_⊎_.inr (record { mode = refl; top = rw (x .left .waits) (x .met .top); cuts = λ ms h. rw (f .counts .blocks) (x .met .leads _ (x .left) ms (ap (marksFit ms) (sym (x .left .waits)) ∙ h)) }));
         }
 
     pub gives-step : StepOK geo c w

@@ -1,7 +1,7 @@
 -- Every step keeps the relation, and so does every list of calls.
 use Prim.Native.Nat.{ℕ, _+_, _*_, _≤_, _<_}
 use mathlib.Core.Path.{_≡_, refl, ap, sym, _∙_}
-use mathlib.Core.Logic.{_⊎_}
+use mathlib.Core.Logic.{_≢_, _⊎_}
 use mathlib.Core.Bool.{true, false}
 use mathlib.Core.List.{List, [], _∷_, _++_}
 use native.Mathlib.Omega.{arith}
@@ -133,11 +133,16 @@ module _ (geo : Geometry) where
     header-now : cell blockBytes (setCell blockBytes zeros headerAt (encode (emptyHeader N 0))) headerAt ≡ encode (emptyHeader N 0)
     header-now = cell-same blockBytes zeros headerAt (encode (emptyHeader N 0)) (room headerAt (omega (arith, sz .least))) (length-encode (emptyHeader N 0))
 
+    blank-now : (a : ℕ) → a ≢ headerAt → a < N → cell blockBytes (setCell blockBytes zeros headerAt (encode (emptyHeader N 0))) a ≡ replicate blockBytes 0
+    blank-now a z l = cell-other blockBytes zeros headerAt a (encode (emptyHeader N 0)) z ∙ cell-zeros blockBytes (length (st .settled)) a (omega arith)
+
     data-now : (a : ℕ) → isData geo N a ≡ true → cell blockBytes (setCell blockBytes zeros headerAt (encode (emptyHeader N 0))) a ≡ replicate blockBytes 0
-    data-now a q =
-        let u = data-above geo N a q in
-        cell-other blockBytes zeros headerAt a (encode (emptyHeader N 0)) (λ z. omega arith)
-        ∙ cell-zeros blockBytes (length (st .settled)) a (let v = data-below geo N a q in omega arith)
+    data-now a q = blank-now a (λ z. let u = data-above geo N a q in omega arith) (data-below geo N a q)
+
+    -- every block but the header is zero
+    pub begun-blank : (a : ℕ) → a ≢ headerAt → a < N → blockAt (begun geo st .store .settled) a ≡ replicate blockBytes 0
+    unfolding begun formatted
+    begun-blank a z l = rw formatted-now (blank-now a z l)
 
     pub begun-sim : WorldSim geo (begun geo st)
     unfolding begun fresh formatted

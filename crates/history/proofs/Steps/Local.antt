@@ -88,7 +88,7 @@ module _ (geo : Geometry) where
       go : OpenSim geo st l d ⊎ (ClosedSim geo st l d ⊎ DownSim geo st l d) → OpenSim geo now l (withPower k d) ⊎ (ClosedSim geo now l (withPower k d) ⊎ DownSim geo now l (withPower k d))
       go (_⊎_.inl o) = _⊎_.inl (record { mode = o .mode; n = o .n; F = o .F; short = o .short; pending = o .pending; sum = o .sum; card = o .card })
       go (_⊎_.inr (_⊎_.inl o)) = _⊎_.inr (_⊎_.inl (record { mode = o .mode; T = o .T; G = o .G; short = o .short; pending = o .pending; save = o .save; card = o .card }))
-      go (_⊎_.inr (_⊎_.inr o)) = _⊎_.inr (_⊎_.inr (record { mode = o .mode; cuts = o .cuts }))
+      go (_⊎_.inr (_⊎_.inr o)) = _⊎_.inr (_⊎_.inr (record { mode = o .mode; top = o .top; cuts = o .cuts }))
 
   pub power-step : (k : ℕ) (w : World) → WorldSim geo w → StepOK geo (power k) w
   unfolding called entered

@@ -38,7 +38,7 @@ use Rattle.history.specs.History.{World, foundWritten}
 use Rattle.history.proofs.Relation.CauseLaws.{RecordFacts, record-facts, cause-passes}
 use Rattle.crash.proofs.Plans.{Plan, Asked, for-one}
 use Rattle.history.proofs.Relation.Sim.{OpenSim, ClosedSim, DownSim, Sim, leads-still}
-use Rattle.history.proofs.Relation.PlainLaws.{recover-whole, recover-fallback, recover-short, choose-recover-none, choose-recover, kept-mark}
+use Rattle.history.proofs.Relation.PlainLaws.{recover-whole, recover-fallback, recover-short, choose-recover-none, choose-recover, header-recover, kept-mark}
 use Rattle.history.proofs.Steps.Shown.{WorldSim, StepOK, same-cause, refused-step, plain-served, noted-none, small-N, big-N, choose-whole, choose-fallback}
 use Rattle.history.proofs.Steps.Gives.{none-listed, countable, CutsAt, Gives, gives-step}
 use Rattle.history.proofs.Steps.Worlds.{settledLedger, plainShut, closedWorld, Closed, closed-sim, idle-closed, closed-world, shut}
@@ -159,6 +159,7 @@ module _ (geo : Geometry) where
       unfolding resolved
       still = record {
         waiting = refl;
+        top = rw (header-recover geo 0 n 0) tt;
         leads = λ c l ms y.
             rw (noted-none (recoverHeaders geo st) (settledLedger v))
             (leads-still geo _ _ (unchanged n F) (choose-recover-none geo n 0 F (headerKept ms 0) _) refl
@@ -174,6 +175,7 @@ module _ (geo : Geometry) where
       unfolding resolved
       headed = record {
         waiting = refl;
+        top = rw (header-recover geo 1 n 0) ([], top, refl, tt, refl);
         leads = λ c l ms y.
             rw note-top
             (leads-still geo _ _ (unchanged n (not (keptAt ms 0)))

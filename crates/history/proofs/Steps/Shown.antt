@@ -1,15 +1,20 @@
 -- What a step of a history has to show, and the steps that change nothing: refused calls.
 use Prim.Native.Nat.{ℕ, _+_, _-_, _^_, _≤_, _<_}
-use mathlib.Core.Path.{_≡_, refl, ap, sym, _∙_}
+use mathlib.Core.Path.{_≡_, refl, ap, sym, subst, _∙_}
 use mathlib.Core.Logic.{_≢_, _⊎_}
 use mathlib.Core.Bool.{Bool, true, false, not, _&&_}
 use mathlib.Core.List.{List, [], _∷_}
 use native.Mathlib.Omega.{arith}
 use borrow.Author.Tests.{eq-eqb, ne-eqb, eqb-true, le-leb}
 use lib.Dec.{eqb}
-use Rattle.cells.specs.Entry.{Entry}
+use lib.ListN.{length}
+use Rattle.cells.specs.Upto.Laws.{length-upTo}
+use Rattle.cells.specs.Entry.{Entry, entryAt}
 use Rattle.fnv.specs.Fnv.{start}
-use Rattle.card.specs.Card.{blockAt}
+use Rattle.card.specs.Card.{queue, blockAt}
+use Rattle.card.specs.Marks.{marksFit}
+use Rattle.card.proofs.MarkLaws.{HeaderLast, fits-last}
+use Rattle.crash.proofs.Batches.{no-queue}
 use Rattle.journal.specs.Geometry.{Geometry}
 use Rattle.journal.specs.declared.choice.Choice.the-variants.{Whole, Fallback}
 use Rattle.journal.specs.Layout.{firstData}
@@ -21,19 +26,20 @@ use Rattle.crash.proofs.Cards.{Every, WholeCard, FallCard, ClosedCard}
 use Rattle.crash.proofs.Leads.{read-head}
 use Rattle.crash.proofs.Logs.{logD, entries-disk}
 use Rattle.store.specs.Request as Request
-use Rattle.store.specs.State.{State, Outcome, closed, openMode}
+use Rattle.store.specs.State.{State, Outcome, closed, openMode, down, cardIn}
 use Rattle.store.specs.Causes.{cause}
 use Rattle.store.specs.Outcomes.{refused}
 use Rattle.store.proofs.Causes.{sizes-facts}
 use Rattle.history.specs.Call.{Call, requestOf, local, save, cut, get}
-use Rattle.history.specs.Plain.{Plain, Done, refusal, served, plainStep, plainGet}
+use Rattle.history.specs.Plain.{Plain, Short, none, headerWaits, plainFit, Done, refusal, served, plainStep, plainGet}
 use Rattle.history.specs.Dispatch.{dispatch, blockOf}
 use Rattle.history.specs.Ledger.{Ledger, PlannedHeader, headersOf, noted, entered}
 use Rattle.history.specs.History.{World, storeNext, ledgerNext, foundWritten, exception}
 use Rattle.history.specs.Statements.{Agrees}
-use Rattle.history.proofs.Relation.CauseLaws.{record-facts, cause-refusal}
+use Rattle.history.proofs.Relation.CauseLaws.{record-facts, idle, cause-refusal}
 use Rattle.history.proofs.Relation.Forms.{called-refused}
 use Rattle.history.proofs.Relation.EvenLedgers.{even-refl}
+use Rattle.history.proofs.Relation.PlainLaws.{header-none}
 use Rattle.history.proofs.Relation.Sim.{Basics, OpenSim, ClosedSim, DownSim, Sim, Safe}
 
 -- ---- what a step has to show
@@ -138,8 +144,29 @@ module _ (geo : Geometry) where
 
   -- ---- the number of a call is the plain disk's
 
+  -- marks fit the one if they fit the other
+  pub same-fit : (st : State) (l : Ledger) (d : Plain) → Sim geo st l d → (ms : List ℕ) → marksFit ms (queue (cardIn st)) ≡ plainFit geo ms d
+  unfolding plainFit queue
+  same-fit st l d m ms = go (m .phase)
+    where
+      waits : length (queue (cardIn st)) ≡ d .waiting
+      waits = length-upTo (entryAt (st .waiting)) (st .rec .waiting) ∙ sym (m .basics .mirrors .waiting)
+
+      by : (t : Bool) → headerWaits geo (d .short) (d .n) (length (d .G)) ≡ t → HeaderLast t (queue (cardIn st)) → marksFit ms (queue (cardIn st)) ≡ plainFit geo ms d
+      by t e h = fits-last t ms (queue (cardIn st)) h ∙ rw (waits, e)
+
+      quiet : st .rec .mode ≢ down → d .short ≡ none → marksFit ms (queue (cardIn st)) ≡ plainFit geo ms d
+      quiet z s =
+          by false (ap (λ (x : Short). headerWaits geo x (d .n) (length (d .G))) s ∙ header-none geo (d .n) (length (d .G)))
+          (subst (HeaderLast false) (sym (no-queue (cardIn st) (idle geo st (record-facts geo st (m .basics .counts)) z))) tt)
+
+      go : OpenSim geo st l d ⊎ (ClosedSim geo st l d ⊎ DownSim geo st l d) → marksFit ms (queue (cardIn st)) ≡ plainFit geo ms d
+      go (_⊎_.inl o) = quiet (λ z. omega (arith, o .mode)) (o .short)
+      go (_⊎_.inr (_⊎_.inl o)) = quiet (λ z. omega (arith, o .mode)) (o .short)
+      go (_⊎_.inr (_⊎_.inr o)) = by _ refl (o .top)
+
   pub same-cause : (st : State) (l : Ledger) (d : Plain) → Sim geo st l d → (c : Call) → cause geo (requestOf c) st ≡ refusal geo c d
-  same-cause st l d m c = cause-refusal geo st d (m .basics .sizes) (m .basics .counts) (m .basics .mirrors) c (λ e z. choice z (m .phase))
+  same-cause st l d m c = cause-refusal geo st d (m .basics .sizes) (m .basics .counts) (m .basics .mirrors) c (λ e z. choice z (m .phase)) (same-fit st l d m)
     where
       choice : st .rec .mode ≡ closed → OpenSim geo st l d ⊎ (ClosedSim geo st l d ⊎ DownSim geo st l d) → choiceNumber (choose geo (st .rec .blocks) (st .settled)) ≡ 0
       choice z (_⊎_.inl o) = absurd (omega (arith, o .mode))

@@ -8,12 +8,12 @@ use native.Mathlib.Omega.{arith}
 use native.Mathlib.Decide.{ℕ-discrete, decLe}
 use native.Mathlib.Nat.{add-zero}
 use borrow.Author.Tests.{eq-eqb, ne-eqb}
-use lib.Dec.{leb}
+use lib.Dec.{eqb, leb}
 use lib.ListN.{length, take, length-take}
 use Rattle.cells.specs.Entry.{Entry}
 use Rattle.fnv.specs.Fnv.{start}
 use Rattle.crash.specs.Laid.{Laid, layOver}
-use Rattle.card.specs.Card.{Card, Order, run, cut, settle, blockAt}
+use Rattle.card.specs.Card.{Card, Order, queue, run, cut, settle, blockAt}
 use Rattle.card.proofs.All.{all-append}
 use Rattle.card.proofs.Runs.{run-nil}
 use Rattle.card.specs.Marks.{marksFit, keptAt, allKept}
@@ -35,16 +35,16 @@ use Rattle.store.specs.Lists.{groupFrom, listOf}
 use Rattle.store.specs.Causes.{cause}
 use Rattle.store.specs.Saves.{carried, groupOf, applies, metByAppend, savedAs, innerOrders}
 use Rattle.history.specs.Call.{get, sync}
-use Rattle.history.specs.Plain.{Plain, ofSync, refusal, plainStep, plainSync, syncTakes, syncWaits, ownVerdict, unchanged}
+use Rattle.history.specs.Plain.{Plain, ofSync, headerWaits, refusal, plainStep, plainSync, syncTakes, syncWaits, ownVerdict, unchanged}
 use Rattle.history.specs.Dispatch.{called, dispatch}
 use Rattle.history.specs.Ledger.{Ledger, waits, syncHeaders, noted, entered, ownHeader, standing, inner, resolved, sameLog, waitsBehind}
 use Rattle.history.specs.History.{World, ledgerNext, foundWritten}
 use Rattle.history.specs.Statements.{Logged}
 use Rattle.crash.proofs.Plans.{Plan, planned, takes, settles, Fits, Asked, Throughout, rest-none, takes-append, settles-append, throughout-append, throughout-all}
-use Rattle.history.proofs.Steps.AppendEnds.{writes-fit, short-before, short-top, whole-found, done-card, done-sum, done-logged}
+use Rattle.history.proofs.Steps.AppendEnds.{writes-fit, top-none, top-last, short-before, short-top, whole-found, done-card, done-sum, done-logged}
 use Rattle.history.proofs.Relation.CauseLaws.{RecordFacts, record-facts}
 use Rattle.history.proofs.Relation.Sim.{OpenSim, cutWritten, cutSettled, leads-still, leads-laid}
-use Rattle.history.proofs.Relation.PlainLaws.{sync-takes, sync-waits-own, choose-sync-own, choose-sync-before, not-last, sync-nothing, sync-finished, sync-short, kept-mark}
+use Rattle.history.proofs.Relation.PlainLaws.{sync-takes, sync-waits-own, choose-sync-own, choose-sync-before, header-sync-own, not-last, sync-nothing, sync-finished, sync-short, kept-mark}
 use Rattle.history.proofs.Steps.Shown.{WorldSim, StepOK, same-cause, plain-served, noted-none}
 use Rattle.history.proofs.Steps.Notes.{note-before, note-at, note-past, noted-end}
 use Rattle.history.proofs.Steps.CallEnds.{carried-done}
@@ -161,6 +161,9 @@ module _ (geo : Geometry) where
       takes-is : syncTakes geo (st .rec .logged) (length G) ≡ takes plan
       takes-is = sync-takes geo (st .rec .logged) (length G) ∙ (omega (arith, y .inner-plain, count))
 
+      header-own : (k : ℕ) → takes (y .front) ≤ k → headerWaits geo (ofSync k) (st .rec .logged) (length G) ≡ eqb k (takes (y .front) + (length G + geo .descriptors + 1))
+      header-own k l = header-sync-own geo k (st .rec .logged) (length G) (omega (arith, y .inner-plain)) ∙ ap (λ (i : ℕ). eqb k (i + (length G + geo .descriptors + 1))) (y .inner-plain)
+
       -- ---- its own header in the ledger
 
       note-early : (k : ℕ) → takes (y .front) ≤ k → k < takes (y .front) + (length G + geo .descriptors + 1) → noted (syncHeaders geo st) k (settledLedger v) ≡ settledLedger (y .list)
@@ -185,6 +188,7 @@ module _ (geo : Geometry) where
       unfolding resolved
       cuts-before j k h e = record {
         waiting = waits-own k (omega arith) ∙ sym (length-take j W ∙ (omega (arith, length-W)));
+        top = rw (header-own k (omega arith), ne-eqb k (takes (y .front) + (length G + geo .descriptors + 1)) (λ z. omega arith)) (top-none geo (y .meets) j h);
         leads = λ r l ms q.
             rw (note-early k (omega arith) (omega arith))
             (leads-still geo _ _ (unchanged (y .n) false) (choose-sync-before geo k (st .rec .logged) (length G) _ _ (omega (arith, y .inner-plain)) (omega (arith, y .inner-plain)) ∙ ap (λ (i : ℕ). unchanged i false) (y .n-is)) refl (short-before geo (y .meets) (cardIn st) r j l h ms q));
@@ -197,6 +201,7 @@ module _ (geo : Geometry) where
           let wt : syncWaits geo (st .rec .logged) (length G) k ≡ suc (length G + geo .descriptors) = waits-own k (omega arith) ∙ (omega arith) in
           record {
             waiting = wt ∙ (omega (arith, long));
+            top = rw (header-own k (omega arith), eq-eqb k (takes (y .front) + (length G + geo .descriptors + 1)) (omega arith)) (top-last geo (y .meets) j h);
             leads = λ r l ms q.
                 let t : Bool = keptAt ms (length G + geo .descriptors) in
                 let u : Bool = sameLog (foundIn geo (cut ms r .settled)) (cond (keptAt ms (length G + geo .descriptors)) (log ++ G) (y .list)) in
@@ -275,7 +280,7 @@ module _ (geo : Geometry) where
 
       abbrev Whole : Asked
       Whole t q k =
-          k ≡ takes (y .front) + (length G + geo .descriptors + 1) → (r : Card) → Left (cardIn st) r t q 0 → (ms : List ℕ) → marksFit ms (length q) ≡ true → allKept ms ≡ true
+          k ≡ takes (y .front) + (length G + geo .descriptors + 1) → (r : Card) → Left (cardIn st) r t q 0 → (ms : List ℕ) → marksFit ms q ≡ true → allKept ms ≡ true
           → (keptAt ms (length G + geo .descriptors) ≡ true) × (sameLog (foundIn geo (cut ms r .settled)) (log ++ G) ≡ true)
 
       wholes : Throughout Whole [] plan (st .settled) 0
@@ -283,7 +288,7 @@ module _ (geo : Geometry) where
           behind-front Whole (throughout-all Whole [] (y .front) (st .settled) 0 (λ t q k h e. absurd (omega arith)))
           (λ j k h e u r l ms. whole-found geo (y .meets) (cardIn st) r j l (omega arith) ms)
 
-      own-whole : dispatch geo sync st .answer ≡ 4 → dispatch geo sync st .orders ≡ inner geo st + (st .rec .grouped + geo .descriptors + 1) → (ms : List ℕ) → marksFit ms (dispatch geo sync st .state .rec .waiting) ≡ true → allKept ms ≡ true
+      own-whole : dispatch geo sync st .answer ≡ 4 → dispatch geo sync st .orders ≡ inner geo st + (st .rec .grouped + geo .descriptors + 1) → (ms : List ℕ) → marksFit ms (queue (cardIn (dispatch geo sync st .state))) ≡ true → allKept ms ≡ true
           → (keptAt ms (st .rec .grouped + geo .descriptors) ≡ true) × (sameLog (foundIn geo (cutSettled ms (dispatch geo sync st .state))) (cutWritten ms (ledgerNext geo sync w)) ≡ true)
       unfolding entered resolved
       own-whole a q ms l o =
@@ -293,7 +298,7 @@ module _ (geo : Geometry) where
           let k : st .rec .power ≡ takes (y .front) + (length G + geo .descriptors + 1) = sym (ap (λ (i : Outcome). i .orders) D) ∙ q ∙ (omega (arith, y .inner-is, length-G)) in
           let L : ledgerNext geo sync w ≡ waitsBehind (length G + geo .descriptors) (log ++ G) (settledLedger (y .list)) =
           ap (λ (i : Outcome). noted (syncHeaders geo st) (i .orders) (settledLedger v)) D ∙ note-top (st .rec .power) k in
-          let fit : marksFit ms (length (end .q)) ≡ true = ap (marksFit ms) (sym (ap (λ (i : Outcome). i .state .rec .waiting) D ∙ end .left .count)) ∙ l in
+          let fit : marksFit ms (end .q) ≡ true = ap (marksFit ms) (sym (ap (λ (i : Outcome). queue (cardIn (i .state))) D ∙ end .left .waits)) ∙ l in
           let found = end .met k (run (planned plan) (cardIn st)) (end .left) ms fit o in (
             ap (λ (i : ℕ). keptAt ms (i + geo .descriptors)) (sym length-G) ∙ found .0,
             ap₂ (λ (i : Outcome) (j : Ledger). sameLog (foundIn geo (cutSettled ms (i .state))) (cutWritten ms j)) D L
@@ -327,7 +332,7 @@ module _ (geo : Geometry) where
     logged = own-logged (w .store) (w .ledger .written) (w .plain .S) (w .excepted) f served z meets
 
     pub short-whole : dispatch geo sync (w .store) .answer ≡ 4 → dispatch geo sync (w .store) .orders ≡ inner geo (w .store) + (w .store .rec .grouped + geo .descriptors + 1)
-        → (ms : List ℕ) → marksFit ms (dispatch geo sync (w .store) .state .rec .waiting) ≡ true → allKept ms ≡ true
+        → (ms : List ℕ) → marksFit ms (queue (cardIn (dispatch geo sync (w .store) .state))) ≡ true → allKept ms ≡ true
         → (keptAt ms (w .store .rec .grouped + geo .descriptors) ≡ true) × (sameLog (foundIn geo (cutSettled ms (dispatch geo sync (w .store) .state))) (cutWritten ms (ledgerNext geo sync w)) ≡ true)
     short-whole a q ms l ones =
         subst (λ (i : World). (keptAt ms (i .store .rec .grouped + geo .descriptors) ≡ true) × (sameLog (foundIn geo (cutSettled ms (dispatch geo sync (i .store) .state))) (cutWritten ms (ledgerNext geo sync i)) ≡ true)) (sym (open-world geo w (m .basics) o))

@@ -31,7 +31,7 @@ use Rattle.crash.proofs.Plans.{Plan, planned, takes, settles, Fits, Throughout,
 use Rattle.history.proofs.Steps.AppendEnds.{Appends}
 use Rattle.history.proofs.Relation.CauseLaws.{RecordFacts, record-facts}
 use Rattle.history.proofs.Relation.Sim.{leads-still}
-use Rattle.history.proofs.Relation.PlainLaws.{innerTakes, countMet, no-apply, do-apply, sync-waits-apply, choose-sync-apply, apply-laid}
+use Rattle.history.proofs.Relation.PlainLaws.{innerTakes, countMet, no-apply, do-apply, sync-waits-apply, choose-sync-apply, header-sync-apply, apply-laid}
 use Rattle.history.proofs.Steps.Notes.{note-past}
 use Rattle.history.proofs.Steps.Gives.{CutsAt}
 use Rattle.history.proofs.Relation.OpenFacts as Facts
@@ -161,6 +161,7 @@ module _ (geo : Geometry) where
           let wt : syncWaits geo n m k ≡ applyWaits n k = sync-waits-apply geo n m k over (omega (arith, count)) in
           record {
             waiting = wt ∙ y .waiting;
+            top = rw (header-sync-apply geo k n m over (omega (arith, count))) (y .top);
             leads = λ r l ms e.
                 rw heads
                 (leads-still geo _ _ (applyVerdict k n false (headerKept ms (applyWaits n k)))

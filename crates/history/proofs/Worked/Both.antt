@@ -1,4 +1,4 @@
--- Document 01's two worked scripts. The statement stands in specs/Worked.antt.
+-- Document 01's two worked scripts, and those in which a block is torn. The statement stands in specs/Worked.antt.
 use Prim.Native.Nat.{ℕ, _+_, _^_, _<_}
 use mathlib.Core.Path.{_≡_, refl, ap, ap₂, sym, _∙_}
 use mathlib.Core.Logic.{_⊎_}
@@ -12,42 +12,46 @@ use Rattle.cells.specs.Little.{num}
 use Rattle.cells.specs.Entry.{blockBytes, Entry}
 use Rattle.card.specs.Disk.{lay, overlay}
 use Rattle.crash.specs.Laid.{Laid, layOver}
-use Rattle.card.specs.Card.{blockAt, blocksIn}
-use Rattle.card.specs.Marks.{keptAt, allKept}
+use Rattle.card.specs.Card as Card
+use Rattle.card.specs.Card.{queue, blockAt, blocksIn}
+use Rattle.card.specs.Marks.{marksFit, keptAt, allKept, marksOf}
 use Rattle.card.proofs.MarkLaws.{marksOf-all}
 use Rattle.journal.specs.Geometry.{trap}
 use Rattle.journal.specs.Geometry.Laws.{trap-descriptors}
 use Rattle.journal.specs.declared.lookup.Found.{Found}
 use Rattle.journal.specs.declared.lookup.Found.the-variants.{At, Absent}
 use Rattle.journal.specs.Layout.{descriptorAt, isData}
-use Rattle.crash.proofs.Leads.{foundIn}
+use Rattle.crash.proofs.Leads.{foundIn, logs-same}
+use Rattle.script.specs.Replies.{values}
 use Rattle.crash.proofs.Logs.{slotE, logD}
 use Rattle.store.specs.Request as Request
-use Rattle.store.specs.State.{State, Outcome, openMode}
+use Rattle.store.specs.State.{State, Outcome, openMode, cardIn}
 use Rattle.store.specs.Lists.{openFrom, find}
 use Rattle.store.specs.Causes.{cause}
 use Rattle.store.specs.Outcomes.{refused, completed, unless}
 use Rattle.store.specs.Format.{formatCall}
 use Rattle.store.specs.Put.{putAt}
 use Rattle.history.specs.Call.{power, put, get, commit, sync, recover, cut}
-use Rattle.history.specs.Plain.{Plain, blank, fresh, blankPlain, refusal, headerKept, plainStep, still}
+use Rattle.history.specs.Plain.{Plain, blank, fresh, blankPlain, plainFit, refusal, headerKept, plainStep, still}
 use Rattle.history.specs.Dispatch.{called, dispatch}
 use Rattle.history.specs.Ledger.{sameLog, collides}
 use Rattle.history.specs.History.{World, begun, next, after, storeNext, ledgerNext, foundWritten, acceptedCut, exception}
 use Rattle.history.specs.Statements as S
 use Rattle.history.specs.Statements.{noCut, EndsFinished, noneFinished, shortSync, Fate, quiet, decided, Progress, known, undecided, observe, fate, outcome}
 use Rattle.history.specs.Linked.{AllPassable}
-use Rattle.history.specs.Worked.{halted, cut101, cut111, sevens, nines, at40, filed, crashed, answers, Script, Worked}
-use Rattle.history.proofs.Relation.Forms.{get-called}
+use Rattle.history.specs.Worked.{halted, cut101, cut111, half, cutHalf, cutFifth, cutHeader, metByCut, sevens, nines, at40, filed, crashed, answers, Script, Worked}
+use Rattle.history.proofs.Relation.Forms.{called-refused, get-called}
 use Rattle.history.proofs.Relation.Sim.{cutSettled, cutWritten}
-use Rattle.history.proofs.Steps.Shown.{WorldSim}
-use Rattle.history.proofs.Steps.Cut.{found-cut, exception-cut}
-use Rattle.history.proofs.Steps.ListInduction.{begun-sim}
+use Rattle.history.proofs.Steps.Shown.{WorldSim, same-cause}
+use Rattle.history.proofs.Steps.Cut.{fits-cut, found-cut, exception-cut}
+use Rattle.history.proofs.Steps.ListInduction.{begun-sim, begun-blank}
 use Rattle.history.proofs.Atomicity.ReadsBack.{power-served, cut-accepted}
 use Rattle.history.proofs.Atomicity.Splits.{SplitReading, split-reading, found-counted}
-use Rattle.history.proofs.Worked.Sums.{log-written, log-found, other-log, no-collision, same-fits}
-use Rattle.history.proofs.Worked.Plain.{openAt, downAt, closedAt, plain-put, plain-commit, plain-filed, plain-power, plain-halted, fits-101, header-101, fits-111, header-111, plain-torn, plain-whole, plain-again, plain-fallback, plain-found, Went, went}
-use Rattle.history.proofs.Worked.Sync.{group-is, grouped-is, no-inner, filed-log, filed-next, halted-written, halted-torn, halted-whole}
+use Rattle.history.proofs.Worked.TornMarks.{header-half, all-half, halved, header-fifth, all-fifth}
+use Rattle.history.proofs.Worked.Card.{no-number}
+use Rattle.history.proofs.Worked.Sums.{log-written, log-found, other-log, no-collision, log-halved, halved-log, halved-no-collision, same-fits}
+use Rattle.history.proofs.Worked.Plain.{openAt, downAt, closedAt, plain-put, plain-commit, plain-filed, plain-power, plain-halted, fits-101, header-101, fits-111, header-111, fits-half, fits-fifth, refused-header, plain-other, plain-new, plain-again, plain-fallback, plain-found, Went, went}
+use Rattle.history.proofs.Worked.Sync.{group-is, grouped-is, no-inner, filed-log, filed-next, filed-slot, halted-written, halted-lost, halted-halved, halted-fifth, halted-whole}
 use Rattle.history.proofs.Worked.Blank as Blank
 
 -- what is known is one
@@ -100,7 +104,8 @@ record Filed (w : World) : Type 0 where
   clean : w .excepted ≡ false
   plain : w .plain ≡ openAt old [] [] 1 999996
   log : logD trap (blockAt (w .store .settled)) 1 ≡ at40 sevens ∷ []
-  free : num (cell 4 (blockAt (w .store .settled) descriptorAt) 1) ≡ 0
+  free : cell 4 (blockAt (w .store .settled) descriptorAt) 1 ≡ replicate 4 0
+  slot : blockAt (w .store .settled) 3 ≡ replicate blockBytes 0
 
 abbrev v₁ : World → World
 v₁ w = next trap (put 40 nines) w
@@ -143,11 +148,23 @@ module _ (w : World) (m : Filed w) where
   first-slot : slotE trap (blockAt (v₃ w .store .settled)) 0 ≡ at40 sevens
   first-slot = ap (λ (l : List Entry). getD l 0 (at40 sevens)) (ap (λ (s : List ℕ). logD trap (blockAt s) 1) same-settled ∙ m .log)
 
-  torn-log : foundIn trap (cutSettled cut101 (storeNext trap sync (v₃ w))) ≡ log-found
-  torn-log =
-      halted-torn (v₃ w) (t₃ .sim) old refl nines (t₃ .plain)
+  lost-log : foundIn trap (cutSettled cut101 (storeNext trap sync (v₃ w))) ≡ log-found
+  lost-log =
+      halted-lost (v₃ w) (t₃ .sim) old refl nines (t₃ .plain)
       ∙ ap₂ (λ (e : Entry) (a : ℕ). e ∷ record { address = a; block = nines } ∷ []) first-slot
-      (ap (λ (s : List ℕ). num (cell 4 (blockAt s descriptorAt) 1)) same-settled ∙ m .free)
+      (ap (λ (s : List ℕ). num (cell 4 (blockAt s descriptorAt) 1)) same-settled ∙ ap num (m .free) ∙ no-number)
+
+  halved-found : foundIn trap (cutSettled cutHalf (storeNext trap sync (v₃ w))) ≡ log-halved
+  unfolding halved
+  halved-found =
+      halted-halved (v₃ w) (t₃ .sim) old refl nines (t₃ .plain)
+      ∙ ap₂ (λ (e : Entry) (b : List ℕ). e ∷ at40 (Card.torn half nines b) ∷ []) first-slot
+      (ap (λ (s : List ℕ). blockAt s 3) same-settled ∙ m .slot)
+
+  fifth-log : foundIn trap (cutSettled cutFifth (storeNext trap sync (v₃ w))) ≡ log-written
+  fifth-log =
+      halted-fifth (v₃ w) (t₃ .sim) old refl nines (t₃ .plain) (ap (λ (s : List ℕ). cell 4 (blockAt s descriptorAt) 1) same-settled ∙ m .free)
+      ∙ ap (λ (e : Entry). e ∷ at40 nines ∷ []) first-slot
 
   own-log : (ms : List ℕ) → headerKept ms 3 ≡ true → cutWritten ms (ledgerNext trap sync (v₃ w)) ≡ log-written
   own-log ms k = halted-written (v₃ w) (t₃ .sim) old refl nines (t₃ .plain) ms k ∙ ap (λ (e : Entry). e ∷ at40 nines ∷ []) first-slot
@@ -180,6 +197,10 @@ module _ (w : World) (m : Filed w) where
     unfolding next
     exception-is = exception-cut trap ms (v₄ w) (t₄ .sim) fits
 
+    fits-now : marksFit ms (queue (cardIn (storeNext trap sync (v₃ w)))) ≡ true
+    unfolding next
+    fits-now = fits-cut trap ms (v₄ w) (t₄ .sim) fits
+
     accepted : acceptedCut trap (cut ms) (v₄ w) ≡ true
     accepted = cut-accepted trap ms (v₄ w) (t₄ .sim) fits
 
@@ -198,38 +219,67 @@ record Cuts (w : World) (ms : List ℕ) (same : Bool) (k : ℕ) : Type 0 where
 all-111 : allKept cut111 ≡ true
 all-111 = marksOf-all _
 
-torn-cuts : (w : World) → Filed w → Cuts w cut101 false 2
+-- the header kept, and another log found, which is no collision
+other-by : (w : World) → Filed w → (ms : List ℕ) (L : List Entry) → plainFit trap ms (downAt old (at40 nines ∷ [])) ≡ true → keptAt ms 2 ≡ true
+    → foundIn trap (cutSettled ms (storeNext trap sync (v₃ w))) ≡ L → sameLog L log-written ≡ false → collides L log-written ≡ false → Cuts w ms false 2
 unfolding refusal headerKept
-torn-cuts w m =
-    let fit : refusal trap (cut cut101) (downAt old (at40 nines ∷ [])) ≡ 0 = rw fits-101 in
+other-by w m ms L f k e other usual =
+    let fit : refusal trap (cut ms) (downAt old (at40 nines ∷ [])) ≡ 0 = rw f in
     record {
       fit = fit;
-      found = found-is w m cut101 fit ∙ ap₂ sameLog (torn-log w m) (own-log w m cut101 header-101) ∙ other-log;
-      usual = exception-is w m cut101 fit ∙ ap₂ collides (torn-log w m) (own-log w m cut101 header-101) ∙ no-collision;
+      found = found-is w m ms fit ∙ ap₂ sameLog e (own-log w m ms k) ∙ other;
+      usual = exception-is w m ms fit ∙ ap₂ collides e (own-log w m ms k) ∙ usual;
       S = old;
       n = 1;
       F = true;
       left = 98;
-      cuts = plain-torn old nines;
+      cuts = plain-other ms old nines f k;
       recovers = λ t. plain-fallback t old 1;
     }
 
-whole-cuts : (w : World) → Filed w → Cuts w cut111 true 0
+lost-cuts : (w : World) → Filed w → Cuts w cut101 false 2
+lost-cuts w m = other-by w m cut101 log-found (fits-101 old nines) header-101 (lost-log w m) other-log no-collision
+
+halved-cuts : (w : World) → Filed w → Cuts w cutHalf false 2
+halved-cuts w m = other-by w m cutHalf log-halved (fits-half old nines) header-half (halved-found w m) halved-log halved-no-collision
+
+served-by : (ms : List ℕ) → plainFit trap ms (downAt old (at40 nines ∷ [])) ≡ true → refusal trap (cut ms) (downAt old (at40 nines ∷ [])) ≡ 0
 unfolding refusal
-whole-cuts w m =
-    let fit : refusal trap (cut cut111) (downAt old (at40 nines ∷ [])) ≡ 0 = rw fits-111 in
-    let same = halted-whole (v₃ w) (t₃ w m .sim) old refl nines (t₃ w m .plain) cut111 fits-111 all-111 in
+served-by ms f = rw f
+
+-- the header kept, and the log written found
+new-by : (w : World) → Filed w → (ms : List ℕ) → plainFit trap ms (downAt old (at40 nines ∷ [])) ≡ true → keptAt ms 2 ≡ true
+    → sameLog (foundIn trap (cutSettled ms (storeNext trap sync (v₃ w)))) (cutWritten ms (ledgerNext trap sync (v₃ w))) ≡ true → Cuts w ms true 0
+new-by w m ms f k same =
+    let fit = served-by ms f in
     record {
       fit = fit;
-      found = found-is w m cut111 fit ∙ same;
-      usual = exception-is w m cut111 fit ∙ same-fits _ _ same;
+      found = found-is w m ms fit ∙ same;
+      usual = exception-is w m ms fit ∙ same-fits _ _ same;
       S = layOver (at40 nines ∷ []) old;
       n = 2;
       F = false;
       left = 100;
-      cuts = plain-whole old nines;
+      cuts = plain-new ms old nines f k;
       recovers = λ t. plain-found t (layOver (at40 nines ∷ []) old) 2;
     }
+
+whole-cuts : (w : World) → Filed w → Cuts w cut111 true 0
+whole-cuts w m =
+    new-by w m cut111 (fits-111 old nines) header-111
+    (halted-whole (v₃ w) (t₃ w m .sim) old refl nines (t₃ w m .plain) cut111 (fits-now w m cut111 (served-by cut111 (fits-111 old nines))) all-111)
+
+fifth-cuts : (w : World) → Filed w → Cuts w cutFifth true 0
+unfolding headerKept
+fifth-cuts w m =
+    new-by w m cutFifth (fits-fifth old nines) header-fifth (ap₂ sameLog (fifth-log w m) (own-log w m cutFifth header-fifth) ∙ logs-same log-written)
+
+-- a header that is torn
+header-refused : (w : World) → Filed w → dispatch trap (cut cutHeader) (v₄ w .store) ≡ refused 10 (v₄ w .store)
+header-refused w m =
+    let ten : cause trap (Request.cut cutHeader) (v₄ w .store) ≡ 10 =
+    same-cause trap (v₄ w .store) (v₄ w .ledger) (v₄ w .plain) (t₄ w m .sim) (cut cutHeader) ∙ ap (refusal trap (cut cutHeader)) (t₄ w m .plain) ∙ refused-header old nines in
+    called-refused trap (Request.cut cutHeader) (v₄ w .store) (λ z. let e : _≡_ {A = ℕ} 10 0 = sym ten ∙ z in omega arith) ∙ ap (λ (k : ℕ). refused k (v₄ w .store)) ten
 
 module _ (w : World) (m : Filed w) (ms : List ℕ) (same : Bool) (k : ℕ) (c : Cuts w ms same k) where
   abbrev v₅ : World
@@ -317,6 +367,10 @@ module _ (st : State) (f : formatCall trap st .answer ≡ 0) (size : blocksIn (s
     plain = s₃ .plain;
     log = filed-log w₂ (s₂ .sim) zeros refl sevens (s₂ .plain);
     free = filed-next w₂ (s₂ .sim) zeros refl sevens (s₂ .plain);
+    slot =
+        filed-slot w₂ (s₂ .sim) zeros refl sevens (s₂ .plain)
+        ∙ ap (λ (s : List ℕ). blockAt s 3) (commit-settled (w₁ .store) ∙ put-settled 40 sevens (begun trap st .store))
+        ∙ begun-blank trap st f 3 (λ z. omega arith) (omega (arith, size));
   }
 
   ends : EndsFinished trap filed (begun trap st)
@@ -368,13 +422,26 @@ module _ (st : State) (f : formatCall trap st .answer ≡ 0) (size : blocksIn (s
           block = x .1 ∙ ap₂ (λ (u : Fate) (d : Plain). outcome u (d .S) .disk 40) z (s₃ .plain) ∙ e;
         }
 
-  torn : Script st cut101 false false false 2 1 sevens
-  unfolding overlay lay torn-cuts
-  torn = script cut101 false 2 (torn-cuts w₃ all-filed) false false sevens (ap (λ (t : Bool). t && false) header-101) (marksOf-all _) refl
+  lost : Script st cut101 false false false 2 1 sevens
+  unfolding overlay lay lost-cuts other-by
+  lost = script cut101 false 2 (lost-cuts w₃ all-filed) false false sevens (ap (λ (t : Bool). t && false) header-101) (marksOf-all _) refl
 
   whole : Script st cut111 true true true 0 2 nines
-  unfolding overlay lay whole-cuts
+  unfolding overlay lay whole-cuts new-by
   whole = script cut111 true 0 (whole-cuts w₃ all-filed) true true nines (ap (λ (t : Bool). t && true) header-111) all-111 refl
 
+  halved-script : Script st cutHalf false false false 2 1 sevens
+  unfolding overlay lay halved-cuts other-by
+  halved-script = script cutHalf false 2 (halved-cuts w₃ all-filed) false false sevens (ap (λ (t : Bool). t && false) header-half) all-half refl
+
+  harmless : Script st cutFifth true true false 0 2 nines
+  unfolding overlay lay fifth-cuts new-by
+  harmless = script cutFifth true 0 (fifth-cuts w₃ all-filed) true false nines (ap (λ (t : Bool). t && true) header-fifth) all-fifth refl
+
+  header : dispatch trap (cut cutHeader) (metByCut st .store) ≡ record { answer = 10; orders = 0; state = metByCut st .store }
+  unfolding after
+  header = header-refused w₃ all-filed
+
 pub worked : Worked
-worked = record { torn = torn; whole = whole; card = Blank.blank }
+unfolding values marksOf
+worked = record { lost = lost; whole = whole; halved = halved-script; harmless = harmless; header = header; digits = (refl, refl, refl); card = Blank.blank }

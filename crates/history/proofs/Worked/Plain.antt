@@ -1,21 +1,22 @@
 -- The plain disk along the worked scripts, and how the store follows it.
 use Prim.Native.Nat.{ℕ}
 use mathlib.Core.Path.{_≡_, refl, ap, _∙_}
-use mathlib.Core.Bool.{Bool, true, false, _||_, or-false}
+use mathlib.Core.Bool.{Bool, true, false, cond, not, _&&_, _||_, or-false}
 use mathlib.Core.List.{List, [], _∷_}
 use lib.Dec.{eqb}
 use lib.ListN.{length}
 use Rattle.cells.specs.Entry.{blockBytes, Entry}
 use Rattle.crash.specs.Laid.{Laid, layOver}
-use Rattle.card.specs.Marks.{marksFit, keptAt}
-use Rattle.card.proofs.MarkLaws.{marksOf-fit, marksOf-kept}
+use Rattle.card.specs.Marks.{keptAt, marksFor, marksOf}
+use Rattle.card.proofs.MarkLaws.{marksOf-for, marksOf-whole, marksOf-kept}
 use Rattle.journal.specs.Geometry.{trap}
 use Rattle.journal.specs.Header.{mostSave}
 use Rattle.history.specs.Call.{Call, power, put, commit, sync, recover, cut}
-use Rattle.history.specs.Plain.{Plain, Done, ofSync, blankPlain, withS, withLists, withCount, withPower, done, cutShort, closedWith, has, insert, merge, refusal, headerKept, verdict, ownVerdict, plainSync, plainRecover, plainCut, plainStep, still}
+use Rattle.history.specs.Plain.{Plain, Done, ofSync, blankPlain, withS, withLists, withCount, withPower, done, cutShort, closedWith, has, insert, merge, headerWaits, plainFit, refusal, headerKept, verdict, ownVerdict, plainSync, plainRecover, plainCut, plainStep, still}
 use Rattle.history.specs.Dispatch.{dispatch}
 use Rattle.history.specs.History.{World, next, foundWritten, exception}
-use Rattle.history.specs.Worked.{at40, cut101, cut111}
+use Rattle.history.specs.Worked.{at40, cut101, cut111, cutHalf, cutFifth, cutHeader}
+use Rattle.history.proofs.Worked.TornMarks.{whole-half, for-half, whole-fifth, for-fifth, header-torn}
 use Rattle.history.proofs.Steps.Shown.{WorldSim}
 use Rattle.history.proofs.Steps.ListInduction.{step, next-sim}
 
@@ -52,26 +53,54 @@ pub plain-halted : (t : Bool) (S : Laid) (b : List ℕ) → eqb (S .groups) most
 unfolding plainStep refusal plainSync trap
 plain-halted t S b free = rw free
 
--- the cuts 101 and 111 fit three writes and keep the last, a header
-pub fits-101 : marksFit cut101 3 ≡ true
-fits-101 = marksOf-fit _ 3 refl
+-- marks for three whole writes, the last a header, fit
+fits-three : (x y z : Bool) (S : Laid) (b : List ℕ) → plainFit trap (marksOf (x ∷ y ∷ z ∷ [])) (downAt S (at40 b ∷ [])) ≡ true
+unfolding plainFit headerWaits trap
+fits-three x y z S b = rw (marksOf-for (x ∷ y ∷ z ∷ []), marksOf-whole (x ∷ y ∷ z ∷ []) 2 (lib.Dec.lit< tt))
+
+-- so do those of the cuts 101 and 111, which keep that header
+pub fits-101 : (S : Laid) (b : List ℕ) → plainFit trap cut101 (downAt S (at40 b ∷ [])) ≡ true
+fits-101 = fits-three true false true
 
 pub header-101 : keptAt cut101 2 ≡ true
-header-101 = marksOf-kept _ 2
+header-101 = marksOf-kept (true ∷ false ∷ true ∷ []) 2 (lib.Dec.lit< tt)
 
-pub fits-111 : marksFit cut111 3 ≡ true
-fits-111 = marksOf-fit _ 3 refl
+pub fits-111 : (S : Laid) (b : List ℕ) → plainFit trap cut111 (downAt S (at40 b ∷ [])) ≡ true
+fits-111 = fits-three true true true
 
 pub header-111 : keptAt cut111 2 ≡ true
-header-111 = marksOf-kept _ 2
+header-111 = marksOf-kept (true ∷ true ∷ true ∷ []) 2 (lib.Dec.lit< tt)
 
-pub plain-torn : (S : Laid) (b : List ℕ) → plainStep trap (cut cut101) false (downAt S (at40 b ∷ [])) ≡ still (closedAt S 1 0 true)
-unfolding plainStep refusal plainCut headerKept verdict ownVerdict trap
-plain-torn S b = rw (fits-101, header-101)
+-- those of the torn log block do too
+pub fits-half : (S : Laid) (b : List ℕ) → plainFit trap cutHalf (downAt S (at40 b ∷ [])) ≡ true
+unfolding plainFit headerWaits trap
+fits-half S b = rw (for-half, whole-half)
 
-pub plain-whole : (S : Laid) (b : List ℕ) → plainStep trap (cut cut111) true (downAt S (at40 b ∷ [])) ≡ still (closedAt (layOver (at40 b ∷ []) S) 2 0 false)
+-- and those of the torn descriptor
+pub fits-fifth : (S : Laid) (b : List ℕ) → plainFit trap cutFifth (downAt S (at40 b ∷ [])) ≡ true
+unfolding plainFit headerWaits trap
+fits-fifth S b = rw (for-fifth, whole-fifth)
+
+-- those that tear the header do not
+pub refused-header : (S : Laid) (b : List ℕ) → refusal trap (cut cutHeader) (downAt S (at40 b ∷ [])) ≡ 10
+unfolding refusal plainFit headerWaits trap
+refused-header S b = rw (header-torn) (none (marksFor cutHeader 3))
+  where
+    none : (t : Bool) → _≡_ {A = ℕ} (cond (not (t && false)) 10 0) 10
+    none true = refl
+    none false = refl
+
+-- a cut that keeps the header, with another log found
+pub plain-other : (ms : List ℕ) (S : Laid) (b : List ℕ) → plainFit trap ms (downAt S (at40 b ∷ [])) ≡ true → keptAt ms 2 ≡ true
+    → plainStep trap (cut ms) false (downAt S (at40 b ∷ [])) ≡ still (closedAt S 1 0 true)
 unfolding plainStep refusal plainCut headerKept verdict ownVerdict trap
-plain-whole S b = rw (fits-111, header-111)
+plain-other ms S b f k = rw (f, k)
+
+-- and with the log written
+pub plain-new : (ms : List ℕ) (S : Laid) (b : List ℕ) → plainFit trap ms (downAt S (at40 b ∷ [])) ≡ true → keptAt ms 2 ≡ true
+    → plainStep trap (cut ms) true (downAt S (at40 b ∷ [])) ≡ still (closedAt (layOver (at40 b ∷ []) S) 2 0 false)
+unfolding plainStep refusal plainCut headerKept verdict ownVerdict trap
+plain-new ms S b f k = rw (f, k)
 
 pub plain-again : (t : Bool) (S : Laid) (n p k : ℕ) (F : Bool) → plainStep trap (power k) t (closedAt S n p F) ≡ still (closedAt S n k F)
 unfolding plainStep refusal

@@ -6,12 +6,12 @@ use mathlib.Core.Bool.{Bool, true, false, cond}
 use mathlib.Core.List.{List, [], _∷_, _++_}
 use native.Mathlib.Omega.{arith}
 use lib.Dec.{eqb}
-use lib.ListN.{length, take, length-take}
+use lib.ListN.{length, take, replicate}
 use Rattle.cells.specs.Cell.{cell}
 use Rattle.cells.specs.Little.{num}
 use Rattle.cells.specs.Entry.{Entry}
 use Rattle.crash.specs.Laid.{Laid}
-use Rattle.card.specs.Card.{Card, run, cut, settle, blockAt}
+use Rattle.card.specs.Card.{Card, queue, run, cut, settle, torn, blockAt}
 use Rattle.card.specs.Marks.{marksFit, allKept}
 use Rattle.journal.specs.Geometry.{trap}
 use Rattle.journal.specs.Geometry.Laws.{trap-descriptors}
@@ -29,7 +29,7 @@ use Rattle.history.specs.Plain.{Plain, refusal, headerKept}
 use Rattle.history.specs.Dispatch.{dispatch}
 use Rattle.history.specs.Ledger.{waitsBehind, syncHeaders, noted, entered, applyHeader, ownHeader, standing, inner, resolved, sameLog}
 use Rattle.history.specs.History.{World, storeNext, ledgerNext}
-use Rattle.history.specs.Worked.{at40, cut101}
+use Rattle.history.specs.Worked.{at40, cut101, half, cutHalf, cutFifth}
 use Rattle.crash.proofs.Plans.{planned, takes}
 use Rattle.history.proofs.Steps.AppendEnds.{Appends, done-card}
 use Rattle.history.proofs.Relation.Sim.{OpenSim, cutSettled, cutWritten}
@@ -41,7 +41,7 @@ use Rattle.history.proofs.Steps.Worlds.{plainNow, openWorld, Opened, op
 use Rattle.history.proofs.Steps.SyncMeets.{single, met-itself}
 use Rattle.history.proofs.Steps.Sync.{next-number, gives, short-whole}
 use Rattle.history.proofs.Atomicity.Phases.{open-now}
-use Rattle.history.proofs.Worked.Card.{second-zero, torn-found}
+use Rattle.history.proofs.Worked.Card.{second-zero, lost-found, second-slot, halved-found, fifth-found}
 use Rattle.history.proofs.Worked.Plain.{openAt}
 
 base-at : {N : ℕ} {s : List ℕ} {n n′ h : ℕ} {G G′ v : List Entry} {S : Laid} → n ≡ n′ → G ≡ G′ → Appends trap N s n h G v S → Appends trap N s n′ h G′ v S
@@ -160,12 +160,10 @@ module _ (w : World) (m : WorldSim trap w) (S : Laid) (free : eqb (S .groups) mo
       ∙ note-at (ownHeader trap (w .store)) [] (w .store .rec .power) (w .ledger) (omega (arith, power-is, no-inner, grouped-is, trap-descriptors))
       ∙ (λ i. waitsBehind (grouped-is i + trap-descriptors i) (standing-is i ++ group-is i) (w .ledger))
 
-  halted-same : p ≡ 3 → (ms : List ℕ) → marksFit ms 3 ≡ true → allKept ms ≡ true → sameLog (foundIn trap (cutSettled ms (storeNext trap sync w))) (cutWritten ms (ledgerNext trap sync w)) ≡ true
+  halted-same : p ≡ 3 → (ms : List ℕ) → marksFit ms (queue (cardIn (storeNext trap sync w))) ≡ true → allKept ms ≡ true → sameLog (foundIn trap (cutSettled ms (storeNext trap sync w))) (cutWritten ms (ledgerNext trap sync w)) ≡ true
   halted-same e ms l a =
       let D = halted-call e in
-      let three : storeNext trap sync w .rec .waiting ≡ 3 =
-      ap (λ (x : Outcome). x .state .rec .waiting) D ∙ halted-left e .count ∙ length-take p (appendWrites trap N s n h (w .plain .S .groups + 1) (at40 b ∷ [])) ∙ (omega (arith, trap-descriptors, length-append-writes trap N s n h (w .plain .S .groups + 1) (at40 b ∷ []))) in
-      short-whole trap w m served o some (ap (λ (x : Outcome). x .answer) D) (ap (λ (x : Outcome). x .orders) D ∙ (omega (arith, power-is, no-inner, grouped-is, trap-descriptors))) ms (ap (marksFit ms) three ∙ l) a .1
+      short-whole trap w m served o some (ap (λ (x : Outcome). x .answer) D) (ap (λ (x : Outcome). x .orders) D ∙ (omega (arith, power-is, no-inner, grouped-is, trap-descriptors))) ms l a .1
 
 -- ---- the first sync
 
@@ -180,8 +178,12 @@ module _ (w : World) (m : WorldSim trap w) (S : Laid) (free : eqb (S .groups) mo
   pub filed-log : logD trap (blockAt (storeNext trap sync w .settled)) 1 ≡ at40 b ∷ []
   filed-log = ap (λ (x : List ℕ). logD trap (blockAt x) 1) settled-now ∙ sym (done-card trap now .same)
 
-  pub filed-next : num (cell 4 (blockAt (storeNext trap sync w .settled) descriptorAt) 1) ≡ 0
-  filed-next = ap (λ (x : List ℕ). num (cell 4 (blockAt x descriptorAt) 1)) settled-now ∙ second-zero now
+  pub filed-next : cell 4 (blockAt (storeNext trap sync w .settled) descriptorAt) 1 ≡ replicate 4 0
+  filed-next = ap (λ (x : List ℕ). cell 4 (blockAt x descriptorAt) 1) settled-now ∙ second-zero now
+
+  -- and the next slot is as it was
+  pub filed-slot : blockAt (storeNext trap sync w .settled) 3 ≡ blockAt (w .store .settled) 3
+  filed-slot = ap (λ (x : List ℕ). blockAt x 3) settled-now ∙ second-slot now
 
 -- ---- the second
 
@@ -193,11 +195,23 @@ module _ (w : World) (m : WorldSim trap w) (S : Laid) (free : eqb (S .groups) mo
       ap (cutWritten ms) (halted-ledger w m S free b 1 3 (omega arith) d refl)
       ∙ ap (λ (t : Bool). cond t (logD trap (blockAt (w .store .settled)) 1 ++ (at40 b ∷ [])) (w .ledger .written)) k
 
-  pub halted-torn : foundIn trap (cutSettled cut101 (storeNext trap sync w))
+  pub halted-lost : foundIn trap (cutSettled cut101 (storeNext trap sync w))
       ≡ slotE trap (blockAt (w .store .settled)) 0 ∷ record { address = num (cell 4 (blockAt (w .store .settled) descriptorAt) 1); block = b } ∷ []
-  halted-torn =
+  halted-lost =
       ap (foundIn trap) (halted-settled w m S free b 1 3 (omega arith) d refl cut101)
-      ∙ torn-found (base-now w m S free b 1 3 (omega arith) d) (cardIn (w .store)) (r w m S free b 1 3 (omega arith) d) (halted-left w m S free b 1 3 (omega arith) d refl)
+      ∙ lost-found (base-now w m S free b 1 3 (omega arith) d) (cardIn (w .store)) (r w m S free b 1 3 (omega arith) d) (halted-left w m S free b 1 3 (omega arith) d refl)
 
-  pub halted-whole : (ms : List ℕ) → marksFit ms 3 ≡ true → allKept ms ≡ true → sameLog (foundIn trap (cutSettled ms (storeNext trap sync w))) (cutWritten ms (ledgerNext trap sync w)) ≡ true
+  pub halted-halved : foundIn trap (cutSettled cutHalf (storeNext trap sync w))
+      ≡ slotE trap (blockAt (w .store .settled)) 0 ∷ at40 (torn half b (blockAt (w .store .settled) 3)) ∷ []
+  halted-halved =
+      ap (foundIn trap) (halted-settled w m S free b 1 3 (omega arith) d refl cutHalf)
+      ∙ halved-found (base-now w m S free b 1 3 (omega arith) d) (cardIn (w .store)) (r w m S free b 1 3 (omega arith) d) (halted-left w m S free b 1 3 (omega arith) d refl)
+
+  pub halted-fifth : cell 4 (blockAt (w .store .settled) descriptorAt) 1 ≡ replicate 4 0
+      → foundIn trap (cutSettled cutFifth (storeNext trap sync w)) ≡ slotE trap (blockAt (w .store .settled)) 0 ∷ at40 b ∷ []
+  halted-fifth z =
+      ap (foundIn trap) (halted-settled w m S free b 1 3 (omega arith) d refl cutFifth)
+      ∙ fifth-found (base-now w m S free b 1 3 (omega arith) d) (cardIn (w .store)) (r w m S free b 1 3 (omega arith) d) (halted-left w m S free b 1 3 (omega arith) d refl) z
+
+  pub halted-whole : (ms : List ℕ) → marksFit ms (queue (cardIn (storeNext trap sync w))) ≡ true → allKept ms ≡ true → sameLog (foundIn trap (cutSettled ms (storeNext trap sync w))) (cutWritten ms (ledgerNext trap sync w)) ≡ true
   halted-whole ms l a = halted-same w m S free b 1 3 (omega arith) d refl ms l a

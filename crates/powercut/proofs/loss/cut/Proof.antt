@@ -1,15 +1,14 @@
 -- `powercut::loss::cut` meets its contract.
-use Prim.Native.Nat.{ℕ}
+use Prim.Native.Nat.{ℕ, _*_}
 use mathlib.Core.Path.{_≡_, ap, sym, _∙_}
 use mathlib.Core.List.{List}
 use native.Mathlib.Omega.{arith}
-use lib.ListN.{length}
-use Rattle.cells.specs.Upto.Laws.{length-upTo}
+use borrow.Author.Needs.{needs}
+use lib.Seq.{length-take-le}
 use Rattle.store.specs.State.{State, Outcome}
 use Rattle.store.specs.Cut.{cutCall}
 use Rattle.journal.specs.Geometry.{trap}
-use Rattle.powercut.specs.Sets as Sets
-use borrow.Author.Needs.{needs}
+use Rattle.powercut.specs.Tries.{tryMarks}
 use Rattle.powercut.proofs.loss.cut.Statement.{statement}
 use Rattle.powercut.proofs.loss.cut.Tie as tie
 
@@ -24,6 +23,9 @@ returns : tie.Need-returns
 unfolding trap
 returns c p = absurd (omega (arith, p))
 
+tearable-requires : tie.Need-tearable-requires
+tearable-requires c κs = search needs
+
 slice-aggregate-marks : tie.Need-slice-aggregate-marks
 slice-aggregate-marks c = search needs
 
@@ -33,18 +35,26 @@ marks-requires c κs = search needs
 cast-end : tie.Need-cast-end
 cast-end c = search needs
 
+mul-end : tie.Need-mul-end
+mul-end c = search needs
+
 array-share-prefix-marks : tie.Need-array-share-prefix-marks
 array-share-prefix-marks c = search needs
 
 slice-aggregate-cut : tie.Need-slice-aggregate-cut
-unfolding Sets.marks
-slice-aggregate-cut c = sym (ap length (c .before .before .before .before .before .marks2 .ensures) ∙ length-upTo _ _)
+slice-aggregate-cut c =
+    let m = c .before .before .before .before .before .marks2 in
+    let n = c .before .before .before .before .before .before .before .before .before .before .args .r .waiting in
+    sym (length-take-le (512 * n) (m .last .1 .1 .1 .0) (omega (arith, m .kept .1 .1 .1 .0)))
 
 cut-requires : tie.Need-cut-requires
 cut-requires c κs = search needs
 
 returns-2 : tie.Need-returns-2
-returns-2 c p = marked _ _ _ _ (c .before .cut .ensures) (c .before .before .before .before .before .before .before .marks2 .ensures)
+returns-2 c p =
+    let m = c .before .before .before .before .before .before .before in
+    let a = m .before .before .before .before .before .args in
+    marked _ _ _ _ (c .before .cut .ensures) (m .marks2 .ensures ∙ ap (λ (k : ℕ). tryMarks (a .r .waiting) k (a .attempt)) (m .before .before .tearable .ensures .0))
 
 pub cut-spec : {M : Type 1} → statement M
 cut-spec =
@@ -52,9 +62,11 @@ cut-spec =
     (tie.spec
     cast-if1
     returns
+    tearable-requires
     slice-aggregate-marks
     marks-requires
     cast-end
+    mul-end
     array-share-prefix-marks
     slice-aggregate-cut
     cut-requires

@@ -6,16 +6,16 @@ use Rattle.powercut.proofs.map.characters.Statement.{statement}
 use Rattle.powercut.proofs.map.characters.Tie as tie
 
 abbrev Inv-loop : tie.InvT-loop
-Inv-loop c start s₀ w₀ k orders n whole₀ set₀ s w whole set = set ≤ n
+Inv-loop c start s₀ w₀ k orders n whole₀ attempt₀ s w whole attempt = attempt ≤ n
 
 abbrev μ-loop : tie.MeasureT-loop
-μ-loop c start s₀ w₀ k orders n whole₀ set₀ s w whole set = n - set
+μ-loop c start s₀ w₀ k orders n whole₀ attempt₀ s w whole attempt = n - attempt
 
 saved-requires : tie.Need-saved-requires Inv-loop μ-loop
 saved-requires c κs = search needs
 
-sets-of-requires : tie.Need-sets-of-requires Inv-loop μ-loop
-sets-of-requires c κs = search needs
+tries-of-requires : tie.Need-tries-of-requires Inv-loop μ-loop
+tries-of-requires c κs = search needs
 
 loop-holds : tie.Need-loop-holds Inv-loop μ-loop
 loop-holds c = omega arith
@@ -29,8 +29,8 @@ slice-aggregate-write-all c = search needs
 write-all-requires : tie.Need-write-all-requires Inv-loop μ-loop
 write-all-requires c κs = search needs
 
-add-set : tie.Need-add-set Inv-loop μ-loop
-add-set c = omega arith
+add-attempt : tie.Need-add-attempt Inv-loop μ-loop
+add-attempt c = omega arith
 
 loop-less : tie.Need-loop-less Inv-loop μ-loop
 loop-less c = omega arith
@@ -48,12 +48,12 @@ characters-spec =
     Inv-loop
     μ-loop
     saved-requires
-    sets-of-requires
+    tries-of-requires
     loop-holds
     found-requires
     slice-aggregate-write-all
     write-all-requires
-    add-set
+    add-attempt
     loop-less
     loop-again
     returns)

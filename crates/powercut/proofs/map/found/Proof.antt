@@ -20,8 +20,8 @@ letter-requires c κs = search needs
 loop-holds : tie.Need-loop-holds Inv-loop μ-loop
 loop-holds c = omega arith
 
-with-sets-requires : tie.Need-with-sets-requires Inv-loop μ-loop
-with-sets-requires c κs = search needs
+with-tries-requires : tie.Need-with-tries-requires Inv-loop μ-loop
+with-tries-requires c κs = search needs
 
 add-orders : tie.Need-add-orders Inv-loop μ-loop
 add-orders c = omega arith
@@ -44,7 +44,7 @@ found-spec =
     recovered-requires
     letter-requires
     loop-holds
-    with-sets-requires
+    with-tries-requires
     add-orders
     loop-less
     loop-again

@@ -1,11 +1,14 @@
 -- `store::record::Record::cut` meets its contract.
-use Prim.Native.Nat.{_<_}
+use Prim.Native.Nat.{_*_, _<_}
 use mathlib.Core.Path.{_≡_, refl, ap, _∙_}
 use native.Mathlib.Omega.{arith}
 use borrow.Author.Tests.{not-false}
 use lib.ListN.{length}
+use Rattle.cells.specs.Upto.Laws.{length-upTo}
+use Rattle.cells.specs.Entry.{blockBytes, entryAt}
+use Rattle.card.specs.Card.{queue}
 use Rattle.card.specs.declared.queue.Queue.{Queue}
-use Rattle.store.specs.State.{State}
+use Rattle.store.specs.State.{State, cardIn}
 use Rattle.store.specs.CodeState.{stateOf}
 use Rattle.store.specs.Request.{cut}
 use Rattle.store.specs.Outcomes.{completed}
@@ -39,6 +42,7 @@ queue-requires : tie.Need-queue-requires
 queue-requires c κs = search needs
 
 cut-requires : tie.Need-cut-requires
+unfolding queue
 cut-requires c κs =
     let e = c .before .before in
     let start = e .before .before .before .before .before .before .before in
@@ -46,7 +50,8 @@ cut-requires c κs =
     let n = e .before .cut-number in
     let p = cause-passes trap (cut (start .args .marks .now)) st (n .result) (n .ensures) (e .if1 .left) in
     let s = passes-sound trap (cut (start .args .marks .now)) st (n .result) refl (n .ensures) (e .if1 .left) in
-    let many : length (start .args .marks .now) ≡ start .args .self .waiting = fits-length (start .args .marks .now) (start .args .self .waiting) (not-false _ (p .own .0)) in
+    let waits : length (queue (cardIn st)) ≡ start .args .self .waiting = length-upTo (entryAt (start .args .waiting .now)) (start .args .self .waiting) in
+    let many : length (start .args .marks .now) ≡ blockBytes * length (queue (cardIn st)) = fits-length (start .args .marks .now) (queue (cardIn st)) (not-false _ (p .own .0)) in
     let held : c .before .queue .result .waiting ≡ start .args .self .waiting = ap (λ (q : Queue). q .waiting) (c .before .queue .ensures) in
     (omega arith, (λ i h. let inside : i < start .args .self .waiting = omega arith in omega (arith, s .waiting-below i inside), omega arith))
 

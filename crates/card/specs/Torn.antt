@@ -1,0 +1,24 @@
+-- What a cut leaves, said in two other ways: byte by byte; and, for marks that tear nothing, as document 01 has it.
+use Prim.Native.Nat.{ℕ, suc, _+_, _*_}
+use mathlib.Core.Bool.{cond, _&&_}
+use mathlib.Core.List.{List, [], _∷_}
+use lib.Dec.{eqb}
+use lib.ListN.{getD}
+use Rattle.cells.specs.Entry.{blockBytes, Entry}
+use Rattle.card.specs.Card.{Card, queue, settle}
+
+-- byte j of block a: of the writes q, which wait from place i on, the newest to that block whose mark for it, number 512·i + j, is 1 has it,
+-- else it is x
+unfoldable pub newestByte : List ℕ → ℕ → ℕ → ℕ → List Entry → ℕ → ℕ
+newestByte ms i a j [] x = x
+newestByte ms i a j (e ∷ q) x = newestByte ms (suc i) a j q (cond (eqb a (e .address) && eqb (getD ms (blockBytes * i + j) 0) 1) (getD (e .block) j 0) x)
+
+-- document 01: "one mark for each waiting write, 1 kept or 0 lost": the writes that are kept
+unfoldable pub kept : List ℕ → List Entry → List Entry
+kept [] es = []
+kept (m ∷ ms) [] = []
+kept (m ∷ ms) (e ∷ es) = cond (eqb m 1) (e ∷ kept ms es) (kept ms es)
+
+-- "Kept writes settle, oldest first, whole."
+unfoldable pub wholeCut : List ℕ → Card → Card
+wholeCut marks c = record { settled = settle (kept marks (queue c)) (c .settled); waiting = c .waiting; count = 0; power = c .power }

@@ -1,0 +1,39 @@
+-- The cut, of any state whatever: byte by byte; and with equal marks, as document 01 has it.
+use Prim.Native.Nat.{ℕ, _<_}
+use mathlib.Core.Path.{_≡_}
+use mathlib.Core.Bool.{false, not, _&&_}
+use mathlib.Core.List.{List, [], _∷_}
+use lib.Dec.{eqb}
+use lib.ListN.{length, getD}
+use Rattle.cells.specs.Entry.{blockBytes}
+use Rattle.card.specs.Card.{queue, blockAt, blocksIn}
+use Rattle.card.specs.Marks.{overOne, spread}
+use Rattle.card.specs.Torn.{newestByte, wholeCut}
+use Rattle.journal.specs.Geometry.{Geometry}
+use Rattle.store.specs.State.{State, Outcome, withRecord, withCard, cardIn}
+use Rattle.store.specs.Causes.{Row, ofRecord, causeBy}
+use Rattle.store.specs.Outcomes.{completed, unless}
+use Rattle.store.specs.Cut.{shut}
+use Rattle.history.specs.Call.{cut}
+use Rattle.history.specs.Dispatch.{dispatch}
+
+-- document 01's row 10: "cut: marks not as many as waiting, or a mark over 1"
+abbrev pub wholeMarksRow : List ℕ → Row
+wholeMarksRow ms = record { number = 10; behind = lib.Dec.lit< tt; test = λ st. not (eqb (length ms) (st .rec .waiting) && not (overOne ms)) }
+
+module _ (geo : Geometry) where
+  -- document 01's cut: "It takes one mark for each waiting write, 1 kept or 0 lost. Kept writes settle, oldest first, whole."
+  unfoldable pub wholeCutCall : List ℕ → State → Outcome
+  wholeCutCall ms st =
+      unless (causeBy geo (ofRecord false (wholeMarksRow ms ∷ [])) st) st
+      (completed (withCard (wholeCut ms (cardIn st)) (withRecord (shut (st .rec)) st)))
+
+  -- W-204: an accepted cut leaves of each byte that of the newest waiting write to its block whose mark for it is 1, else the settled one;
+  -- and "The script's single mark stands for 512 equal ones": so marked, a cut is document 01's, refusals included
+  pub record Cuts (st : State) (ms : List ℕ) : Type 0 where
+    pub bytes : dispatch geo (cut ms) st .answer ≡ 0 → (a j : ℕ) → a < blocksIn (st .settled) → j < blockBytes
+        → getD (blockAt (dispatch geo (cut ms) st .state .settled) a) j 0 ≡ newestByte ms 0 a j (queue (cardIn st)) (getD (blockAt (st .settled) a) j 0)
+    pub whole : dispatch geo (cut (spread ms)) st ≡ wholeCutCall ms st
+
+  abbrev pub AllCuts : Type 0
+  AllCuts = (st : State) (ms : List ℕ) → Cuts st ms
