@@ -1,12 +1,11 @@
 -- The card after a cut: byte by byte; and as document 01 has it where no write is torn. What follows from a cut goes by the four laws of
 -- Leaves.antt.
-use Prim.Native.Nat.{ℕ, zero, suc, _+_, _≤_, _<_}
+use Prim.Native.Nat.{ℕ, suc, _+_, _≤_, _<_}
 use mathlib.Core.Path.{_≡_, refl, ap, sym, _∙_}
 use mathlib.Core.Bool.{Bool, true, false, cond}
 use mathlib.Core.Logic.{_≢_}
 use mathlib.Core.List.{List, [], _∷_, _++_}
 use native.Mathlib.Decide.{decLt}
-use native.Mathlib.Nat.{zero-add}
 use native.Mathlib.Omega.{arith}
 use lib.Dec.{eqb}
 use lib.ListN.{length, getD, drop, drop-of-length-le, List·getD-eq-default}
@@ -14,15 +13,14 @@ use lib.Seq.{ext-getD, drop-cons}
 use Rattle.cells.specs.Cell.{setCell}
 use Rattle.cells.specs.Cell.Laws.{length-cell, length-setCell, set-own}
 use Rattle.cells.specs.Entry.{blockBytes, Entry}
-use Rattle.card.specs.Disk.{overlay}
 use Rattle.card.specs.Card.{Card, queue, settle, torn, settleKept, cut, blockAt, blocksIn}
-use Rattle.card.specs.Marks.{marksAt, keptAt, spread, marksOf}
+use Rattle.card.specs.Marks.{marksAt, keptAt, lostAt, spread}
 use Rattle.card.specs.Torn.{newestByte, kept, wholeCut}
 use Rattle.card.proofs.All.{All, all-map}
-use Rattle.card.proofs.Overlays.{overlay-keeps}
 use Rattle.card.proofs.Runs.{Whole}
-use Rattle.card.proofs.Torn.{length-torn, getD-torn, length-settleKept, newestCell, cell-flat, settleKept-byte, newest-one, newest-kept}
-use Rattle.card.proofs.MarkLaws.{kept-marks, spread-mark, singles}
+use Rattle.card.proofs.Torn.{length-torn, getD-torn, length-settleKept, newestCell, cell-flat, settleKept-byte, newest-one}
+use Rattle.card.proofs.MarkLaws.{kept-marks, lost-marks}
+use Rattle.card.proofs.Spreads.{spread-mark}
 
 -- ---- the card
 
@@ -58,25 +56,13 @@ cut-one ms c a es fs e q h w b z o p =
     ∙ newest-one ms a j es fs e (getD (blockAt (c .settled) a) j 0) z o p
     ∙ sym (getD-torn (marksAt ms (length es)) (e .block) (blockAt (c .settled) a) j (b ∙ sym old) (rw old k)))
 
--- by a write that is kept, it is that write's
-pub torn-kept : (ms : List ℕ) (i : ℕ) (new old : List ℕ) → keptAt ms i ≡ true → length new ≡ blockBytes → length old ≡ blockBytes → torn (marksAt ms i) new old ≡ new
-torn-kept ms i new old k n o =
-    ext-getD 0 (torn (marksAt ms i) new old) new (length-torn (marksAt ms i) new old ∙ o ∙ sym n)
+-- by marks that are alike it is the write's, or as it was
+torn-alike : (ms : List ℕ) (m : ℕ) (new old : List ℕ) → length new ≡ blockBytes → length old ≡ blockBytes → ((j : ℕ) → j < blockBytes → getD ms j 0 ≡ m) → torn ms new old ≡ cond (eqb m 1) new old
+torn-alike ms m new old n o alike =
+    ext-getD 0 (torn ms new old) (cond (eqb m 1) new old) (length-torn ms new old ∙ sym (size (eqb m 1)))
     (λ j l.
-    let inside : j < length old = rw (length-torn (marksAt ms i) new old) at l in
-    getD-torn (marksAt ms i) new old j (n ∙ sym o) inside ∙ rw (kept-marks ms i k j (rw o at inside)))
-
--- ---- equal marks
-
--- what the marks of a write keep of a block if they are equal, or if there are none
-spread-torn : (ms : List ℕ) (i : ℕ) (new old : List ℕ) → length new ≡ blockBytes → length old ≡ blockBytes → torn (marksAt (spread ms) i) new old ≡ cond (eqb (getD ms i 0) 1) new old
-spread-torn ms i new old n o =
-    ext-getD 0 (torn (marksAt (spread ms) i) new old) (cond (eqb (getD ms i 0) 1) new old) (length-torn (marksAt (spread ms) i) new old ∙ sym (size (eqb (getD ms i 0) 1)))
-    (λ j l.
-    let inside : j < length old = rw (length-torn (marksAt (spread ms) i) new old) at l in
-    getD-torn (marksAt (spread ms) i) new old j (n ∙ sym o) inside
-    ∙ ap (λ (m : ℕ). cond (eqb m 1) (getD new j 0) (getD old j 0)) (spread-mark ms i j (rw o at inside))
-    ∙ split (eqb (getD ms i 0) 1) j)
+    let inside : j < length old = rw (length-torn ms new old) at l in
+    getD-torn ms new old j (n ∙ sym o) inside ∙ ap (λ (x : ℕ). cond (eqb x 1) (getD new j 0) (getD old j 0)) (alike j (rw o at inside)) ∙ split (eqb m 1) j)
   where
     size : (t : Bool) → length (cond t new old) ≡ length old
     size true = n ∙ sym o
@@ -86,11 +72,19 @@ spread-torn ms i new old n o =
     split true j = refl
     split false j = refl
 
+pub torn-kept : (ms : List ℕ) (i : ℕ) (new old : List ℕ) → keptAt ms i ≡ true → length new ≡ blockBytes → length old ≡ blockBytes → torn (marksAt ms i) new old ≡ new
+torn-kept ms i new old k n o = torn-alike (marksAt ms i) 1 new old n o (kept-marks ms i k)
+
+pub torn-lost : (ms : List ℕ) (i : ℕ) (new old : List ℕ) → lostAt ms i ≡ true → length new ≡ blockBytes → length old ≡ blockBytes → torn (marksAt ms i) new old ≡ old
+torn-lost ms i new old k n o = torn-alike (marksAt ms i) 0 new old n o (lost-marks ms i k)
+
+-- ---- equal marks
+
 -- one write settles, or nothing does
 spread-one : (ms : List ℕ) (i : ℕ) (e : Entry) (s : List ℕ) → Whole e → e .address < blocksIn s
     → setCell blockBytes s (e .address) (torn (marksAt (spread ms) i) (e .block) (blockAt s (e .address))) ≡ cond (eqb (getD ms i 0) 1) (setCell blockBytes s (e .address) (e .block)) s
 spread-one ms i e s w h =
-    ap (setCell blockBytes s (e .address)) (spread-torn ms i (e .block) (blockAt s (e .address)) w (length-cell blockBytes s (e .address) (omega arith)))
+    ap (setCell blockBytes s (e .address)) (torn-alike (marksAt (spread ms) i) (getD ms i 0) (e .block) (blockAt s (e .address)) w (length-cell blockBytes s (e .address) (omega arith)) (spread-mark ms i))
     ∙ go (eqb (getD ms i 0) 1)
   where
     go : (t : Bool) → setCell blockBytes s (e .address) (cond t (e .block) (blockAt s (e .address))) ≡ cond t (setCell blockBytes s (e .address) (e .block)) s
@@ -134,43 +128,3 @@ pub spread-cut : (ms : List ℕ) (c : Card) → All Whole (queue c) → All (λ 
 unfolding cut wholeCut
 spread-cut ms c w h =
     ap (λ (s : List ℕ). record { settled = s; waiting = c .waiting; count = 0; power = c .power }) (spread-settles ms 0 (queue c) (c .settled) w h)
-
--- ---- the writes that are chosen
-
-abbrev pub chosen : List Bool → List Entry → List Entry
-chosen [] es = []
-chosen (k ∷ ks) [] = []
-chosen (k ∷ ks) (e ∷ es) = cond k (e ∷ chosen ks es) (chosen ks es)
-
-singles-chosen : (ks : List Bool) (es : List Entry) → kept (singles ks) es ≡ chosen ks es
-unfolding kept
-singles-chosen [] es = refl
-singles-chosen (k ∷ ks) [] = refl
-singles-chosen (true ∷ ks) (e ∷ es) = ap (λ (l : List Entry). e ∷ l) (singles-chosen ks es)
-singles-chosen (false ∷ ks) (e ∷ es) = singles-chosen ks es
-
--- by marks that keep some writes a cut leaves just those, laid over
-pub cut-chosen : (ks : List Bool) (c : Card) (a : ℕ) → a < blocksIn (c .settled) → All Whole (queue c)
-    → blockAt (cut (marksOf ks) c .settled) a ≡ overlay (chosen ks (queue c)) (blockAt (c .settled)) a
-unfolding marksOf
-cut-chosen ks c a h w =
-    ext-getD 0 (blockAt (cut (marksOf ks) c .settled) a) (overlay (chosen ks (queue c)) (blockAt (c .settled)) a) (long ∙ sym laid)
-    (λ j l.
-    let b : j < blockBytes = omega (arith, long) in
-    cut-byte (marksOf ks) c a j h b w
-    ∙ newest-kept (spread (singles ks)) 0 a j (singles ks) (queue c) (blockAt (c .settled)) (λ k z. ap (λ (m : ℕ). eqb m 1) (spread-mark (singles ks) (0 + k) j b ∙ ap (λ (i : ℕ). getD (singles ks) i 0) (zero-add k)))
-    ∙ ap (λ (es : List Entry). getD (overlay es (blockAt (c .settled)) a) j 0) (singles-chosen ks (queue c)))
-  where
-    long : length (blockAt (cut (marksOf ks) c .settled) a) ≡ blockBytes
-    long = cut-long (marksOf ks) c a h
-
-    laid : length (overlay (chosen ks (queue c)) (blockAt (c .settled)) a) ≡ blockBytes
-    laid =
-        overlay-keeps (λ b. length b ≡ blockBytes) (chosen ks (queue c)) (blockAt (c .settled)) a (length-cell blockBytes (c .settled) a (omega arith))
-        (all-map Whole (λ e. e .address ≡ a → Whole e) (λ e p z. p) (chosen ks (queue c)) (all-chosen ks (queue c) w))
-      where
-        all-chosen : (ks : List Bool) (es : List Entry) → All Whole es → All Whole (chosen ks es)
-        all-chosen [] es p = tt
-        all-chosen (k ∷ ks) [] p = tt
-        all-chosen (true ∷ ks) (e ∷ es) p = (p .0, all-chosen ks es (p .1))
-        all-chosen (false ∷ ks) (e ∷ es) p = all-chosen ks es (p .1)

@@ -20,7 +20,8 @@ use Rattle.card.proofs.All.{All, all-map, Any}
 use Rattle.card.proofs.Overlays.{overlay-keeps}
 use Rattle.card.proofs.Runs.{Whole, length-settle, settle-overlay}
 use Rattle.card.proofs.Torn.{newestCell, newest-none, newest-either, newest-all}
-use Rattle.card.proofs.MarkLaws.{both, fits-headers, kept-marks, lost-marks, all-marks, ones, ones-fit, ones-kept}
+use Rattle.card.proofs.MarkLaws.{both, fits-headers, kept-marks, lost-marks, all-marks}
+use Rattle.card.proofs.Spreads.{ones, ones-fit, ones-kept}
 use Rattle.card.proofs.Cuts.{cut-length, cut-byte}
 
 -- ---- the newest kept write to a block

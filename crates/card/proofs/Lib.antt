@@ -5,5 +5,6 @@ pub mod Runs
 pub mod Peaks
 pub mod Torn
 pub mod MarkLaws
+pub mod Spreads
 pub mod Cuts
 pub mod Leaves

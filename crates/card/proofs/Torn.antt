@@ -150,7 +150,7 @@ kept-all [] = refl
 kept-all (e ∷ es) = ap (λ (l : List Entry). e ∷ l) (kept-all es)
 
 -- of each write this byte is kept if the write is: the kept writes are laid over
-pub newest-kept : (ns : List ℕ) (i a j : ℕ) (ms : List ℕ) (q : List Entry) (d : Disk) → ((k : ℕ) → k < length q → eqb (getD (marksAt ns (i + k)) j 0) 1 ≡ eqb (getD ms k 0) 1)
+newest-kept : (ns : List ℕ) (i a j : ℕ) (ms : List ℕ) (q : List Entry) (d : Disk) → ((k : ℕ) → k < length q → eqb (getD (marksAt ns (i + k)) j 0) 1 ≡ eqb (getD ms k 0) 1)
     → newestCell ns i a j q (getD (d a) j 0) ≡ getD (overlay (kept ms q) d a) j 0
 unfolding newestCell kept overlay lay
 newest-kept ns i a j [] [] d h = refl

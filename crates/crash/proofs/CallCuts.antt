@@ -13,7 +13,8 @@ use Rattle.card.specs.Marks.{marksFit, keptAt, allKept}
 use Rattle.card.proofs.All.{All, all-append, all-take}
 use Rattle.card.proofs.Runs.{Whole}
 use Rattle.card.proofs.Leaves.{Leaves, cut-leaves, settle-leaves}
-use Rattle.card.proofs.MarkLaws.{all-kept-at, ones, ones-fit, ones-kept}
+use Rattle.card.proofs.MarkLaws.{all-kept-at}
+use Rattle.card.proofs.Spreads.{ones, ones-fit, ones-kept}
 use Rattle.journal.specs.Geometry.{Geometry}
 use Rattle.journal.specs.Layout.{firstData, isData}
 use Rattle.journal.specs.Header.{emptyHeader}

@@ -10,7 +10,7 @@ use Rattle.cells.specs.Cell.Laws.{getD-cell}
 use Rattle.cells.specs.Upto.{upTo}
 use Rattle.cells.specs.Upto.Laws.{length-upTo, getD-upTo}
 use Rattle.card.specs.Marks.{spread}
-use Rattle.card.proofs.MarkLaws.{length-spread, spread-mark}
+use Rattle.card.proofs.Spreads.{length-spread, spread-mark}
 use Rattle.powercut.specs.Sets.{setCount, mark, marks}
 use Rattle.powercut.specs.Tears.{tornMark, tornMarks}
 use Rattle.powercut.specs.Tries.{tryMark, tryMarks}

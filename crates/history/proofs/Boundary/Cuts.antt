@@ -17,7 +17,7 @@ use Rattle.card.specs.Marks.{marksFit, overOne, spread}
 use Rattle.card.specs.Torn.{newestByte, wholeCut}
 use Rattle.card.proofs.All.{All, all-upTo}
 use Rattle.card.proofs.Runs.{Whole, below-queue}
-use Rattle.card.proofs.MarkLaws.{spread-fits}
+use Rattle.card.proofs.Spreads.{spread-fits}
 use Rattle.card.proofs.Cuts.{cut-flat, spread-cut}
 use Rattle.journal.specs.Geometry.{Geometry}
 use Rattle.store.specs.Request as Request

@@ -19,10 +19,11 @@ use Rattle.crash.specs.Laid.{Laid}
 use Rattle.card.specs.Card.{Card, queue, cut, settle, torn, blockAt, blocksIn}
 use Rattle.card.specs.Marks.{marksAt, keptAt, marksFor, wholeAt, marksFit, marksOf}
 use Rattle.card.proofs.Torn.{length-torn, getD-torn}
-use Rattle.card.proofs.All.{All, all-take}
+use Rattle.card.proofs.All.{All}
 use Rattle.card.proofs.Runs.{Whole, settle-other, settle-overlay}
-use Rattle.card.proofs.MarkLaws.{fits-last, marksOf-fit, marksOf-kept}
-use Rattle.card.proofs.Cuts.{cut-one, torn-kept, chosen, cut-chosen}
+use Rattle.card.proofs.MarkLaws.{fits-last}
+use Rattle.card.proofs.Spreads.{marksOf-for, marksOf-whole, marksOf-kept, marksOf-lost}
+use Rattle.card.proofs.Cuts.{cut-one, torn-kept, torn-lost}
 use Rattle.card.proofs.Leaves.{Leaves}
 use Rattle.journal.specs.Geometry.{trap}
 use Rattle.journal.specs.Layout.{descriptorAt}
@@ -63,14 +64,6 @@ describe-beyond old n es i h l k =
 pub no-number : num (replicate 4 0) ≡ 0
 no-number = rw (num-cons, num-cons, num-cons, num-cons, num-nil)
 
--- the chosen writes laid over the blocks
-cut-laid : (c r : Card) (s : List ℕ) (q : List Entry) (p : ℕ) (ks : List Bool) (a : ℕ) → Left c r s q p → a < blocksIn s → All Whole q
-    → blockAt (cut (marksOf ks) r .settled) a ≡ overlay (chosen ks q) (blockAt s) a
-cut-laid c r s q p ks a l h w =
-    cut-chosen ks r a (rw (l .settled) h) (rw (l .waits) w)
-    ∙ ap (λ (x : List Entry). overlay (chosen ks x) (blockAt (r .settled)) a) (l .waits)
-    ∙ ap (λ (x : List ℕ). overlay (chosen ks q) (blockAt x) a) (l .settled)
-
 -- after a first append of one entry the descriptor has 0 in its second place
 pub second-zero : {N : ℕ} {s : List ℕ} {h : ℕ} {e : Entry} {v : List Entry} {S : Laid} → Appends trap N s 0 h (e ∷ []) v S
     → cell 4 (blockAt (settle (appendWrites trap N s 0 h (S .groups + 1) (e ∷ [])) s) descriptorAt) 1 ≡ replicate 4 0
@@ -81,24 +74,7 @@ second-zero {N} {s} {h} {e} {v} {S} x =
     ap (λ (b : List ℕ). cell 4 b 1) now
     ∙ describe-beyond (blockAt s descriptorAt) 0 (e ∷ []) 1 (omega arith) (omega arith) (omega arith)
 
--- a second one, whose descriptor alone is lost: the new block is found under the address that stood there
-pub lost-found : {N : ℕ} {s : List ℕ} {h : ℕ} {e : Entry} {v : List Entry} {S : Laid} → Appends trap N s 1 h (e ∷ []) v S
-    → (c r : Card) → Left c r s (take 3 (appendWrites trap N s 1 h (S .groups + 1) (e ∷ []))) 0
-    → foundIn trap (cut cut101 r .settled) ≡ slotE trap (blockAt s) 0 ∷ record { address = num (cell 4 (blockAt s descriptorAt) 1); block = e .block } ∷ []
-unfolding overlay lay slotBlocks slotE trap
-lost-found {N} {s} {h} {e} {v} {S} x c r f =
-    let ks : List Bool = true ∷ false ∷ true ∷ [] in
-    let three : 3 ≡ length (take 3 (appendWrites trap N s 1 h (S .groups + 1) (e ∷ []))) = refl in
-    let laid : (a : ℕ) → a < N → blockAt (cut cut101 r .settled) a ≡ overlay (chosen ks (appendWrites trap N s 1 h (S .groups + 1) (e ∷ []))) (blockAt s) a =
-    λ a l. cut-laid c r s (take 3 (appendWrites trap N s 1 h (S .groups + 1) (e ∷ []))) 0 ks a f (omega (arith, x .behind .size)) (all-take Whole 3 (appendWrites trap N s 1 h (S .groups + 1) (e ∷ [])) (writes-whole trap N s 1 h (S .groups + 1) (e ∷ []) (x .blocks))) in
-    found-log trap x (cut cut101 r .settled) cut101
-    (left-leaves c r s (take 3 (appendWrites trap N s 1 h (S .groups + 1) (e ∷ []))) 0 N cut101 f (omega (arith, x .behind .big)) (x .behind .size) (marksOf-fit ks (take 3 (appendWrites trap N s 1 h (S .groups + 1) (e ∷ []))) three) (all-take Whole 3 (appendWrites trap N s 1 h (S .groups + 1) (e ∷ [])) (writes-whole trap N s 1 h (S .groups + 1) (e ∷ []) (x .blocks))))
-    (marksOf-kept ks 2 (lib.Dec.lit< tt))
-    ∙ ap₂ (λ (a b : Entry). a ∷ b ∷ [])
-    (entry-eq (ap (λ (b : List ℕ). num (cell 4 b 0)) (laid 1 (omega (arith, x .behind .big)))) (laid 2 (omega (arith, x .behind .big))))
-    (entry-eq (ap (λ (b : List ℕ). num (cell 4 b 1)) (laid 1 (omega (arith, x .behind .big)))) (laid 3 (omega (arith, x .behind .big))))
-
--- ---- a torn log block
+-- ---- a second append, by what a cut leaves of it
 
 -- after a first append of one entry the second slot is as it was
 pub second-slot : {N : ℕ} {s : List ℕ} {h : ℕ} {e : Entry} {v : List Entry} {S : Laid} → Appends trap N s 0 h (e ∷ []) v S
@@ -148,6 +124,18 @@ described-whole : {N : ℕ} {s : List ℕ} {h : ℕ} {e : Entry} {v : List Entry
 unfolding slotBlocks trap
 described-whole {N} {s} {h} {e} {v} {S} x =
     (writes-whole trap N s 1 h (S .groups + 1) (e ∷ []) (x .blocks) .1 .0, length-blockAt s 1 (omega (arith, x .behind .size, x .behind .big)))
+
+-- whose descriptor alone is lost: the new block is found under the address that stood there
+pub lost-found : {N : ℕ} {s : List ℕ} {h : ℕ} {e : Entry} {v : List Entry} {S : Laid} → Appends trap N s 1 h (e ∷ []) v S
+    → (c r : Card) → Left c r s (take 3 (appendWrites trap N s 1 h (S .groups + 1) (e ∷ []))) 0
+    → foundIn trap (cut cut101 r .settled) ≡ slotE trap (blockAt s) 0 ∷ record { address = num (cell 4 (blockAt s descriptorAt) 1); block = e .block } ∷ []
+unfolding slotE trap
+lost-found {N} {s} {h} {e} {v} {S} x c r f =
+    let ks : List Bool = true ∷ false ∷ true ∷ [] in
+    let size = described-whole x in
+    torn-found cut101 x c r f (marksOf-for ks) (marksOf-whole ks 2 (lib.Dec.lit< tt)) (marksOf-kept ks 2 (lib.Dec.lit< tt)) (blockAt s 1) (e .block)
+    (torn-lost cut101 1 (descriptorEntry s 1 (e ∷ []) 0 .block) (blockAt s 1) (marksOf-lost ks 1 (lib.Dec.lit< tt)) (size .0) (size .1))
+    (torn-kept cut101 0 (e .block) (blockAt s 3) (marksOf-kept ks 0 (lib.Dec.lit< tt)) (x .blocks .0) (length-blockAt s 3 (omega (arith, x .behind .size, x .behind .big))))
 
 -- of whose log block the first half is kept: that half is found in its slot, before the half that stood there
 pub halved-found : {N : ℕ} {s : List ℕ} {h : ℕ} {e : Entry} {v : List Entry} {S : Laid} → Appends trap N s 1 h (e ∷ []) v S

@@ -8,7 +8,7 @@ use lib.ListN.{length}
 use Rattle.cells.specs.Entry.{blockBytes, Entry}
 use Rattle.crash.specs.Laid.{Laid, layOver}
 use Rattle.card.specs.Marks.{keptAt, marksFor, marksOf}
-use Rattle.card.proofs.MarkLaws.{marksOf-for, marksOf-whole, marksOf-kept}
+use Rattle.card.proofs.Spreads.{marksOf-for, marksOf-whole, marksOf-kept}
 use Rattle.journal.specs.Geometry.{trap}
 use Rattle.journal.specs.Header.{mostSave}
 use Rattle.history.specs.Call.{Call, power, put, commit, sync, recover, cut}

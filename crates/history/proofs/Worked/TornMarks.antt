@@ -11,7 +11,8 @@ use Rattle.cells.specs.Same.Laws.{same-self}
 use Rattle.cells.specs.Entry.{blockBytes}
 use Rattle.card.specs.Card.{torn}
 use Rattle.card.specs.Marks.{marksAt, keptAt, lostAt, allKept, overOne, marksFor, wholeAt, marksOf}
-use Rattle.card.proofs.MarkLaws.{front-at, behind-at, behind-for, kept-append, marksOf-for, marksOf-kept}
+use Rattle.card.proofs.MarkLaws.{front-at, behind-at, behind-for, kept-append}
+use Rattle.card.proofs.Spreads.{marksOf-for, marksOf-kept}
 use Rattle.history.specs.Worked.{half, cutHalf, fifth, cutFifth, cutHeader, nines}
 
 -- ---- a write that is kept
