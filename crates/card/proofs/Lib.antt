@@ -6,5 +6,6 @@ pub mod Peaks
 pub mod Torn
 pub mod MarkLaws
 pub mod Spreads
+pub mod Mixtures
 pub mod Cuts
 pub mod Leaves

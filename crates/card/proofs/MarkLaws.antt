@@ -1,5 +1,5 @@
 -- The laws of the names by which marks are spoken of. Those of marks that tear nothing stand in Spreads.antt.
-use Prim.Native.Nat.{ℕ, zero, suc, _+_, _-_, _*_, _<_}
+use Prim.Native.Nat.{ℕ, zero, suc, _+_, _-_, _*_, _≤_, _<_}
 use mathlib.Core.Path.{_≡_, refl, ap, sym, _∙_}
 use mathlib.Core.Bool.{Bool, true, false, not, _&&_, _||_, false≢true}
 use mathlib.Core.Logic.{_≢_}
@@ -8,7 +8,7 @@ use native.Mathlib.Nat.{zero-add, add-zero}
 use native.Mathlib.Numerals.{add-one}
 use native.Mathlib.Omega.{arith}
 use native.Mathlib.Decide.{ℕ-discrete}
-use borrow.Author.Tests.{eqb-true, eqb-false, eq-eqb, ne-eqb}
+use borrow.Author.Tests.{eqb-true, eqb-false, eq-eqb, ne-eqb, le-ltb}
 use lib.Dec.{eqb, ltb}
 use lib.ListN.{length, getD, take, drop, replicate, length-append, length-replicate, getD-replicate}
 use lib.Seq.{ext-getD, take-at, drop-append-add}
@@ -128,6 +128,19 @@ pub lost-marks : (ms : List ℕ) (i : ℕ) → lostAt ms i ≡ true → (j : ℕ
 unfolding lostAt
 lost-marks ms i h = alike 0 (marksAt ms i) h
 
+-- and the other way round
+pub filled-at : (m : ℕ) (ms : List ℕ) (i : ℕ) → blockBytes * i + blockBytes ≤ length ms → ((j : ℕ) → j < blockBytes → getD (marksAt ms i) j 0 ≡ m)
+    → same (marksAt ms i) (replicate blockBytes m) ≡ true
+filled-at m ms i room one = ap (λ (l : List ℕ). same l (replicate blockBytes m)) equal ∙ same-self (replicate blockBytes m)
+  where
+    long : length (marksAt ms i) ≡ blockBytes
+    long = length-cell blockBytes ms i room
+
+    equal : marksAt ms i ≡ replicate blockBytes m
+    equal =
+        ext-getD 0 (marksAt ms i) (replicate blockBytes m) (long ∙ sym (length-replicate {A = ℕ} blockBytes m))
+        (λ j l. let b : j < blockBytes = rw long at l in one j b ∙ sym (getD-replicate blockBytes j m 0 b))
+
 -- every mark is 1
 all-ones : (ms : List ℕ) → allKept ms ≡ true → All (λ m. m ≡ 1) ms
 unfolding allKept
@@ -143,11 +156,7 @@ pub all-kept-at : (ms : List ℕ) (q : List Entry) (i : ℕ) → marksFit ms q �
 unfolding keptAt
 all-kept-at ms q i f l h =
     let size : length ms ≡ blockBytes * length q = fits-length ms q f in
-    let long : length (marksAt ms i) ≡ blockBytes = length-cell blockBytes ms i (omega arith) in
-    let ones : marksAt ms i ≡ replicate blockBytes 1 =
-    ext-getD 0 (marksAt ms i) (replicate blockBytes 1) (long ∙ sym (length-replicate {A = ℕ} blockBytes 1))
-    (λ j k. let b : j < blockBytes = omega arith in all-marks ms q i j f h l b ∙ sym (getD-replicate blockBytes j 1 0 b)) in
-    rw ones (same-self (replicate blockBytes 1))
+    filled-at 1 ms i (omega arith) (λ j k. all-marks ms q i j f h l k)
 
 -- ---- marks in front of others
 
@@ -167,6 +176,13 @@ over-append (m ∷ a) b = rw (over-append a b) (go (ltb 1 m))
     go : (t : Bool) → t || (overOne a || overOne b) ≡ (t || overOne a) || overOne b
     go true = refl
     go false = refl
+
+pub over-upTo : (f : ℕ → ℕ) (n : ℕ) → ((x : ℕ) → f x ≤ 1) → overOne (upTo f n) ≡ false
+unfolding overOne
+over-upTo f zero h = refl
+over-upTo f (suc n) h =
+    let low : ltb 1 (f n) ≡ false = le-ltb 1 (f n) (h n) in
+    over-append (upTo f n) (f n ∷ []) ∙ rw (over-upTo f n h, low)
 
 pub behind-for : (m ms : List ℕ) (k : ℕ) → length m ≡ blockBytes → overOne m ≡ false → marksFor (m ++ ms) (suc k) ≡ marksFor ms k
 unfolding marksFor

@@ -1,5 +1,6 @@
--- What a cut leaves, said in two other ways: byte by byte; and, for marks that tear nothing, as document 01 has it.
-use Prim.Native.Nat.{ℕ, suc, _+_, _*_}
+-- What a cut leaves, said in three other ways: byte by byte, by the marks and by the writes; and, for marks that tear nothing, as document 01
+-- has it.
+use Prim.Native.Nat.{ℕ, zero, suc, _+_, _*_}
 use mathlib.Core.Bool.{cond, _&&_}
 use mathlib.Core.List.{List, [], _∷_}
 use lib.Dec.{eqb}
@@ -12,6 +13,12 @@ use Rattle.card.specs.Card.{Card, queue, settle}
 unfoldable pub newestByte : List ℕ → ℕ → ℕ → ℕ → List Entry → ℕ → ℕ
 newestByte ms i a j [] x = x
 newestByte ms i a j (e ∷ q) x = newestByte ms (suc i) a j q (cond (eqb a (e .address) && eqb (getD ms (blockBytes * i + j) 0) 1) (getD (e .block) j 0) x)
+
+-- byte j of block a as the write at place i of the queue has it, x if no write to that block waits there
+unfoldable pub byteOf : ℕ → ℕ → ℕ → List Entry → ℕ → ℕ
+byteOf i a j [] x = x
+byteOf zero a j (e ∷ q) x = cond (eqb a (e .address)) (getD (e .block) j 0) x
+byteOf (suc i) a j (e ∷ q) x = byteOf i a j q x
 
 -- document 01: "one mark for each waiting write, 1 kept or 0 lost": the writes that are kept
 unfoldable pub kept : List ℕ → List Entry → List Entry

@@ -1,4 +1,4 @@
--- The cut, of any state whatever: byte by byte; and with equal marks, as document 01 has it.
+-- The cut, of any state whatever: byte by byte; with equal marks, as document 01 has it; and that the marks reach all that a card may leave.
 use Prim.Native.Nat.{ℕ, _<_}
 use mathlib.Core.Path.{_≡_}
 use mathlib.Core.Bool.{false, not, _&&_}
@@ -7,8 +7,8 @@ use lib.Dec.{eqb}
 use lib.ListN.{length, getD}
 use Rattle.cells.specs.Entry.{blockBytes}
 use Rattle.card.specs.Card.{queue, blockAt, blocksIn}
-use Rattle.card.specs.Marks.{overOne, spread}
-use Rattle.card.specs.Torn.{newestByte, wholeCut}
+use Rattle.card.specs.Marks.{overOne, wholeBlock, spread}
+use Rattle.card.specs.Torn.{newestByte, byteOf, wholeCut}
 use Rattle.journal.specs.Geometry.{Geometry}
 use Rattle.store.specs.State.{State, Outcome, withRecord, withCard, cardIn}
 use Rattle.store.specs.Causes.{Row, ofRecord, causeBy}
@@ -37,3 +37,14 @@ module _ (geo : Geometry) where
 
   abbrev pub AllCuts : Type 0
   AllCuts = (st : State) (ms : List ℕ) → Cuts st ms
+
+  -- W-204: "each byte of another block is its settled one or that of any waiting write to that block": let byte j of block a come from the
+  -- write at place `from a j` of the queue, or stay if no write to that block waits there, and let block 0 come from one place. Where rows 1
+  -- and 2 do not refuse, there are marks with which a cut is accepted and leaves this, so no outcome of the data sheet is left out
+  abbrev pub EveryMixture : Type 0
+  EveryMixture =
+      (st : State) → causeBy geo (ofRecord false []) st ≡ 0 → (from : ℕ → ℕ → ℕ) → ((j : ℕ) → j < blockBytes → from wholeBlock j ≡ from wholeBlock 0)
+      → (ms : List ℕ)
+      × (dispatch geo (cut ms) st .answer ≡ 0)
+      × ((a j : ℕ) → a < blocksIn (st .settled) → j < blockBytes
+      → getD (blockAt (dispatch geo (cut ms) st .state .settled) a) j 0 ≡ byteOf (from a j) a j (queue (cardIn st)) (getD (blockAt (st .settled) a) j 0))

@@ -1,7 +1,7 @@
--- The cut of any state whatever. The statement stands in specs/Cuts.antt.
+-- The cut of any state whatever. The statements stand in specs/Cuts.antt.
 use Prim.Native.Nat.{ℕ, _<_}
 use mathlib.Core.Path.{_≡_, refl, ap, sym, _∙_}
-use mathlib.Core.Bool.{false, not, _&&_}
+use mathlib.Core.Bool.{true, false, not, _&&_}
 use mathlib.Core.List.{List, [], _∷_}
 use native.Mathlib.Omega.{arith}
 use native.Mathlib.Decide.{ℕ-discrete}
@@ -18,6 +18,7 @@ use Rattle.card.specs.Torn.{newestByte, wholeCut}
 use Rattle.card.proofs.All.{All, all-upTo}
 use Rattle.card.proofs.Runs.{Whole, below-queue}
 use Rattle.card.proofs.Spreads.{spread-fits}
+use Rattle.card.proofs.Mixtures.{marksFrom, marks-from, marks-from-fit}
 use Rattle.card.proofs.Cuts.{cut-flat, spread-cut}
 use Rattle.journal.specs.Geometry.{Geometry}
 use Rattle.store.specs.Request as Request
@@ -28,7 +29,7 @@ use Rattle.store.specs.Cut.{shut}
 use Rattle.store.proofs.Causes.{Checked, passes-sound}
 use Rattle.history.specs.Call.{cut}
 use Rattle.history.specs.Dispatch.{called, dispatch}
-use Rattle.history.specs.Cuts.{wholeMarksRow, wholeCutCall, AllCuts}
+use Rattle.history.specs.Cuts.{wholeMarksRow, wholeCutCall, AllCuts, EveryMixture}
 use Rattle.history.proofs.Relation.Forms.{called-refused}
 use Rattle.history.proofs.Steps.Cut.{cut-served}
 
@@ -84,3 +85,18 @@ module _ (geo : Geometry) where
 
   pub all-cuts : AllCuts geo
   all-cuts st ms = record { bytes = bytes st ms; whole = whole st ms }
+
+  -- ---- every mixture
+
+  -- rows 1 and 2 do not refuse, and the marks fit
+  fit-cause : (st : State) (ms : List ℕ) → causeBy geo (ofRecord false []) st ≡ 0 → marksFit ms (queue (cardIn st)) ≡ true → cause geo (Request.cut ms) st ≡ 0
+  fit-cause st ms h f = rw f h
+
+  pub every-mixture : EveryMixture geo
+  every-mixture st h from header =
+      let fits : cause geo (Request.cut ms) st ≡ 0 = fit-cause st ms h (marks-from-fit from header (queue (cardIn st))) in
+      let served : dispatch geo (cut ms) st .answer ≡ 0 = ap (λ (o : Outcome). o .answer) (cut-served geo ms st fits) in
+      (ms, served, λ a j l b. bytes st ms served a j l b ∙ marks-from from (queue (cardIn st)) a j (getD (blockAt (st .settled) a) j 0) b)
+    where
+      ms : List ℕ
+      ms = marksFrom from (queue (cardIn st))
