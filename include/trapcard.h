@@ -4,7 +4,7 @@
  * but for TRAPCARD_ERR_POWER when the power ended in the call itself: then the orders carried out have happened, open and
  * group stand, and the record is down until a cut and a recover.
  *
- * At a power loss the card may tear each block that a write waits for, but for block 0: each of its bytes is then as it was settled
+ * At a power loss the card may tear every block to which a write waits, block 0 excepted: each of its bytes is then as it was settled
  * or as in one of those writes. What is said here of a power loss holds on such a card too.
  *
  * A buffer is a pointer and a length in bytes, of any alignment. A buffer that is const here is never written. The proofs

@@ -6,6 +6,7 @@ pub mod Peaks
 pub mod Torn
 pub mod MarkLaws
 pub mod Spreads
+pub mod ByMark
 pub mod Mixtures
 pub mod Cuts
 pub mod Leaves

@@ -1,14 +1,14 @@
 -- The laws of the names by which marks are spoken of. Those of marks that tear nothing stand in Spreads.antt.
 use Prim.Native.Nat.{ℕ, zero, suc, _+_, _-_, _*_, _≤_, _<_}
 use mathlib.Core.Path.{_≡_, refl, ap, sym, _∙_}
-use mathlib.Core.Bool.{Bool, true, false, not, _&&_, _||_, false≢true}
+use mathlib.Core.Bool.{Bool, true, false, not, _&&_, _||_, false≢true, true≢false}
 use mathlib.Core.Logic.{_≢_}
 use mathlib.Core.List.{List, [], _∷_, _++_}
 use native.Mathlib.Nat.{zero-add, add-zero}
 use native.Mathlib.Numerals.{add-one}
 use native.Mathlib.Omega.{arith}
 use native.Mathlib.Decide.{ℕ-discrete}
-use borrow.Author.Tests.{eqb-true, eqb-false, eq-eqb, ne-eqb, le-ltb}
+use borrow.Author.Tests.{eqb-true, eqb-false, eq-eqb, ne-eqb, ltb-false}
 use lib.Dec.{eqb, ltb}
 use lib.ListN.{length, getD, take, drop, replicate, length-append, length-replicate, getD-replicate}
 use lib.Seq.{ext-getD, take-at, drop-append-add}
@@ -32,13 +32,13 @@ pub for-length : (ms : List ℕ) (k : ℕ) → marksFor ms k ≡ true → length
 unfolding marksFor
 for-length ms k h = eqb-true _ _ (both (eqb (length ms) (blockBytes * k)) (not (overOne ms)) h .0)
 
-pub fits-length : (ms : List ℕ) (q : List Entry) → marksFit ms q ≡ true → length ms ≡ blockBytes * length q
-unfolding marksFit
-fits-length ms q h = for-length ms (length q) (both (marksFor ms (length q)) (headersWhole ms 0 q) h .0)
-
 pub fits-headers : (ms : List ℕ) (q : List Entry) → marksFit ms q ≡ true → headersWhole ms 0 q ≡ true
 unfolding marksFit
 fits-headers ms q h = both (marksFor ms (length q)) (headersWhole ms 0 q) h .1
+
+pub fits-length : (ms : List ℕ) (q : List Entry) → marksFit ms q ≡ true → length ms ≡ blockBytes * length q
+unfolding marksFit
+fits-length ms q h = for-length ms (length q) (both (marksFor ms (length q)) (headersWhole ms 0 q) h .0)
 
 -- ---- writes to block 0
 
@@ -177,12 +177,15 @@ over-append (m ∷ a) b = rw (over-append a b) (go (ltb 1 m))
     go true = refl
     go false = refl
 
-pub over-upTo : (f : ℕ → ℕ) (n : ℕ) → ((x : ℕ) → f x ≤ 1) → overOne (upTo f n) ≡ false
+pub low-at : (ms : List ℕ) (i : ℕ) → overOne ms ≡ false → getD ms i 0 ≤ 1
 unfolding overOne
-over-upTo f zero h = refl
-over-upTo f (suc n) h =
-    let low : ltb 1 (f n) ≡ false = le-ltb 1 (f n) (h n) in
-    over-append (upTo f n) (f n ∷ []) ∙ rw (over-upTo f n h, low)
+low-at [] i h = omega arith
+low-at (m ∷ ms) i h = go i (ltb 1 m) refl h (λ k e. low-at ms k e)
+  where
+    go : (i : ℕ) (t : Bool) → ltb 1 m ≡ t → t || overOne ms ≡ false → ((k : ℕ) → overOne ms ≡ false → getD ms k 0 ≤ 1) → getD (m ∷ ms) i 0 ≤ 1
+    go i true p e more = absurd (true≢false e)
+    go zero false p e more = ltb-false 1 m p
+    go (suc i) false p e more = more i e
 
 pub behind-for : (m ms : List ℕ) (k : ℕ) → length m ≡ blockBytes → overOne m ≡ false → marksFor (m ++ ms) (suc k) ≡ marksFor ms k
 unfolding marksFor

@@ -1,25 +1,19 @@
 -- Every mixture of settled bytes and waiting writes that leaves block 0 whole is what some marks leave.
 use Prim.Native.Nat.{ℕ, zero, suc, _+_, _*_, _/_, _%_, _≤_, _<_}
 use mathlib.Core.Path.{_≡_, refl, ap, sym, _∙_}
-use mathlib.Core.Bool.{Bool, true, false, not, cond, _&&_, _||_}
+use mathlib.Core.Bool.{Bool, true, false, cond, _&&_}
 use mathlib.Core.List.{List, [], _∷_}
 use native.Mathlib.Nat.{add-zero, zero-add}
 use native.Mathlib.Omega.{arith}
-use native.Mathlib.Decide.{ℕ-discrete}
 use borrow.Author.Tests.{eqb-true, eq-eqb, ne-eqb}
 use lib.Dec.{eqb}
 use lib.ListN.{length, getD}
-use Rattle.cells.specs.Cell.Laws.{getD-cell}
 use Rattle.cells.specs.Upto.{upTo}
 use Rattle.cells.specs.Upto.Laws.{length-upTo, getD-upTo}
 use Rattle.cells.specs.Entry.{blockBytes, Entry}
-use Rattle.card.specs.Marks.{marksAt, keptAt, lostAt, wholeAt, wholeBlock, headersWhole, marksFor, marksFit}
-use Rattle.card.specs.Torn.{newestByte, byteOf}
-use Rattle.card.proofs.MarkLaws.{filled-at, over-upTo}
-
--- the address of the write at a place
-abbrev addressAt : List Entry → ℕ → ℕ
-addressAt q i = getD q i (record { address = 0; block = [] }) .address
+use Rattle.card.specs.Marks.{wholeBlock, marksFit}
+use Rattle.card.specs.Torn.{addressAt, newestByte, byteOf}
+use Rattle.card.proofs.ByMark.{right-fit}
 
 -- byte j of block a comes from the write at place `from a j`
 module _ (from : ℕ → ℕ → ℕ) where
@@ -27,8 +21,12 @@ module _ (from : ℕ → ℕ → ℕ) where
   chosen : ℕ → ℕ → ℕ → ℕ
   chosen a i j = cond (eqb (from a j) i) 1 0
 
+  -- of all writes, in a row
+  abbrev marking : List Entry → ℕ → ℕ
+  marking q x = chosen (addressAt q (x / blockBytes)) (x / blockBytes) (x % blockBytes)
+
   pub marksFrom : List Entry → List ℕ
-  marksFrom q = upTo (λ x. chosen (addressAt q (x / blockBytes)) (x / blockBytes) (x % blockBytes)) (blockBytes * length q)
+  marksFrom q = upTo (marking q) (blockBytes * length q)
 
   -- the marks, from place i on, of the writes q
   abbrev Chosen : List ℕ → ℕ → List Entry → Type 0
@@ -40,7 +38,7 @@ module _ (from : ℕ → ℕ → ℕ) where
       let inside : blockBytes * (0 + k) + j < blockBytes * length q = omega arith in
       let place : (blockBytes * (0 + k) + j) / blockBytes ≡ k = omega arith in
       let byte : (blockBytes * (0 + k) + j) % blockBytes ≡ j = omega arith in
-      getD-upTo (λ x. chosen (addressAt q (x / blockBytes)) (x / blockBytes) (x % blockBytes)) (blockBytes * length q) (blockBytes * (0 + k) + j) 0 inside
+      getD-upTo (marking q) (blockBytes * length q) (blockBytes * (0 + k) + j) 0 inside
       ∙ rw (place, byte, zero-add k)
 
   front : (ms : List ℕ) (i : ℕ) (e : Entry) (q : List Entry) → Chosen ms i (e ∷ q) → (j : ℕ) → j < blockBytes → getD ms (blockBytes * i + j) 0 ≡ chosen (e .address) i j
@@ -100,38 +98,20 @@ module _ (from : ℕ → ℕ → ℕ) where
 
   -- ---- and a cut accepts them, if all bytes of block 0 come from one place
 
-  module _ (whole : (j : ℕ) → j < blockBytes → from wholeBlock j ≡ from wholeBlock 0) where
-    header : (ms : List ℕ) (i : ℕ) → blockBytes * i + blockBytes ≤ length ms → ((j : ℕ) → j < blockBytes → getD ms (blockBytes * i + j) 0 ≡ chosen wholeBlock i j) → wholeAt ms i ≡ true
-    unfolding wholeAt keptAt lostAt chosen
-    header ms i room h = go (eqb (from wholeBlock 0) i) (λ j b. getD-cell blockBytes ms i j b ∙ h j b ∙ ap (λ (p : ℕ). cond (eqb p i) 1 0) (whole j b))
-      where
-        last : (t : Bool) → t || true ≡ true
-        last true = refl
-        last false = refl
+  pub marks-from-fit : ((j : ℕ) → j < blockBytes → from wholeBlock j ≡ from wholeBlock 0) → (q : List Entry) → marksFit (marksFrom q) q ≡ true
+  unfolding marksFrom chosen
+  marks-from-fit header q = right-fit (marksFrom q) q (record {
+    number = size;
+    low = λ x l. let inside : x < blockBytes * length q = rw size at l in rw (getD-upTo (marking q) (blockBytes * length q) x 0 inside) (bit (eqb (from (addressAt q (x / blockBytes)) (x % blockBytes)) (x / blockBytes)));
+    alike = λ i j l z b. at i j l z b ∙ ap (λ (p : ℕ). cond (eqb p i) 1 0) (header j b) ∙ sym (at i 0 l z (omega arith)) ∙ ap (λ (x : ℕ). getD (marksFrom q) x 0) (add-zero (blockBytes * i));
+  })
+    where
+      size : length (marksFrom q) ≡ blockBytes * length q
+      size = length-upTo (marking q) (blockBytes * length q)
 
-        go : (t : Bool) → ((j : ℕ) → j < blockBytes → getD (marksAt ms i) j 0 ≡ cond t 1 0) → keptAt ms i || lostAt ms i ≡ true
-        go true alike = rw (filled-at 1 ms i room alike)
-        go false alike = rw (filled-at 0 ms i room alike) (last (keptAt ms i))
+      bit : (t : Bool) → cond t 1 0 ≤ 1
+      bit true = omega arith
+      bit false = omega arith
 
-    headers : (ms : List ℕ) (i : ℕ) (q : List Entry) → Chosen ms i q → blockBytes * (i + length q) ≤ length ms → headersWhole ms i q ≡ true
-    unfolding headersWhole
-    headers ms i [] h room = refl
-    headers ms i (e ∷ q) h room = rw (headers ms (suc i) q (behind ms i e q h) (omega arith)) (go (ℕ-discrete (e .address) wholeBlock))
-      where
-        go : Dec (e .address ≡ wholeBlock) → (not (eqb (e .address) wholeBlock) || wholeAt ms i) && true ≡ true
-        go (no z) = rw (ne-eqb _ _ z)
-        go (yes z) = rw (eq-eqb _ _ z, header ms i (omega arith) (λ j b. front ms i e q h j b ∙ ap (λ (a : ℕ). chosen a i j) z))
-
-    pub marks-from-fit : (q : List Entry) → marksFit (marksFrom q) q ≡ true
-    unfolding marksFit marksFor marksFrom chosen
-    marks-from-fit q =
-        let size : length (marksFrom q) ≡ blockBytes * length q = length-upTo _ (blockBytes * length q) in
-        rw (
-          eq-eqb _ _ size,
-          over-upTo _ (blockBytes * length q) (λ x. low (eqb (from (addressAt q (x / blockBytes)) (x % blockBytes)) (x / blockBytes))),
-          headers (marksFrom q) 0 q (marks-chosen q) (omega arith),
-        )
-      where
-        low : (t : Bool) → cond t 1 0 ≤ 1
-        low true = omega arith
-        low false = omega arith
+      at : (i j : ℕ) → i < length q → addressAt q i ≡ 0 → j < blockBytes → getD (marksFrom q) (blockBytes * i + j) 0 ≡ chosen wholeBlock i j
+      at i j l z b = (rw (zero-add i) at (marks-chosen q i j l b)) ∙ ap (λ (a : ℕ). chosen a i j) z

@@ -7,7 +7,7 @@ use mathlib.Core.List.{List, [], _∷_, map}
 use native.Mathlib.Nat.{zero-add}
 use native.Mathlib.Omega.{arith}
 use native.Mathlib.Decide.{decLt}
-use borrow.Author.Tests.{eqb-true, eqb-false, ltb-false, eq-eqb, ne-eqb}
+use borrow.Author.Tests.{eqb-true, eqb-false, eq-eqb, ne-eqb}
 use lib.Dec.{eqb, ltb}
 use lib.ListN.{length, getD, take, drop, replicate, length-append, length-map, length-replicate, getD-replicate, drop-of-length-le, List·getD-eq-default}
 use lib.Seq.{take-nil}
@@ -17,7 +17,7 @@ use Rattle.cells.specs.Same.{same}
 use Rattle.cells.specs.Same.Laws.{same-equal, same-self}
 use Rattle.cells.specs.Entry.{blockBytes, Entry}
 use Rattle.card.specs.Marks.{marksAt, keptAt, lostAt, allKept, overOne, marksFor, wholeAt, wholeBlock, headersWhole, marksFit, spread, marksOf}
-use Rattle.card.proofs.MarkLaws.{front-at, behind-at, over-append, kept-append}
+use Rattle.card.proofs.MarkLaws.{front-at, behind-at, over-append, low-at, kept-append}
 
 pub length-spread : (ms : List ℕ) → length (spread ms) ≡ blockBytes * length ms
 unfolding spread
@@ -124,16 +124,6 @@ headers-alike ms i (e ∷ q) h =
     go : (t : Bool) → (t || true) && true ≡ true
     go true = refl
     go false = refl
-
-low-at : (ms : List ℕ) (i : ℕ) → overOne ms ≡ false → getD ms i 0 ≤ 1
-unfolding overOne
-low-at [] i h = omega arith
-low-at (m ∷ ms) i h = go i (ltb 1 m) refl h (λ k e. low-at ms k e)
-  where
-    go : (i : ℕ) (t : Bool) → ltb 1 m ≡ t → t || overOne ms ≡ false → ((k : ℕ) → overOne ms ≡ false → getD ms k 0 ≤ 1) → getD (m ∷ ms) i 0 ≤ 1
-    go i true p e more = absurd (true≢false e)
-    go zero false p e more = ltb-false 1 m p
-    go (suc i) false p e more = more i e
 
 -- document 01's row 10: "marks not as many as waiting, or a mark over 1"
 pub spread-for : (ms : List ℕ) (k : ℕ) → marksFor (spread ms) k ≡ eqb (length ms) k && not (overOne ms)

@@ -1,6 +1,6 @@
 -- The marks of a cut. W-204: "A cut now takes, for each waiting write, 512 marks instead of one": the oldest write's first, and of each
 -- write one for each byte, "1 kept or 0 lost". Outside this crate a mark is spoken of by these names, and written out only where it comes from
--- outside.
+-- outside, in the worked scripts and in `powercut`.
 use Prim.Native.Nat.{ℕ, suc, _*_}
 use mathlib.Core.Bool.{Bool, true, false, cond, not, _&&_, _||_}
 use mathlib.Core.List.{List, [], _∷_, _++_, map}

@@ -1,6 +1,8 @@
--- The cut, of any state whatever: byte by byte; with equal marks, as document 01 has it; and that the marks reach all that a card may leave.
+-- The cut, of any state whatever: which marks it takes, mark by mark; what it leaves, byte by byte; that with equal marks it is document
+-- 01's; and that the marks reach all that a card may leave.
 use Prim.Native.Nat.{ℕ, _<_}
 use mathlib.Core.Path.{_≡_}
+use mathlib.Core.Logic.{_⊎_}
 use mathlib.Core.Bool.{false, not, _&&_}
 use mathlib.Core.List.{List, [], _∷_}
 use lib.Dec.{eqb}
@@ -8,7 +10,7 @@ use lib.ListN.{length, getD}
 use Rattle.cells.specs.Entry.{blockBytes}
 use Rattle.card.specs.Card.{queue, blockAt, blocksIn}
 use Rattle.card.specs.Marks.{overOne, wholeBlock, spread}
-use Rattle.card.specs.Torn.{newestByte, byteOf, wholeCut}
+use Rattle.card.specs.Torn.{RightMarks, newestByte, byteOf, wholeCut}
 use Rattle.journal.specs.Geometry.{Geometry}
 use Rattle.store.specs.State.{State, Outcome, withRecord, withCard, cardIn}
 use Rattle.store.specs.Causes.{Row, ofRecord, causeBy}
@@ -28,9 +30,12 @@ module _ (geo : Geometry) where
       unless (causeBy geo (ofRecord false (wholeMarksRow ms ∷ [])) st) st
       (completed (withCard (wholeCut ms (cardIn st)) (withRecord (shut (st .rec)) st)))
 
-  -- W-204: an accepted cut leaves of each byte that of the newest waiting write to its block whose mark for it is 1, else the settled one;
-  -- and "The script's single mark stands for 512 equal ones": so marked, a cut is document 01's, refusals included
+  -- W-204: where rows 1 and 2 do not refuse, the marks are right and the cut is accepted, or they are not and "the cut is refused as 10". An
+  -- accepted cut leaves of each byte that of the newest waiting write to its block whose mark for it is 1, else the settled one. And "The
+  -- script's single mark stands for 512 equal ones": so marked, a cut is document 01's, refusals included
   pub record Cuts (st : State) (ms : List ℕ) : Type 0 where
+    pub row : causeBy geo (ofRecord false []) st ≡ 0
+        → (RightMarks ms (queue (cardIn st)) × (dispatch geo (cut ms) st .answer ≡ 0)) ⊎ ((RightMarks ms (queue (cardIn st)) → ⊥) × (dispatch geo (cut ms) st .answer ≡ 10))
     pub bytes : dispatch geo (cut ms) st .answer ≡ 0 → (a j : ℕ) → a < blocksIn (st .settled) → j < blockBytes
         → getD (blockAt (dispatch geo (cut ms) st .state .settled) a) j 0 ≡ newestByte ms 0 a j (queue (cardIn st)) (getD (blockAt (st .settled) a) j 0)
     pub whole : dispatch geo (cut (spread ms)) st ≡ wholeCutCall ms st

@@ -1,6 +1,6 @@
 -- "Around it", document 01's two worked scripts on a card of 64 blocks, as lists of calls: "format / put 40 7 / commit / sync / put 40 9 /
 -- commit / power 3 / sync / cut 101 / power 100 / recover / get 40", and the same with cut 111. W-204: and the same with cuts that tear the log
--- block, or the descriptor.
+-- block, the descriptor, or the header, which is refused.
 use Prim.Native.Nat.{ℕ}
 use mathlib.Core.Path.{_≡_}
 use mathlib.Core.Bool.{Bool, true, false}
@@ -114,5 +114,5 @@ pub record Worked : Type 0 where
   pub harmless : (st : State) → formatCall trap st .answer ≡ 0 → blocksIn (st .settled) ≡ 64 → Script st cutFifth true true false 0 2 nines
   pub header : (st : State) → formatCall trap st .answer ≡ 0 → blocksIn (st .settled) ≡ 64
       → dispatch trap (cut cutHeader) (metByCut st .store) ≡ record { answer = 10; orders = 0; state = metByCut st .store }
-  pub digits : (marks (cutLine (49 ∷ 48 ∷ 49 ∷ [])) ≡ cut101) × (marks (cutLine (49 ∷ 49 ∷ 49 ∷ [])) ≡ cut111) × (marks (cutLine (49 ∷ 49 ∷ 48 ∷ [])) ≡ marksOf (true ∷ true ∷ false ∷ []))
+  pub digits : (marks (cutLine (49 ∷ 48 ∷ 49 ∷ [])) ≡ cut101) × (marks (cutLine (49 ∷ 49 ∷ 49 ∷ [])) ≡ cut111) × (marks (cutLine (49 ∷ 49 ∷ 48 ∷ [])) ≡ replicate blockBytes 1 ++ (replicate blockBytes 1 ++ replicate blockBytes 0))
   pub card : (st : State) × (formatCall trap st .answer ≡ 0) × (blocksIn (st .settled) ≡ 64)

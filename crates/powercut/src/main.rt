@@ -1,4 +1,4 @@
-// The map of power cuts: a save of three blocks, lost at every order, with every set of kept writes and with writes torn.
+// The map of power cuts: a save of three blocks, lost at every order, with the sets of kept writes of `sets` and the tears of `tears`.
 //
 // The card has 64 blocks. `append` saves behind a log of one save, in 6 orders; `apply` behind a log of ten, 30 entries, which has no
 // room, so that the save applies it first, in 39. A line is the scenario, the power of the save, and a character for each try of the

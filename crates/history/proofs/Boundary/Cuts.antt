@@ -1,7 +1,8 @@
 -- The cut of any state whatever. The statements stand in specs/Cuts.antt.
 use Prim.Native.Nat.{ℕ, _<_}
 use mathlib.Core.Path.{_≡_, refl, ap, sym, _∙_}
-use mathlib.Core.Bool.{true, false, not, _&&_}
+use mathlib.Core.Logic.{_⊎_}
+use mathlib.Core.Bool.{Bool, true, false, cond, not, _&&_, _||_, true≢false}
 use mathlib.Core.List.{List, [], _∷_}
 use native.Mathlib.Omega.{arith}
 use native.Mathlib.Decide.{ℕ-discrete}
@@ -14,16 +15,17 @@ use Rattle.cells.specs.Entry.Laws.{length-block}
 use Rattle.card.specs.Card as Card
 use Rattle.card.specs.Card.{Card, queue, blockAt, blocksIn}
 use Rattle.card.specs.Marks.{marksFit, overOne, spread}
-use Rattle.card.specs.Torn.{newestByte, wholeCut}
+use Rattle.card.specs.Torn.{RightMarks, newestByte, wholeCut}
 use Rattle.card.proofs.All.{All, all-upTo}
 use Rattle.card.proofs.Runs.{Whole, below-queue}
 use Rattle.card.proofs.Spreads.{spread-fits}
+use Rattle.card.proofs.ByMark.{fit-right, right-fit}
 use Rattle.card.proofs.Mixtures.{marksFrom, marks-from, marks-from-fit}
 use Rattle.card.proofs.Cuts.{cut-flat, spread-cut}
 use Rattle.journal.specs.Geometry.{Geometry}
 use Rattle.store.specs.Request as Request
 use Rattle.store.specs.State.{State, Outcome, withRecord, withCard, cardIn}
-use Rattle.store.specs.Causes.{ofRecord, causeBy, cause}
+use Rattle.store.specs.Causes.{wrongSizes, wrongRecord, ofRecord, causeBy, cause}
 use Rattle.store.specs.Outcomes.{completed, unless}
 use Rattle.store.specs.Cut.{shut}
 use Rattle.store.proofs.Causes.{Checked, passes-sound}
@@ -47,6 +49,32 @@ module _ (geo : Geometry) where
 
   checked : (ms : List ℕ) (st : State) → cause geo (Request.cut ms) st ≡ 0 → Checked geo st
   checked ms st e = passes-sound geo (Request.cut ms) st 0 refl (sym e) refl
+
+  -- ---- row 10, mark by mark
+
+  -- rows 1 and 2 do not refuse, and the marks fit; or they do not
+  fit-cause : (st : State) (ms : List ℕ) → causeBy geo (ofRecord false []) st ≡ 0 → marksFit ms (queue (cardIn st)) ≡ true → cause geo (Request.cut ms) st ≡ 0
+  fit-cause st ms h f = rw f h
+
+  unfit-cause : (st : State) (ms : List ℕ) → causeBy geo (ofRecord false []) st ≡ 0 → marksFit ms (queue (cardIn st)) ≡ false → cause geo (Request.cut ms) st ≡ 10
+  unfit-cause st ms h f = rw f (go (wrongSizes geo st || false) (wrongRecord geo st) h)
+    where
+      go : (s r : Bool) → _≡_ {A = ℕ} (cond s 1 (cond r 2 0)) 0 → _≡_ {A = ℕ} (cond s 1 (cond r 2 10)) 10
+      go true r h = absurd (omega arith)
+      go false true h = absurd (omega arith)
+      go false false h = refl
+
+  row : (st : State) (ms : List ℕ) → causeBy geo (ofRecord false []) st ≡ 0
+      → (RightMarks ms (queue (cardIn st)) × (dispatch geo (cut ms) st .answer ≡ 0)) ⊎ ((RightMarks ms (queue (cardIn st)) → ⊥) × (dispatch geo (cut ms) st .answer ≡ 10))
+  row st ms h = go (marksFit ms (queue (cardIn st))) refl
+    where
+      go : (t : Bool) → marksFit ms (queue (cardIn st)) ≡ t
+          → (RightMarks ms (queue (cardIn st)) × (dispatch geo (cut ms) st .answer ≡ 0)) ⊎ ((RightMarks ms (queue (cardIn st)) → ⊥) × (dispatch geo (cut ms) st .answer ≡ 10))
+      go true f = _⊎_.inl (fit-right ms (queue (cardIn st)) f, ap (λ (o : Outcome). o .answer) (cut-served geo ms st (fit-cause st ms h f)))
+      go false f =
+          let ten : cause geo (Request.cut ms) st ≡ 10 = unfit-cause st ms h f in
+          _⊎_.inr
+          ((λ r. true≢false (sym (right-fit ms (queue (cardIn st)) r) ∙ f)), ap (λ (o : Outcome). o .answer) (called-refused geo (Request.cut ms) st (λ z. omega arith)) ∙ ten)
 
   -- ---- byte by byte
 
@@ -84,13 +112,9 @@ module _ (geo : Geometry) where
       go (no e) = rw (ne-eqb (cause geo (Request.cut (spread ms)) st) 0 e)
 
   pub all-cuts : AllCuts geo
-  all-cuts st ms = record { bytes = bytes st ms; whole = whole st ms }
+  all-cuts st ms = record { row = row st ms; bytes = bytes st ms; whole = whole st ms }
 
   -- ---- every mixture
-
-  -- rows 1 and 2 do not refuse, and the marks fit
-  fit-cause : (st : State) (ms : List ℕ) → causeBy geo (ofRecord false []) st ≡ 0 → marksFit ms (queue (cardIn st)) ≡ true → cause geo (Request.cut ms) st ≡ 0
-  fit-cause st ms h f = rw f h
 
   pub every-mixture : EveryMixture geo
   every-mixture st h from header =

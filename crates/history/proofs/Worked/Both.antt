@@ -10,7 +10,7 @@ use lib.ListN.{length}
 use Rattle.card.specs.Disk.{lay, overlay}
 use Rattle.crash.specs.Laid.{Laid, layOver}
 use Rattle.card.specs.Card.{blockAt, blocksIn}
-use Rattle.card.specs.Marks.{keptAt, allKept, marksOf}
+use Rattle.card.specs.Marks.{keptAt, allKept, marksOf, spread}
 use Rattle.card.proofs.Spreads.{marksOf-all}
 use Rattle.journal.specs.Geometry.{trap}
 use Rattle.journal.specs.Layout.{isData}
@@ -150,5 +150,5 @@ module _ (st : State) (f : formatCall trap st .answer ≡ 0) (size : blocksIn (s
   header = header-refused w₃ all-filed
 
 pub worked : Worked
-unfolding values marksOf
+unfolding values marksOf spread
 worked = record { lost = lost; whole = whole; halved = halved-script; harmless = harmless; header = header; digits = (refl, refl, refl); card = Blank.blank }
