@@ -4,8 +4,9 @@
  * but for TRAPCARD_ERR_POWER when the power ended in the call itself: then the orders carried out have happened, open and
  * group stand, and the record is down until a cut and a recover.
  *
- * At a power loss the card may tear every block to which a write waits, block 0 excepted: each of its bytes is then as it was settled
- * or as in one of those writes. What is said here of a power loss holds on such a card too.
+ * At a power loss the card may tear any block that has waiting writes, except block 0: each byte of such a block is then the settled
+ * one or that of one of those writes. Block 0 is one of them whole, or as it was settled. What is said here of a power loss holds on
+ * such a card too.
  *
  * A buffer is a pointer and a length in bytes, of any alignment. A buffer that is const here is never written. The proofs
  * assume of the caller: pointers that are not null, with true lengths, also where a length is 0; buffers that do not overlap

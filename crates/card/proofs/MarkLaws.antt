@@ -8,7 +8,7 @@ use native.Mathlib.Nat.{zero-add, add-zero}
 use native.Mathlib.Numerals.{add-one}
 use native.Mathlib.Omega.{arith}
 use native.Mathlib.Decide.{ℕ-discrete}
-use borrow.Author.Tests.{eqb-true, eqb-false, eq-eqb, ne-eqb, ltb-false}
+use borrow.Author.Tests.{eqb-true, eqb-false, eq-eqb, ne-eqb, ltb-false, le-ltb, not-true}
 use lib.Dec.{eqb, ltb}
 use lib.ListN.{length, getD, take, drop, replicate, length-append, length-replicate, getD-replicate}
 use lib.Seq.{ext-getD, take-at, drop-append-add}
@@ -20,6 +20,7 @@ use Rattle.cells.specs.Upto.{upTo}
 use Rattle.cells.specs.Upto.Laws.{length-upTo}
 use Rattle.cells.specs.Entry.{blockBytes, Entry}
 use Rattle.card.specs.Marks.{marksAt, keptAt, lostAt, allKept, overOne, marksFor, wholeAt, wholeBlock, headersWhole, marksFit}
+use Rattle.card.specs.Torn.{addressAt}
 use Rattle.card.proofs.All.{All, all-at}
 
 pub both : (a b : Bool) → a && b ≡ true → (a ≡ true) × (b ≡ true)
@@ -28,9 +29,13 @@ both false b e = absurd (false≢true e)
 
 -- ---- marks that fit
 
-pub for-length : (ms : List ℕ) (k : ℕ) → marksFor ms k ≡ true → length ms ≡ blockBytes * k
+for-length : (ms : List ℕ) (k : ℕ) → marksFor ms k ≡ true → length ms ≡ blockBytes * k
 unfolding marksFor
 for-length ms k h = eqb-true _ _ (both (eqb (length ms) (blockBytes * k)) (not (overOne ms)) h .0)
+
+for-low : (ms : List ℕ) (k : ℕ) → marksFor ms k ≡ true → overOne ms ≡ false
+unfolding marksFor
+for-low ms k h = not-true (overOne ms) (both (eqb (length ms) (blockBytes * k)) (not (overOne ms)) h .1)
 
 pub fits-headers : (ms : List ℕ) (q : List Entry) → marksFit ms q ≡ true → headersWhole ms 0 q ≡ true
 unfolding marksFit
@@ -40,9 +45,13 @@ pub fits-length : (ms : List ℕ) (q : List Entry) → marksFit ms q ≡ true �
 unfolding marksFit
 fits-length ms q h = for-length ms (length q) (both (marksFor ms (length q)) (headersWhole ms 0 q) h .0)
 
+pub fits-low : (ms : List ℕ) (q : List Entry) → marksFit ms q ≡ true → overOne ms ≡ false
+unfolding marksFit
+fits-low ms q h = for-low ms (length q) (both (marksFor ms (length q)) (headersWhole ms 0 q) h .0)
+
 -- ---- writes to block 0
 
-pub headers-append : (ms : List ℕ) (i : ℕ) (a b : List Entry) → headersWhole ms i (a ++ b) ≡ headersWhole ms i a && headersWhole ms (i + length a) b
+headers-append : (ms : List ℕ) (i : ℕ) (a b : List Entry) → headersWhole ms i (a ++ b) ≡ headersWhole ms i a && headersWhole ms (i + length a) b
 unfolding headersWhole
 headers-append ms i [] b = rw (add-zero i)
 headers-append ms i (e ∷ a) b =
@@ -82,10 +91,21 @@ headers-torn ms f i (suc n) h t =
     go (no e) more = rw (more (omega arith))
 
 -- there is none
-pub headers-none : (ms : List ℕ) (i : ℕ) (q : List Entry) → All (λ e. wholeBlock ≢ e .address) q → headersWhole ms i q ≡ true
+headers-none : (ms : List ℕ) (i : ℕ) (q : List Entry) → All (λ e. wholeBlock ≢ e .address) q → headersWhole ms i q ≡ true
 unfolding headersWhole
 headers-none ms i [] o = refl
 headers-none ms i (e ∷ q) o = rw (ne-eqb (e .address) wholeBlock (λ z. o .0 (sym z))) (headers-none ms (suc i) q (o .1))
+
+-- none is torn
+pub headers-by : (ms : List ℕ) (i : ℕ) (q : List Entry) → ((k : ℕ) → k < length q → addressAt q k ≡ wholeBlock → wholeAt ms (i + k) ≡ true) → headersWhole ms i q ≡ true
+unfolding headersWhole
+headers-by ms i [] h = refl
+headers-by ms i (e ∷ q) h =
+    rw (headers-by ms (suc i) q (λ k l z. let place : suc i + k ≡ i + suc k = omega arith in rw place (h (suc k) (omega arith) z))) (go (ℕ-discrete (e .address) wholeBlock))
+  where
+    go : Dec (e .address ≡ wholeBlock) → (not (eqb (e .address) wholeBlock) || wholeAt ms i) && true ≡ true
+    go (no z) = rw (ne-eqb _ _ z)
+    go (yes z) = rw (eq-eqb _ _ z, ap (wholeAt ms) (sym (add-zero i)) ∙ h 0 (omega arith) z)
 
 -- there is none, or one as the last
 abbrev pub HeaderLast : Bool → List Entry → Type 0
@@ -186,6 +206,11 @@ low-at (m ∷ ms) i h = go i (ltb 1 m) refl h (λ k e. low-at ms k e)
     go i true p e more = absurd (true≢false e)
     go zero false p e more = ltb-false 1 m p
     go (suc i) false p e more = more i e
+
+pub low-none : (ms : List ℕ) → ((x : ℕ) → x < length ms → getD ms x 0 ≤ 1) → overOne ms ≡ false
+unfolding overOne
+low-none [] h = refl
+low-none (m ∷ ms) h = let z : m ≤ 1 = h 0 (omega arith) in rw (le-ltb 1 m z) (low-none ms (λ x b. h (suc x) (omega arith)))
 
 pub behind-for : (m ms : List ℕ) (k : ℕ) → length m ≡ blockBytes → overOne m ≡ false → marksFor (m ++ ms) (suc k) ≡ marksFor ms k
 unfolding marksFor

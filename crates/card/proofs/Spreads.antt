@@ -17,7 +17,7 @@ use Rattle.cells.specs.Same.{same}
 use Rattle.cells.specs.Same.Laws.{same-equal, same-self}
 use Rattle.cells.specs.Entry.{blockBytes, Entry}
 use Rattle.card.specs.Marks.{marksAt, keptAt, lostAt, allKept, overOne, marksFor, wholeAt, wholeBlock, headersWhole, marksFit, spread, marksOf}
-use Rattle.card.proofs.MarkLaws.{front-at, behind-at, over-append, low-at, kept-append}
+use Rattle.card.proofs.MarkLaws.{headers-by, front-at, behind-at, over-append, low-at, kept-append}
 
 pub length-spread : (ms : List ℕ) → length (spread ms) ≡ blockBytes * length ms
 unfolding spread
@@ -66,7 +66,7 @@ over-alike (suc (suc k)) m h = rw (over-alike (suc k) m (omega arith)) (go (ltb 
     go false = refl
 
 -- a mark over 1 is one still
-pub over-spread : (ms : List ℕ) → overOne (spread ms) ≡ overOne ms
+over-spread : (ms : List ℕ) → overOne (spread ms) ≡ overOne ms
 unfolding spread overOne
 over-spread [] = refl
 over-spread (m ∷ ms) = rw (over-append (replicate blockBytes m) (spread ms), over-alike blockBytes m (omega arith), over-spread ms)
@@ -86,7 +86,7 @@ kept-alike (suc (suc k)) m h = rw (kept-alike (suc k) m (omega arith)) (go (eqb 
     go true = refl
     go false = refl
 
-pub kept-spread : (ms : List ℕ) → allKept (spread ms) ≡ allKept ms
+kept-spread : (ms : List ℕ) → allKept (spread ms) ≡ allKept ms
 unfolding spread allKept
 kept-spread [] = refl
 kept-spread (m ∷ ms) = rw (kept-append (replicate blockBytes m) (spread ms), kept-alike blockBytes m (omega arith), kept-spread ms)
@@ -105,28 +105,16 @@ same-replicate k m n h = go (eqb m n) refl
             let one : m ≡ n = sym (getD-replicate k 0 m 0 h) ∙ ap (λ (l : List ℕ). getD l 0 0) (same-equal _ _ e) ∙ getD-replicate k 0 n 0 h in
             absurd (true≢false (sym (eq-eqb _ _ one) ∙ p))
 
-pub spread-kept : (ms : List ℕ) (i : ℕ) → i < length ms → keptAt (spread ms) i ≡ eqb (getD ms i 0) 1
+spread-kept : (ms : List ℕ) (i : ℕ) → i < length ms → keptAt (spread ms) i ≡ eqb (getD ms i 0) 1
 unfolding keptAt
 spread-kept ms i h = ap (λ (b : List ℕ). same b (replicate blockBytes 1)) (spread-at ms i h) ∙ same-replicate blockBytes (getD ms i 0) 1 (omega arith)
 
-pub spread-lost : (ms : List ℕ) (i : ℕ) → i < length ms → lostAt (spread ms) i ≡ eqb (getD ms i 0) 0
+spread-lost : (ms : List ℕ) (i : ℕ) → i < length ms → lostAt (spread ms) i ≡ eqb (getD ms i 0) 0
 unfolding lostAt
 spread-lost ms i h = ap (λ (b : List ℕ). same b (replicate blockBytes 0)) (spread-at ms i h) ∙ same-replicate blockBytes (getD ms i 0) 0 (omega arith)
 
--- no write is torn
-headers-alike : (ms : List ℕ) (i : ℕ) (q : List Entry) → ((k : ℕ) → k < length q → wholeAt ms (i + k) ≡ true) → headersWhole ms i q ≡ true
-unfolding headersWhole
-headers-alike ms i [] h = refl
-headers-alike ms i (e ∷ q) h =
-    let first : wholeAt ms i ≡ true = let z : i ≡ i + 0 = omega arith in ap (wholeAt ms) z ∙ h 0 (omega arith) in
-    rw (first, headers-alike ms (suc i) q (λ k l. let z : suc i + k ≡ i + suc k = omega arith in rw z (h (suc k) (omega arith)))) (go (not (eqb (e .address) wholeBlock)))
-  where
-    go : (t : Bool) → (t || true) && true ≡ true
-    go true = refl
-    go false = refl
-
 -- document 01's row 10: "marks not as many as waiting, or a mark over 1"
-pub spread-for : (ms : List ℕ) (k : ℕ) → marksFor (spread ms) k ≡ eqb (length ms) k && not (overOne ms)
+spread-for : (ms : List ℕ) (k : ℕ) → marksFor (spread ms) k ≡ eqb (length ms) k && not (overOne ms)
 unfolding marksFor
 spread-for ms k = rw (over-spread ms, count (eqb (length ms) k) refl)
   where
@@ -155,8 +143,8 @@ spread-fits ms q = rw (spread-for ms (length q)) (go (eqb (length ms) (length q)
     go false u p r = refl
     go true true p r = refl
     go true false p r =
-        headers-alike (spread ms) 0 q
-        (λ k l. let inside : k < length ms = let e : length ms ≡ length q = eqb-true _ _ p in omega arith in ap (wholeAt (spread ms)) (zero-add k) ∙ spread-whole ms k inside r)
+        headers-by (spread ms) 0 q
+        (λ k l z. let inside : k < length ms = let e : length ms ≡ length q = eqb-true _ _ p in omega arith in ap (wholeAt (spread ms)) (zero-add k) ∙ spread-whole ms k inside r)
 
 -- ---- marks that keep some writes
 
@@ -174,7 +162,7 @@ low-singles [] = refl
 low-singles (true ∷ ks) = low-singles ks
 low-singles (false ∷ ks) = low-singles ks
 
-pub marksOf-fit : (ks : List Bool) (q : List Entry) → length ks ≡ length q → marksFit (marksOf ks) q ≡ true
+marksOf-fit : (ks : List Bool) (q : List Entry) → length ks ≡ length q → marksFit (marksOf ks) q ≡ true
 unfolding marksOf
 marksOf-fit ks q h = spread-fits (singles ks) q ∙ rw (low-singles ks, length-map, eq-eqb _ _ h)
 

@@ -9,7 +9,7 @@ use lib.ListN.{length, getD}
 use Rattle.cells.specs.Entry.{blockBytes, Entry}
 use Rattle.card.specs.Card.{Card, queue, settle}
 
--- the address of the write at a place of the queue
+-- the address of the write at a place of the queue; a place behind the last has none
 abbrev pub addressAt : List Entry → ℕ → ℕ
 addressAt [] i = 0
 addressAt (e ∷ q) zero = e .address

@@ -26,7 +26,7 @@ use Rattle.history.specs.Ledger.{Ledger}
 use Rattle.history.specs.History.{World, begun, after, foundWritten}
 use Rattle.history.specs.Statements.{Sound, Safety, FallbackNumbered, Refinement, ReadBack, WrittenSummed, Logged, Written, CrashAtomicity}
 use Rattle.history.specs.Refusals.{Refusals}
-use Rattle.history.specs.Cuts.{AllCuts, EveryMixture}
+use Rattle.history.specs.Cuts.{AllCuts, AllMixtures}
 use Rattle.history.specs.Costs.{Costs}
 use Rattle.history.specs.Linked.{Linked}
 use Rattle.history.specs.Scripts.{ScriptsAreHistories}
@@ -160,8 +160,8 @@ module _ (geo : Geometry) where
   pub all-cuts : AllCuts geo
   all-cuts = CutsProof.all-cuts geo
 
-  pub every-mixture : EveryMixture geo
-  every-mixture = CutsProof.every-mixture geo
+  pub all-mixtures : AllMixtures geo
+  all-mixtures = CutsProof.all-mixtures geo
 
   -- ---- What a call will take
 

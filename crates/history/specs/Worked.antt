@@ -1,14 +1,14 @@
 -- "Around it", document 01's two worked scripts on a card of 64 blocks, as lists of calls: "format / put 40 7 / commit / sync / put 40 9 /
 -- commit / power 3 / sync / cut 101 / power 100 / recover / get 40", and the same with cut 111. W-204: and the same with cuts that tear the log
 -- block, the descriptor, or the header, which is refused.
-use Prim.Native.Nat.{ℕ}
+use Prim.Native.Nat.{ℕ, _+_}
 use mathlib.Core.Path.{_≡_}
 use mathlib.Core.Bool.{Bool, true, false}
-use mathlib.Core.List.{List, [], _∷_, _++_}
+use mathlib.Core.List.{List, [], _∷_, _++_, map}
 use lib.ListN.{replicate}
 use Rattle.cells.specs.Entry.{blockBytes, Entry}
 use Rattle.card.specs.Card.{blocksIn}
-use Rattle.card.specs.Marks.{marksOf}
+use Rattle.card.specs.Marks.{spread, marksOf}
 use Rattle.store.specs.State.{State}
 use Rattle.script.specs.Replies.{marks}
 use Rattle.store.specs.Format.{formatCall}
@@ -105,8 +105,8 @@ pub record Script (st : State) (ms : List ℕ) (same new all : Bool) (k c : ℕ)
 
 -- cut 101 loses the new descriptor: another log than the one written, no collision, old, save 1; cut 111 keeps every write: new, save 2. Where
 -- half of the log block is kept: again another log, no collision, old, save 1; where of the descriptor just the byte is kept that is new: the
--- log written, new, save 2, though not every write was kept. A torn header is refused, and leaves everything. The digits of a line are
--- the marks of its cut. There is such a card
+-- log written, new, save 2, though not every write was kept. A torn header is refused, and leaves everything. The digits of any line, "0" being
+-- byte 48, are spread into the marks of its cut, the first digit's first. There is such a card
 pub record Worked : Type 0 where
   pub lost : (st : State) → formatCall trap st .answer ≡ 0 → blocksIn (st .settled) ≡ 64 → Script st cut101 false false false 2 1 sevens
   pub whole : (st : State) → formatCall trap st .answer ≡ 0 → blocksIn (st .settled) ≡ 64 → Script st cut111 true true true 0 2 nines
@@ -114,5 +114,6 @@ pub record Worked : Type 0 where
   pub harmless : (st : State) → formatCall trap st .answer ≡ 0 → blocksIn (st .settled) ≡ 64 → Script st cutFifth true true false 0 2 nines
   pub header : (st : State) → formatCall trap st .answer ≡ 0 → blocksIn (st .settled) ≡ 64
       → dispatch trap (cut cutHeader) (metByCut st .store) ≡ record { answer = 10; orders = 0; state = metByCut st .store }
-  pub digits : (marks (cutLine (49 ∷ 48 ∷ 49 ∷ [])) ≡ cut101) × (marks (cutLine (49 ∷ 49 ∷ 49 ∷ [])) ≡ cut111) × (marks (cutLine (49 ∷ 49 ∷ 48 ∷ [])) ≡ replicate blockBytes 1 ++ (replicate blockBytes 1 ++ replicate blockBytes 0))
+  pub digits : (ds : List ℕ) → marks (cutLine (map (λ d. 48 + d) ds)) ≡ spread ds
+  pub spreads : (spread (1 ∷ 0 ∷ 1 ∷ []) ≡ cut101) × (spread (1 ∷ 1 ∷ 1 ∷ []) ≡ cut111) × (spread (1 ∷ 1 ∷ 0 ∷ []) ≡ replicate blockBytes 1 ++ (replicate blockBytes 1 ++ replicate blockBytes 0))
   pub card : (st : State) × (formatCall trap st .answer ≡ 0) × (blocksIn (st .settled) ≡ 64)

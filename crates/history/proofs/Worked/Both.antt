@@ -1,9 +1,9 @@
 -- Document 01's two worked scripts, and those in which a block is torn. The statement stands in specs/Worked.antt.
-use Prim.Native.Nat.{ℕ, _+_, _^_, _<_}
+use Prim.Native.Nat.{ℕ, _+_, _-_, _^_, _<_}
 use mathlib.Core.Path.{_≡_, refl, ap, ap₂, sym, _∙_}
 use mathlib.Core.Logic.{_⊎_}
 use mathlib.Core.Bool.{Bool, true, false, _&&_}
-use mathlib.Core.List.{List, [], _∷_, _++_}
+use mathlib.Core.List.{List, [], _∷_, _++_, map}
 use native.Mathlib.Omega.{arith}
 use lib.Dec.{eqb}
 use lib.ListN.{length}
@@ -149,6 +149,12 @@ module _ (st : State) (f : formatCall trap st .answer ≡ 0) (size : blocksIn (s
   unfolding after
   header = header-refused w₃ all-filed
 
+-- each digit has its value
+digit-values : (ds : List ℕ) → values (map (λ d. 48 + d) ds) ≡ ds
+unfolding values
+digit-values [] = refl
+digit-values (d ∷ ds) = let z : 48 + d - 48 ≡ d = omega arith in rw (z, digit-values ds)
+
 pub worked : Worked
-unfolding values marksOf spread
-worked = record { lost = lost; whole = whole; halved = halved-script; harmless = harmless; header = header; digits = (refl, refl, refl); card = Blank.blank }
+unfolding marksOf spread
+worked = record { lost = lost; whole = whole; halved = halved-script; harmless = harmless; header = header; digits = λ ds. ap spread (digit-values ds); spreads = (refl, refl, refl); card = Blank.blank }
