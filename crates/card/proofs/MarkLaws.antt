@@ -10,9 +10,8 @@ use native.Mathlib.Omega.{arith}
 use native.Mathlib.Decide.{ℕ-discrete}
 use borrow.Author.Tests.{eqb-true, eqb-false, eq-eqb, ne-eqb, ltb-false, le-ltb, not-true}
 use lib.Dec.{eqb, ltb}
-use lib.ListN.{length, getD, take, drop, replicate, length-append, length-replicate, getD-replicate}
+use lib.ListN.{length, getD, replicate, length-append, length-replicate, getD-replicate}
 use lib.Seq.{ext-getD, take-at, drop-append-add}
-use Rattle.cells.specs.Cell.{cell}
 use Rattle.cells.specs.Cell.Laws.{cell-part, length-cell, getD-cell}
 use Rattle.cells.specs.Same.{same}
 use Rattle.cells.specs.Same.Laws.{same-equal, same-self}

@@ -1,5 +1,5 @@
 -- Marks that tear nothing: one for each write, spread over its bytes.
-use Prim.Native.Nat.{ℕ, zero, suc, _+_, _-_, _*_, _≤_, _<_}
+use Prim.Native.Nat.{ℕ, zero, suc, _-_, _*_, _≤_, _<_}
 use mathlib.Core.Path.{_≡_, refl, ap, sym, _∙_}
 use mathlib.Core.Bool.{Bool, true, false, not, cond, _&&_, _||_, true≢false}
 use mathlib.Core.Logic.{_≢_}
@@ -9,14 +9,13 @@ use native.Mathlib.Omega.{arith}
 use native.Mathlib.Decide.{decLt}
 use borrow.Author.Tests.{eqb-true, eqb-false, eq-eqb, ne-eqb}
 use lib.Dec.{eqb, ltb}
-use lib.ListN.{length, getD, take, drop, replicate, length-append, length-map, length-replicate, getD-replicate, drop-of-length-le, List·getD-eq-default}
+use lib.ListN.{length, getD, take, replicate, length-append, length-map, length-replicate, getD-replicate, drop-of-length-le, List·getD-eq-default}
 use lib.Seq.{take-nil}
-use Rattle.cells.specs.Cell.{cell}
 use Rattle.cells.specs.Cell.Laws.{cell-part}
 use Rattle.cells.specs.Same.{same}
 use Rattle.cells.specs.Same.Laws.{same-equal, same-self}
 use Rattle.cells.specs.Entry.{blockBytes, Entry}
-use Rattle.card.specs.Marks.{marksAt, keptAt, lostAt, allKept, overOne, marksFor, wholeAt, wholeBlock, headersWhole, marksFit, spread, marksOf}
+use Rattle.card.specs.Marks.{marksAt, keptAt, lostAt, allKept, overOne, marksFor, wholeAt, headersWhole, marksFit, spread, marksOf}
 use Rattle.card.proofs.MarkLaws.{headers-by, front-at, behind-at, over-append, low-at, kept-append}
 
 pub length-spread : (ms : List ℕ) → length (spread ms) ≡ blockBytes * length ms

@@ -1,5 +1,5 @@
--- What a cut takes and leaves, said in other ways: which marks it takes, mark by mark; what it leaves, byte by byte, by the marks and by the
--- writes; and, for marks that tear nothing, as document 01 has it.
+-- What a cut takes and leaves, said in other ways: which marks it takes, mark by mark; what it leaves, byte by byte; the byte that a given
+-- write has for a block; and the cut of marks that tear nothing, as document 01 has it.
 use Prim.Native.Nat.{ℕ, zero, suc, _+_, _*_, _≤_, _<_}
 use mathlib.Core.Path.{_≡_}
 use mathlib.Core.Bool.{cond, _&&_}

@@ -21,7 +21,7 @@ use Rattle.card.proofs.Runs.{Whole, below-queue}
 use Rattle.card.proofs.Spreads.{spread-fits}
 use Rattle.card.proofs.ByMark.{fit-right, right-fit}
 use Rattle.card.proofs.Mixtures.{marksFrom, marks-from, marks-from-fit, placesOf, places-bytes, places-header}
-use Rattle.card.proofs.Cuts.{cut-length, cut-flat, spread-cut}
+use Rattle.card.proofs.Cuts.{cut-flat, spread-cut}
 use Rattle.journal.specs.Geometry.{Geometry}
 use Rattle.store.specs.Request as Request
 use Rattle.store.specs.State.{State, Outcome, withQueue, withRecord, withCard, cardIn}

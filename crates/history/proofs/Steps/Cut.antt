@@ -49,8 +49,8 @@ module _ (geo : Geometry) where
       (record { settled = refl; waits = no-queue (cardIn st) z; count = z; power = refl; room = refl })
       (ap (marksFit ms) (sym (no-queue (cardIn st) z)) ∙ h))
 
-  pub all-cuts : (ms : List ℕ) (st : State) (l : Ledger) (d : Plain) → Sim geo st l d → marksFit ms (queue (cardIn st)) ≡ true → CutLeads geo ms st l d
-  all-cuts ms st l d m h = go (m .phase)
+  any-cut-leads : (ms : List ℕ) (st : State) (l : Ledger) (d : Plain) → Sim geo st l d → marksFit ms (queue (cardIn st)) ≡ true → CutLeads geo ms st l d
+  any-cut-leads ms st l d m h = go (m .phase)
     where
       quiet : st .rec .mode ≢ down → st .rec .waiting ≡ 0
       quiet z = idle geo st (record-facts geo st (m .basics .counts)) z
@@ -169,7 +169,7 @@ module _ (geo : Geometry) where
     fits-cut = same-fit geo (w .store) (w .ledger) (w .plain) m ms ∙ marks-fit geo ms (w .plain) h
 
     leads-cut : CutLeads geo ms (w .store) (w .ledger) (w .plain)
-    leads-cut = all-cuts geo ms (w .store) (w .ledger) (w .plain) m fits-cut
+    leads-cut = any-cut-leads geo ms (w .store) (w .ledger) (w .plain) m fits-cut
 
     pub accepted-step : StepOK geo (cut ms) w
     unfolding Card.cut

@@ -6,7 +6,6 @@ use mathlib.Core.Bool.{Bool, true, false, _&&_}
 use mathlib.Core.List.{List, [], _∷_, _++_, map}
 use native.Mathlib.Omega.{arith}
 use lib.Dec.{eqb}
-use lib.ListN.{length}
 use Rattle.card.specs.Disk.{lay, overlay}
 use Rattle.crash.specs.Laid.{Laid, layOver}
 use Rattle.card.specs.Card.{blockAt, blocksIn}
@@ -16,7 +15,6 @@ use Rattle.journal.specs.Geometry.{trap}
 use Rattle.journal.specs.Layout.{isData}
 use Rattle.script.specs.Replies.{values}
 use Rattle.store.specs.State.{State}
-use Rattle.store.specs.Outcomes.{refused}
 use Rattle.store.specs.Format.{formatCall}
 use Rattle.history.specs.Call.{power, put, commit, sync, cut}
 use Rattle.history.specs.Plain.{Plain, blank, fresh, blankPlain, still}
@@ -25,7 +23,7 @@ use Rattle.history.specs.History.{World, begun, next, after, acceptedCut
 use Rattle.history.specs.Statements as S
 use Rattle.history.specs.Statements.{noCut, EndsFinished, Fate, quiet, decided, known, fate, outcome}
 use Rattle.history.specs.Linked.{AllPassable}
-use Rattle.history.specs.Worked.{halted, cut101, cut111, half, cutHalf, cutFifth, cutHeader, metByCut, sevens, nines, at40, filed, crashed, answers, Script, Worked}
+use Rattle.history.specs.Worked.{halted, cut101, cut111, cutHalf, cutFifth, cutHeader, metByCut, sevens, nines, at40, filed, crashed, answers, Script, Worked}
 use Rattle.history.proofs.Steps.ListInduction.{begun-sim, begun-blank}
 use Rattle.history.proofs.Atomicity.Splits.{SplitReading, split-reading, found-counted}
 use Rattle.history.proofs.Worked.TornMarks.{header-half, all-half, halved, header-fifth, all-fifth}

@@ -17,7 +17,7 @@ use Rattle.cells.specs.Entry.Laws.{entry-eq}
 use Rattle.card.specs.Disk.{lay, overlay}
 use Rattle.crash.specs.Laid.{Laid}
 use Rattle.card.specs.Card.{Card, queue, cut, settle, torn, blockAt, blocksIn}
-use Rattle.card.specs.Marks.{marksAt, keptAt, marksFor, wholeAt, marksFit, marksOf}
+use Rattle.card.specs.Marks.{marksAt, keptAt, marksFor, wholeAt, marksFit}
 use Rattle.card.proofs.Torn.{length-torn, getD-torn}
 use Rattle.card.proofs.All.{All}
 use Rattle.card.proofs.Runs.{Whole, settle-other, settle-overlay}

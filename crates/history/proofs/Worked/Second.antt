@@ -12,7 +12,7 @@ use Rattle.cells.specs.Entry.{blockBytes, Entry}
 use Rattle.crash.specs.Laid.{Laid, layOver}
 use Rattle.card.specs.Card as Card
 use Rattle.card.specs.Card.{queue, blockAt}
-use Rattle.card.specs.Marks.{marksFit, keptAt, allKept, marksOf}
+use Rattle.card.specs.Marks.{marksFit, keptAt, allKept}
 use Rattle.card.proofs.Spreads.{marksOf-all}
 use Rattle.journal.specs.Geometry.{trap}
 use Rattle.journal.specs.Geometry.Laws.{trap-descriptors}
@@ -34,7 +34,7 @@ use Rattle.history.specs.Ledger.{sameLog, collides}
 use Rattle.history.specs.History.{World, next, after, storeNext, ledgerNext, foundWritten, acceptedCut, exception}
 use Rattle.history.specs.Statements as S
 use Rattle.history.specs.Statements.{noneFinished, shortSync, quiet, decided, Progress, known, undecided, observe, fate}
-use Rattle.history.specs.Worked.{halted, cut101, cut111, half, cutHalf, cutFifth, cutHeader, sevens, nines, at40, crashed, answers}
+use Rattle.history.specs.Worked.{cut101, cut111, half, cutHalf, cutFifth, cutHeader, sevens, nines, at40, crashed, answers}
 use Rattle.history.proofs.Relation.Forms.{called-refused, get-called}
 use Rattle.history.proofs.Relation.Sim.{cutSettled, cutWritten}
 use Rattle.history.proofs.Steps.Shown.{WorldSim, same-cause}
