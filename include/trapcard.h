@@ -5,8 +5,8 @@
  * group stand, and the record is down until a cut and a recover.
  *
  * At a power loss the card may tear any block that has waiting writes, except block 0: each byte of such a block is then the settled
- * one or that of one of those writes. Block 0 is one of them whole, or as it was settled. What is said here of a power loss holds on
- * such a card too.
+ * one or that of one of those writes. Block 0 stays as it was settled, or is one of the writes to it, whole. What is said here of a
+ * power loss holds on such a card too.
  *
  * A buffer is a pointer and a length in bytes, of any alignment. A buffer that is const here is never written. The proofs
  * assume of the caller: pointers that are not null, with true lengths, also where a length is 0; buffers that do not overlap
