@@ -31,6 +31,15 @@ static double seconds(void)
     return (double)t.tv_sec + (double)t.tv_nsec * 1e-9;
 }
 
+/* A refusal is not what is to be measured. */
+static void must_be_done(const struct task *t, const struct side *s)
+{
+    if (s->number != TRAPCARD_DONE) {
+        fprintf(stderr, "%s: answered %u\n", t->name, s->number);
+        exit(1);
+    }
+}
+
 static double batch(const struct task *t, struct side *s, long times)
 {
     double start = seconds();
@@ -38,7 +47,9 @@ static double batch(const struct task *t, struct side *s, long times)
         t->call(s);
         restore(t, s);
     }
-    return seconds() - start;
+    double end = seconds();
+    must_be_done(t, s);
+    return end - start;
 }
 
 static long calibrate(const struct task *t, struct side *s)
@@ -87,6 +98,7 @@ static void count(const struct task *t, struct side *s)
 #else
     t->call(s);
 #endif
+    must_be_done(t, s);
     restore(t, s);
 }
 

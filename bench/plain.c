@@ -1,5 +1,5 @@
-/* The card store in plain C, written from document 01, with W-201 and W-204 of document 02, and not from the Rattle sources: what the
- * bench measures the store against. It makes the same checks (rows 1 to 10 and 12 of the table of causes) and leaves the same bytes. */
+/* The card store in plain C, written from document 01, with W-201, W-204 and W-205 of document 02, and not from the Rattle sources: what the
+ * bench measures the store against. It makes the same checks (rows 1 to 10, 12 and 13 of the table of causes) and leaves the same bytes. */
 #include "plain.h"
 
 #include <stdbool.h>
@@ -231,6 +231,15 @@ static bool order_header(struct record *r, uint8_t *settled, uint8_t *waiting, c
     return order_write(r, waiting, 0, block) && order_flush(r, settled, waiting);
 }
 
+/* Row 8: another format or another card, counts out of bounds, or save number 0 and unlike counts or sums. */
+static bool foreign(const uint8_t *block, uint32_t blocks)
+{
+    uint32_t p = load32(block + 8), n = load32(block + 12);
+    if (load32(block) != FORMAT || load32(block + 4) != blocks || n > SLOTS || p > n)
+        return true;
+    return load64(block + 32) == 0 && (p != n || load64(block + 16) != load64(block + 24));
+}
+
 /* ---- The choice of the log. */
 
 static bool good(const uint8_t *settled, uint32_t blocks, uint32_t n, uint64_t sum)
@@ -254,9 +263,7 @@ static uint32_t choose(const uint8_t *settled, uint32_t blocks, struct choice *c
 {
     uint32_t p = load32(settled + 8), n = load32(settled + 12);
     uint64_t presum = load64(settled + 16), sum = load64(settled + 24), save = load64(settled + 32);
-    if (load32(settled) != FORMAT || load32(settled + 4) != blocks || n > SLOTS || p > n)
-        return TRAPCARD_ERR_FOREIGN;
-    if (save == 0 && (p != n || presum != sum))
+    if (foreign(settled, blocks))
         return TRAPCARD_ERR_FOREIGN;
     c->shorter = !good(settled, blocks, n, sum);
     c->count = c->shorter ? p : n;
@@ -275,6 +282,8 @@ uint32_t plain_format(uint8_t *record, size_t record_len, uint8_t *settled, size
         return TRAPCARD_ERR_SIZE;
     struct record r = {.mode = TRAPCARD_MODE_OPEN, .blocks = (uint32_t)(settled_len / BLOCK), .power = POWER,
                        .sum = TRAPCARD_EMPTY_SUM};
+    if (load32(settled + 12) > 0 && !foreign(settled, r.blocks))
+        return TRAPCARD_ERR_IN_USE;
     memset(settled, 0, settled_len);
     memset(waiting, 0, waiting_len);
     memset(work, 0, work_len);

@@ -123,17 +123,28 @@ static void damage(struct side *a, struct side *b)
     }
 }
 
+/* A format on both. Mostly the card is given up first, by zeros in block 0: one that is in use is refused. */
+static void format_both(struct side *a, struct side *b)
+{
+    struct side *both[2] = {a, b};
+    bool give_up = draw(4) > 0;
+    for (int k = 0; k < 2; k++) {
+        struct side *s = both[k];
+        if (give_up)
+            memset(s->settled, 0, TRAPCARD_BLOCK);
+        s->number = s->calls->format(CARD(s));
+        memcpy(s->other, s->settled, s->settled_len);
+    }
+    must_agree(a, b, "a format");
+}
+
 long random_calls(long n)
 {
     struct side a = side_new(&trapcard_calls), b = side_new(&plain_calls);
     a.settled_len = b.settled_len = (size_t)SMALL * TRAPCARD_BLOCK;
     for (long i = 0; i < n; i++) {
-        if (i % 100 == 0) {
-            a.number = a.calls->format(CARD(&a));
-            b.number = b.calls->format(CARD(&b));
-            memcpy(a.other, a.settled, a.settled_len);
-            memcpy(b.other, b.settled, b.settled_len);
-        }
+        if (i % 100 == 0)
+            format_both(&a, &b);
         if (draw(50) == 0)
             damage(&a, &b);
         struct drawn d = draw_call(trapcard_record_number(a.record, TRAPCARD_RECORD_WAITING));

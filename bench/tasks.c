@@ -55,6 +55,8 @@ static void fill_torn(void)
 void prepare(const struct task *t, struct side *s)
 {
     fill_torn();
+    /* The card of the task before is given up: it may be in use. */
+    memset(s->settled, 0, TRAPCARD_BLOCK);
     must(s->calls->format(CARD(s)), "format");
     for (size_t i = TRAPCARD_FIRST * TRAPCARD_BLOCK; i < s->settled_len; i++)
         s->settled[i] = (uint8_t)(i * 2654435761u >> 13);

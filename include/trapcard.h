@@ -30,7 +30,8 @@
  *   3. trapcard_power, before any orders: the record just made has power for none.
  *   4. trapcard_recover. After 0 the record is open and has the number of the save found. After TRAPCARD_ERR_FOREIGN or
  *      TRAPCARD_ERR_UNSOUND this is no card of N blocks that a format made and these calls alone wrote since; trapcard_format
- *      makes it one, and forgets what it held.
+ *      makes it one, and forgets what it held. It does so at once with a foreign card. It turns down an unsound one whose header has a
+ *      count above 0, and the firmware has to give that card up first (trapcard_format says how).
  *
  * "Checksum collisions apart" says: unless, at a power loss before, the log found on the card was another list than the log
  * written, as long and with the same sum.
@@ -88,14 +89,28 @@ extern "C" {
 #define TRAPCARD_ERR_UNSOUND 9u  /* neither list is good */
 #define TRAPCARD_ERR_MARKS 10u   /* marks not 512 for each waiting write, a mark over 1, or unlike marks for a write to block 0 */
 #define TRAPCARD_ERR_LAST 12u    /* sync of a group that is not empty, at the largest save number, 2^64 - 1 */
+#define TRAPCARD_ERR_IN_USE 13u  /* format of a card whose header is not foreign and has a count above 0 */
 
 /* The buffer in which trapcard_get found its block. */
 #define TRAPCARD_NOWHERE 0u
 #define TRAPCARD_IN_SETTLED 1u
 #define TRAPCARD_IN_WORK 2u
 
-/* Makes a fresh card: zeros everywhere, an empty log, save number 0, the record open with power 1,000,000. Returns 0 or 1, and
- * looks at nothing but lengths. Not safe against power loss: a card that was cut off while it was formatted is formatted again. */
+/* Makes a fresh card: zeros everywhere, an empty log, save number 0, the record open with power 1,000,000. Returns 0, 1 or 13, and
+ * looks at nothing but lengths and block 0: not at what the record holds, nor at any list. 13, TRAPCARD_ERR_IN_USE, is for a card
+ * whose header trapcard_recover would not call foreign, N being that of the buffer, and whose count is above 0: its log has saves,
+ * or the header is that of a save that power cut off. Every byte is left.
+ *
+ * 13 does not protect a card whose log is empty: after trapcard_apply the saves are in the home blocks, the header's count is 0, and
+ * a format wipes them out. Nor does it see a first save whose header still waits. Whoever wants to know what a card holds recovers it
+ * first.
+ *
+ * To give a card up on purpose, overwrite block 0 of it with zeros, outside the store; then format it:
+ *     memset(settled, 0, TRAPCARD_BLOCK);
+ * Such a card is foreign, and what it held can't be recovered any more. No call here does this, so none can by accident.
+ *
+ * Not safe against power loss: a card that was cut off while it was formatted is formatted again, and given up again first if its
+ * old header still stands. */
 uint32_t trapcard_format(uint8_t *record, size_t record_len, uint8_t *settled, size_t settled_len, uint8_t *waiting,
                          size_t waiting_len, uint8_t *work, size_t work_len);
 

@@ -163,9 +163,10 @@ class Bench:
 
     def followed(self, step):
         """Whether the call is one of the list that the witness follows."""
-        return self.witness is not None and not step.odd and step.call not in ("format", "tally", "alike", *COSTS)
+        return self.witness is not None and not step.odd and step.call not in ("tally", "alike", *COSTS)
 
     def follow(self, step, outcome):
+        """A format that answers 0 begins a list; a refused one leaves the list as it is."""
         if step.call == "format" and outcome[0] == 0:
             self.witness = None if step.odd else Witness(self.library, self.lent)
         elif step.odd and outcome[0] in (0, 4):

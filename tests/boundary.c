@@ -535,6 +535,84 @@ static void inquiries_by_mode(void)
     refused(RECOVER_COST, 0, TRAPCARD_ERR_FOREIGN);
 }
 
+/* A save of two blocks, on a card of any bytes. */
+static void used(void)
+{
+    start();
+    group(40, 2);
+    done(SYNC, 0, 5);
+}
+
+/* A format that is served: a fresh record, and blocks of zeros. */
+static void formatted(void)
+{
+    done(FORMAT, 0, 0);
+    holds(TRAPCARD_MODE_OPEN, 0, 0, 0, 0, 1000000);
+    numbered(0);
+    got(40, TRAPCARD_IN_SETTLED, 40 * TRAPCARD_BLOCK, 0);
+}
+
+/* A card in use is turned down, whatever the record holds, and not a byte is written. Wrong lengths come first. */
+static void in_use(void)
+{
+    used();
+    refused(FORMAT, 0, TRAPCARD_ERR_IN_USE);
+    for (unsigned p = 0; p < 4; p++) {
+        length[p]--;
+        refused(FORMAT, 0, TRAPCARD_ERR_SIZE);
+        length[p]++;
+    }
+    got(40, TRAPCARD_IN_SETTLED, 1024, 5);
+    memset(c.record, 0xee, sizeof c.record);
+    refused(FORMAT, 0, TRAPCARD_ERR_IN_USE);
+}
+
+/* The same where power is lost in the second save, before the cut and behind it. With an empty log, or with zeros over block 0, the card is
+ * formatted. */
+static void given_up(void)
+{
+    stop_before_flush();
+    refused(FORMAT, 0, TRAPCARD_ERR_IN_USE);
+    cut("011");
+    refused(FORMAT, 0, TRAPCARD_ERR_IN_USE);
+    done(POWER, 6, 0);
+    done(RECOVER, 0, 2);
+    got(40, TRAPCARD_IN_SETTLED, 1024, 7);
+    done(APPLY, 0, 4);
+    formatted();
+    used();
+    memset(c.settled, 0, TRAPCARD_BLOCK);
+    formatted();
+}
+
+/* One more in a byte of the format number or of N, or in an upper byte of p or n, makes a card foreign; so do format number 1, n over 32, p
+ * over n, and save number 0 where the counts are unlike. With other bytes behind them in block 0, or n of 32, it is still in use. */
+static void foreign(void)
+{
+    const struct {
+        size_t at;
+        uint8_t value;
+    } more[] = {{0, 1}, {12, TRAPCARD_SLOTS + 1}, {8, 3}, {32, 0}};
+    used();
+    for (size_t i = 0; i < TRAPCARD_BLOCK; i++) {
+        c.settled[i]++;
+        if (i < 16 && i != 8 && i != 12) {
+            formatted();
+            used();
+        } else {
+            refused(FORMAT, 0, TRAPCARD_ERR_IN_USE);
+            c.settled[i]--;
+        }
+    }
+    for (size_t i = 0; i < sizeof more / sizeof *more; i++) {
+        c.settled[more[i].at] = more[i].value;
+        formatted();
+        used();
+    }
+    c.settled[12] = TRAPCARD_SLOTS;
+    refused(FORMAT, 0, TRAPCARD_ERR_IN_USE);
+}
+
 /* ---- tally and alike */
 
 static uint8_t large[(TRAPCARD_MOST + 1) * TRAPCARD_BLOCK];
@@ -552,6 +630,9 @@ static void bounds(void)
     same("format", "answered for the smallest card", format(large, TRAPCARD_LEAST), TRAPCARD_DONE);
     same("format", "answered for a card too large", format(large, TRAPCARD_MOST + 1), TRAPCARD_ERR_SIZE);
     same("format", "answered for the largest card", format(large, TRAPCARD_MOST), TRAPCARD_DONE);
+    large[8] = large[12] = 1;
+    same("format", "answered for the largest card, in use", format(large, TRAPCARD_MOST), TRAPCARD_ERR_IN_USE);
+    large[8] = large[12] = 0;
     memset(large + DATA, 255, sizeof large - DATA);
     arm();
     same("tally", "answered", trapcard_tally(large, sizeof large - TRAPCARD_BLOCK, &wide[1]), TRAPCARD_DONE);
@@ -627,6 +708,9 @@ int main(void)
     newest();
     inquiries();
     inquiries_by_mode();
+    in_use();
+    given_up();
+    foreign();
     bounds();
     inspections();
     printf("boundary: the fifteen functions answer through the header, and write nothing else\n");

@@ -76,6 +76,7 @@ CAUSES = {
     "TRAPCARD_ERR_UNSOUND": ["unsoundRow"],
     "TRAPCARD_ERR_MARKS": ["marksRow"],
     "TRAPCARD_ERR_LAST": ["lastSaveRow"],
+    "TRAPCARD_ERR_IN_USE": ["inUseRow"],
 }
 
 # Constants of rows whose test compares the number of the choice: the case of the choice that has that number.

@@ -1,7 +1,7 @@
 """What one call met, as cells of the coverage table. It is asked before the call, and told the outcome after it."""
 from coverage import IN_APPLY, IN_SYNC, NUMBER, TWO
-from model import (BLOCK, CLOSED, COSTS, DOWN, FIRST_DATA, LAST, LEAST, MOST, OPEN, PLACES, RECORD, SLOTS, WAITING, WORK, choice, chosen,
-                   entries, foreign, is_data, lists, marks_of, read_header, torn, wrong_counts, wrong_lists, wrong_marks)
+from model import (BLOCK, CLOSED, COSTS, DOWN, EMPTY_SUM, FIRST_DATA, LAST, LEAST, MOST, OPEN, PLACES, RECORD, SLOTS, WAITING, WORK, choice,
+                   chosen, entries, foreign, in_use, is_data, lists, marks_of, read_header, torn, wrong_counts, wrong_lists, wrong_marks)
 
 
 def settled_sizes(settled):
@@ -79,6 +79,37 @@ def cost_cases(call, rec, orders, applies):
         yield "n + m = %d" % (n + m)
     if applies and n != m + 2:
         yield "applies, peak " + ("in its apply" if n > m + 2 else "after its apply")
+
+
+# ---- a format
+
+def counts_entries(settled):
+    """Whether row 13 applies, be the buffer's length right or not."""
+    return len(settled) >= BLOCK and in_use(settled)
+
+
+def used(rec, wrong, settled, head):
+    """A card in use."""
+    previous, count, blocks = head[2], head[3], len(settled) // BLOCK
+    yield "p = 0" if previous == 0 else "p = n" if previous == count else "0 < p < n"
+    answer, _, _, back, _ = choice(blocks, settled)
+    yield "recover would " + ("answer 9" if answer else "take n" if not back else "fall back" if previous else "fall back to 0")
+    for case, holds in (("n = 1", count == 1), ("n = 32", count == SLOTS), ("save 0", head[6] == 0), ("a wrong record", wrong),
+                        ("another N in the record", rec.blocks != blocks), ("N %d" % blocks, blocks in (LEAST, MOST - 1, MOST))):
+        if holds:
+            yield case
+
+
+def unused(rec, wrong, parts, head):
+    """A card that is formatted; parts are those of row 8 that apply."""
+    if head[3] > 0 and len(parts) == 1:
+        yield "n above 0, foreign by " + parts[0]
+        yield from ["n above 0, foreign by N, which is the record's"] if parts == ["N"] and head[1] == rec.blocks else []
+    if head[3] == 0:
+        for case, holds in (("foreign", parts), ("save 0", not parts and head[6] == 0), ("some save", not parts and head[6]),
+                            ("a wrong record", not parts and wrong), ("recover would answer 9", not parts and EMPTY_SUM not in head[4:6])):
+            if holds:
+                yield "n = 0: " + case
 
 
 # ---- the marks of a cut; writes are pairs of an address and its marks, oldest first
@@ -219,13 +250,15 @@ class Met:
         if self.rows == "recover":
             yield {OPEN: 5, DOWN: 4}.get(self.rec.mode, 0)
             yield 0 if self.sizes else choice(self.blocks, self.views["settled"])[0]
+        if self.rows == "format" and counts_entries(self.views["settled"]):
+            yield 13
         if self.rows == "cut" and any(wrong_marks(self.rec, self.views["waiting"], self.last)):
             yield 10
 
     def cases(self, outcome, number, after):
         if self.call in ORDERS and number in ("0", "gone"):
             yield ORDERS[self.call](self.rec, *outcome)
-        elif self.call in ("put", "get", "commit", "cut"):
+        elif self.call in ("format", "put", "get", "commit", "cut"):
             yield from getattr(self, self.call)(outcome[0], after)
         elif self.call in COSTS and number == "0":
             yield from ("%s: %s" % (self.call, case) for case in cost_cases(self.call, self.rec, *outcome[1:3]))
@@ -247,6 +280,16 @@ class Met:
         named = {FIRST_DATA: "34", self.blocks - 1: "N - 1", FIRST_DATA - 1: "33", self.blocks: "N", 2**32 - 1: "2^32 - 1"}
         if answer in (0, 6) and self.numbers[0] in named:
             yield "%s: %s" % (self.call, named[self.numbers[0]])
+
+    def format(self, answer, after):
+        settled = self.views["settled"]
+        if answer == 1 and len(self.sizes) == 1 and counts_entries(settled):
+            yield "format, card in use, wrong " + self.sizes[0]
+        if answer == 13:
+            yield from ("format, card in use: " + case for case in used(self.rec, self.parts, settled, self.head))
+        if answer == 0:
+            parts = list(foreign(self.blocks, self.head))
+            yield from ("format, " + case for case in unused(self.rec, self.parts, parts, self.head))
 
     def put(self, answer, after):
         if answer == 1 and not self.sizes:

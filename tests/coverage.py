@@ -3,11 +3,11 @@ from model import COSTS
 
 TEN = ("format", "power", "put", "get", "commit", "abandon", "sync", "apply", "recover", "cut")
 TWO = ("tally", "alike")
-NUMBERS = ("0", "1", "2", "3", "4", "gone", "5", "6", "7", "8", "9", "10", "12")
+NUMBERS = ("0", "1", "2", "3", "4", "gone", "5", "6", "7", "8", "9", "10", "12", "13")
 
 # The numbers that each call may give; 4 is a record that was down, gone is power gone in the call.
 CAUSES = {
-    "format": "0 1", "power": "0 1 2", "put": "0 1 2 3 4 6 7", "get": "0 1 2 3 4 6", "commit": "0 1 2 3 4 7", "abandon": "0 1 2 3 4",
+    "format": "0 1 13", "power": "0 1 2", "put": "0 1 2 3 4 6 7", "get": "0 1 2 3 4 6", "commit": "0 1 2 3 4 7", "abandon": "0 1 2 3 4",
     "sync": "0 1 2 3 4 gone 12", "apply": "0 1 2 3 4 gone", "recover": "0 1 2 4 gone 5 8 9", "cut": "0 1 2 10",
     "sync_cost": "0 1 2 3 4 12", "apply_cost": "0 1 2 3 4", "recover_cost": "0 1 2 4 5 8 9", "tally": "0 1 8 9", "alike": "0 1 8 9",
 }
@@ -23,7 +23,7 @@ FOREIGN = ("format 1", "another format", "N", "n over 32", "p over n", "save 0, 
 FOUR = ("recover", "recover_cost", "tally", "alike")
 
 # Where two rows apply: the number given, and the later ones; of the calls, and of the inquiries.
-FIRST = {"1": "2 3 4 5 6 10 12", "2": "3 4 5 6 8 9 10 12", "3": "6 12", "4": "6 8 9 12", "5": "8 9", "6": "7"}
+FIRST = {"1": "2 3 4 5 6 10 12 13", "2": "3 4 5 6 8 9 10 12", "3": "6 12", "4": "6 8 9 12", "5": "8 9", "6": "7"}
 FIRST_ASKED = {"1": "2 3 4 5 12", "2": "3 4 5 8 9 12", "3": "12", "4": "8 9 12", "5": "8 9"}
 
 # The places at which orders end.
@@ -66,9 +66,18 @@ CASES = (
     + prefixed("demand 3, ", ("new: all kept", "new: a harmless loss", "new: harmless tearing", "old: a write lost", "old: a write torn",
                               "old: header lost", "old: header lost, others torn", "old: no header", "old: no header, others torn",
                               "the old disk found", "the new disk found"))
-    + tuple("behind a torn %s: %s" % (block, found) for block in ("log block", "descriptor")
+    + tuple("behind a %s: %s" % (what, found) for what in ("torn log block", "torn descriptor", "refused format")
             for found in ("new", "old", "old, by a fallback"))
     + ("behind a torn home block: old",)
+    + prefixed("format, card in use: ", ("p = 0", "0 < p < n", "p = n", "n = 1", "n = 32", "save 0", "a wrong record",
+                                         "another N in the record", "N 35", "N 65535", "N 65536"))
+    + prefixed("format, card in use: recover would ", ("take n", "fall back", "fall back to 0", "answer 9"))
+    + prefixed("format, card in use, wrong ", ("record length", "settled length", "waiting short", "waiting long", "work short", "work long"))
+    + prefixed("format, n above 0, foreign by ", FOREIGN)
+    + ("format, n above 0, foreign by N, which is the record's",)
+    + prefixed("format, n = 0: ", ("save 0", "some save", "a wrong record", "recover would answer 9", "foreign"))
+    + prefixed("format in a history: 13, ", ("right after a sync", "a log", "a fallback to come", "down"))
+    + prefixed("format in a history: 0, ", ("as format left it", "after an apply", "down"))
     + prefixed("get: ", ("open", "group", "log", "log, of two slots", "home", "34", "N - 1", "33", "N", "2^32 - 1"))
     + prefixed("put: ", ("34", "N - 1", "33", "N", "2^32 - 1", "adds", "adds the 32nd", "replaces", "replaces, 32 open", "block short",
                          "block long"))

@@ -1,6 +1,6 @@
 """Demands 2 and 3 in document 01's words, over the torn cut of W-204, on the C library itself: beside a list of calls from a format
 answering 0 stand the plain disk, the log written, the old and the new disk of a sync cut short, and the groups laid. Of the card it reads
-what the library left there."""
+what the library left there. By W-205 a later format is refused exactly where the log written is not empty, and the list goes on."""
 from plain import BLOCK, DOWN, FIRST_DATA, OPEN, SLOTS, ZERO, Plain
 from model import fnv
 
@@ -36,7 +36,7 @@ class Witness:
         self.plain = Plain(lent["settled"].length // BLOCK)
         self.written, self.waiting_header, self.expected = [], None, []
         self.old, self.short, self.excepted, self.events = {}, None, False, []
-        self.groups, self.torn = 0, set()
+        self.groups, self.saved, self.behind = 0, False, set()
 
     # ---- what the library left
 
@@ -67,6 +67,8 @@ class Witness:
             self.stood, self.entries = self.log(self.n if self.mode == OPEN else 0), self.group() if self.mode == OPEN else []
 
     def after(self, call, arguments, outcome):
+        if call == "format":
+            return self.formatted(outcome[0])
         same = True
         if call == "cut" and outcome[0] == 0:
             must(self.plain.refusal(call, arguments) == 0, "the plain disk refuses it")
@@ -84,6 +86,7 @@ class Witness:
             self.refused(arguments[0])
         self.compare_record()
         self.judge(call, outcome)
+        self.saved = call == "sync" and answer == 0 and len(self.entries) > 0
 
     def compare_record(self):
         for field in ("mode", "power", "waiting"):
@@ -91,6 +94,25 @@ class Witness:
         if self.plain.mode == OPEN:
             must(self.record("n") == self.plain.n, "the plain disk's n is %d", self.plain.n)
             must(self.save() == self.plain.laid, "the plain disk has %d groups laid, the save number is %d", self.plain.laid, self.save())
+
+    # ---- a format in the list
+
+    def formatted(self, answer):
+        """Refused, it leaves the plain disk and all that stands here; else another list begins."""
+        expected = 13 if self.written else 0
+        must(answer == expected, "the log written has %d entries: a format must answer %d", len(self.written), expected)
+        self.events.append("format in a history: %d, %s" % (answer, self.where()))
+        if answer:
+            self.compare_record()
+            self.behind.add("refused format")
+
+    def where(self):
+        """What the card is like where the format comes."""
+        if self.mode == DOWN:
+            return "down"
+        if not self.written:
+            return "after an apply" if self.groups else "as format left it"
+        return "a fallback to come" if self.plain.F else "right after a sync" if self.saved else "a log"
 
     # ---- the log written
 
@@ -143,7 +165,7 @@ class Witness:
             if fates[place] == "kept":
                 self.written = listed
         self.waiting_header = None
-        self.torn.update(self.block_torn(i) for i, fate in enumerate(fates) if fate == "torn")
+        self.behind.update("torn " + self.block_torn(i) for i, fate in enumerate(fates) if fate == "torn")
         previous, count = (self.lent["settled"].number(at) for at in (8, 12))
         found = self.log(count)
         same = found == self.written
@@ -193,8 +215,8 @@ class Witness:
             self.compare_disk(*((self.short.new, "new") if new else (self.old, "old")))
             which = "new" if new else "old, by a fallback" if outcome[1] else "old"
             self.compare_number(which)
-            self.events += ["behind a torn %s: %s" % (kind, which) for kind in self.torn]
-            self.torn = set()
+            self.events += ["behind a %s: %s" % (what, which) for what in self.behind]
+            self.behind = set()
         if call in ("sync", "recover") and answer == 0:
             self.old, self.short = dict(self.plain.S), None
 

@@ -3,8 +3,8 @@ stands, and holds all that its call needs, so that a list of steps can be made a
 from collections import namedtuple
 
 import marks
-from madeup import CARD_FAULTS, RECORD_FAULTS, TOP
-from model import BLOCK, CLOSED, COSTS, DOWN, FIRST_DATA, OPEN, RECORD, SLOTS, WAITING, WORK
+from madeup import CARD_FAULTS, RECORD_FAULTS, TOP, UNUSED
+from model import BLOCK, CLOSED, COSTS, DOWN, FIRST_DATA, OPEN, RECORD, SLOTS, WAITING, WORK, fresh
 
 # odd: pairs of a lent buffer's name and another length for it.
 Step = namedtuple("Step", "call arguments odd", defaults=((), ()))
@@ -93,7 +93,7 @@ class History:
         return Step(call, arguments(self.chance, call, self.bench, self.blocks))
 
     def any(self):
-        call = self.chance.choice(NINE + COSTS + ("tally", "alike"))
+        call = self.chance.choice(NINE + COSTS + ("format", "tally", "alike"))
         if call == "alike":
             return [Step(call, other_card(self.chance, self.blocks, self.blocks in LARGE_SIZES))]
         return [self.step(call)]
@@ -108,7 +108,8 @@ class History:
             return self.any()
         if kind < 0.9 and (self.bench.rec().grouped == 0 or chance.random() < 0.15):
             return self.many() if chance.random() < 0.2 else self.few()
-        return [self.step("power"), *self.asked(chance.choice(("sync", "sync", "sync", "apply")))]
+        call = chance.choice(("sync", "sync", "sync", "apply"))
+        return [self.step("power"), *self.asked(call), *([Step("format")] if chance.random() < 0.05 else [])]
 
     def asked(self, call):
         """A call that gives orders; before half of them comes its inquiry, as firmware makes it."""
@@ -131,7 +132,10 @@ class History:
         return [Step("put", put) for put in self.group] + [Step("commit")]
 
     def when_closed(self):
-        if self.chance.random() < 0.25:
+        kind = self.chance.random()
+        if kind < 0.03:
+            return [Step("format")]
+        if kind < 0.28:
             return self.any()
         return [Step("power", (self.chance.choice((0, 1, 2, 3, 1000)),)), *self.asked("recover")]
 
@@ -142,16 +146,20 @@ class History:
 
 
 def lived(chance, bench, large):
-    """A history from a format that answers 0."""
+    """A history from a format that answers 0, whatever the record holds before it. A later format is refused, or begins another history."""
     blocks = size(chance, large)
     history = History(chance, bench, blocks)
-    yield Step("make", (blocks, chance.randrange(1 << 32), ()))
+    faults = chance.choice(RECORD_FAULTS), chance.choice(UNUSED)
+    yield Step("make", (blocks, chance.randrange(1 << 32), tuple(fault.__name__ for fault in faults)))
     yield Step("format")
+    if bench.rec() != fresh(blocks):
+        return  # refused, by a planted fault
     for _ in range(8 if large else 60):
         yield from history.steps()
     if large:
         yield Step("tally")
         yield Step("alike", ("laid", (), "second"))
+        yield Step("format")
 
 
 # ---- made-up records and cards
@@ -192,7 +200,10 @@ def made_up(chance, bench, large):
     pool = chance.choice((RECORD_FAULTS, RECORD_FAULTS, CARD_FAULTS, RECORD_FAULTS + CARD_FAULTS))
     yield Step("make", (blocks, chance.randrange(1 << 32), tuple(fault.__name__ for fault in chance.sample(pool, count))))
     calls = chance.choices(NINE + COSTS + ("sync", "tally", "alike"), k=chance.randint(2, 12))
-    for call in calls + ["cut", "cut", "recover_cost", "recover"] + (["format"] if chance.random() < 0.3 else []):
+    calls += ["cut", "cut", "recover_cost", "recover"]
+    for _ in range(chance.choice((0, 0, 1, 2))):
+        calls.insert(chance.randint(len(calls) // 2, len(calls)), "format")
+    for call in calls:
         if call == "alike":
             given = other_card(chance, blocks, large)
         else:

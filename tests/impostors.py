@@ -1,9 +1,11 @@
 """Faults for the model, to see that the lockstep bites: those of document 01's "Faults to keep out", two of the save number, three of
-the inquiries, and those of a torn cut, two of which are faults of the plain disk and of the witness that feeds it."""
+the inquiries, those of a torn cut, two of which are faults of the plain disk and of the witness that feeds it, and those of a format that
+meets a card in use, one of which is a fault of the bench."""
 from contextlib import contextmanager
 from dataclasses import replace
 
 import model
+from bench import Bench
 from crash import Witness
 from model import BLOCK, EMPTY_SUM, ENTRY
 from plain import Plain
@@ -142,22 +144,87 @@ def before_tearing(self, fates):
     return same or [(model.number(block(1), 4 * i), block(2 + i)) for i in range(settled.number(12))] == self.written
 
 
+# ---- a format of a card in use
+
+def before_lengths(call, lent, arguments=()):
+    """13 comes before 1"""
+    used = call == "format" and len(lent[1]) >= BLOCK and model.in_use(lent[1])
+    return (13,) if used else real_c_call(call, lent, arguments)
+
+
+def any_card(settled):
+    """a format refuses a foreign card with n above 0"""
+    return model.read_header(settled)[3] > 0
+
+
+def by_previous(settled):
+    """a format goes by p instead of n"""
+    return real_in_use(settled) and model.read_header(settled)[2] > 0
+
+
+def without_count(settled):
+    """a format refuses a card with n = 0"""
+    return not any(model.foreign(len(settled) // BLOCK, model.read_header(settled)))
+
+
+def without_save(settled):
+    """a format does not look at the save number"""
+    head = model.read_header(settled)
+    return head[3] > 0 and not any(model.foreign(len(settled) // BLOCK, (*head[:6], 1)))
+
+
+def with_good_list(settled):
+    """a format refuses no card on which recover would answer 9"""
+    return real_in_use(settled) and model.chosen(settled)[0] == 0
+
+
+def with_found_list(settled):
+    """a format refuses no card on which recover would fall back to nothing"""
+    return real_in_use(settled) and model.chosen(settled) != (0, [])
+
+
+def records_blocks(call, rec, settled, *more, **named):
+    """a format goes by the record's N"""
+    answer = real_cause(call, rec, settled, *more, **named)
+    if call != "format" or answer == 1:
+        return answer
+    head = model.read_header(settled)
+    return 13 if head[3] > 0 and not any(model.foreign(rec.blocks, head)) else 0
+
+
+def clears_waiting(rec, settled, waiting, work):
+    """a format clears the waiting bytes and then refuses"""
+    answer, left = real_format(rec, settled, waiting, work)
+    if answer == 13:
+        waiting[:] = bytes(len(waiting))
+    return answer, left
+
+
+def begins_again(self, step, outcome):
+    """the plain disk begins again at a format that is refused"""
+    real_follow(self, step, (0,) if step.call == "format" and outcome[0] == 13 else outcome)
+
+
 real_get, real_recover, real_unnumbered = model.get, model.recover, model.unnumbered
 real_sync_cost, real_apply_cost, real_recover_cost = model.sync_cost, model.apply_cost, model.recover_cost
 real_tear, real_wrong_marks, real_cut = model.tear, model.wrong_marks, Witness.cut
+real_c_call, real_in_use, real_cause, real_format, real_follow = model.c_call, model.in_use, model.cause, model.format, Bench.follow
 
 # What each replaces: the function of its name in the model, unless a pair says otherwise.
 TORN = {oldest_wins: (model, "tear"), newest_alone: (model, "tear"), next_write: (model, "tear"), oldest_write: (model, "tear"),
         next_byte: (model, "tear"), first_mark: (model, "tear"), any_mark: (model, "tear"), torn_header: (model, "wrong_marks"),
         torn_older_header: (model, "wrong_marks"), mark_for_each: (model, "wrong_marks"), unlike: (Plain, "wrong_marks"),
         before_tearing: (Witness, "cut")}
-IMPOSTORS = (checkpoint, log_sum, choice, get, recover, unnumbered, sync_cost, apply_cost, recover_cost, *TORN)
+USED = {before_lengths: (model, "c_call"), any_card: (model, "in_use"), by_previous: (model, "in_use"), without_count: (model, "in_use"),
+        without_save: (model, "in_use"), with_good_list: (model, "in_use"), with_found_list: (model, "in_use"),
+        records_blocks: (model, "cause"), clears_waiting: (model, "format"), begins_again: (Bench, "follow")}
+IMPOSTORS = (checkpoint, log_sum, choice, get, recover, unnumbered, sync_cost, apply_cost, recover_cost, *TORN, *USED)
 
 
 @contextmanager
 def planted(impostor):
-    """The model, the plain disk or the witness with one of its functions replaced."""
-    owner, name = TORN.get(impostor, (model, impostor.__name__))
+    """The model, the plain disk, the witness or the bench with one of its functions replaced."""
+    owner, name = {**TORN, **USED}.get(impostor, (model, impostor.__name__))
     real = getattr(owner, name)
     setattr(owner, name, impostor)
     try:

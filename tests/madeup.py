@@ -41,7 +41,7 @@ class Made:
         self.queued = chance.choice((few(chance, SLOTS), few(chance, SLOTS), PLACES)) if self.mode == DOWN else 0
         self.count = chance.choice((self.logged, few(chance, SLOTS)))
         self.previous = min(self.count, few(chance, SLOTS))
-        self.version, self.header_blocks, self.flips, self.one_sum = FORMAT, blocks, [0, 0], False
+        self.version, self.header_blocks, self.flips, self.one_sum, self.bare = FORMAT, blocks, [0, 0], False, False
         self.save = 0 if self.previous == self.count and chance.random() < 0.3 else save_number(chance)
         self.record_save = chance.choice((0, self.save, save_number(chance), save_number(chance)))
         self.list_addresses(room)
@@ -90,7 +90,8 @@ class Made:
         sums = [log_sum(log(self.settled, min(n, SLOTS))) ^ flip for n, flip in zip((self.previous, self.count), self.flips)]
         if self.one_sum:
             sums[0] = sums[1]
-        struct.pack_into("<4I3Q", self.settled, 0, self.version, self.header_blocks, self.previous, self.count, *sums, self.save)
+        if not self.bare:
+            struct.pack_into("<4I3Q", self.settled, 0, self.version, self.header_blocks, self.previous, self.count, *sums, self.save)
         total = self.chance.choice((EMPTY_SUM, sums[1], self.chance.randrange(2**64)))
         rec = Record(self.mode, self.N, self.opened, self.grouped, self.logged, self.queued, self.power, total, self.record_save)
         return bytearray(encode(rec)), self.settled, self.waiting, self.work
@@ -127,7 +128,9 @@ def waiting_unless_down(made):
 
 
 def other_blocks(made):
+    """The header has the same one, or the card's."""
     made.N = made.chance.choice((made.blocks - 1, made.blocks + 1, 0, FIRST_DATA, TOP))
+    made.header_blocks = made.chance.choice((made.N, made.blocks))
 
 
 def place(made, count, limit):
@@ -231,12 +234,34 @@ def stray_in_list(made):
     made.log_at(place(made, made.count, SLOTS), made.stray())
 
 
+# ---- cards that a format takes, with those that are foreign
+
+def zeros(made):
+    made.settled, made.bare = bytearray(len(made.settled)), True
+
+
+def any_bytes(made):
+    made.bare = True
+
+
+def empty_log(made):
+    made.previous = made.count = 0
+
+
+def empty_unsound(made):
+    """No entries, and neither sum is that of none: recover would answer 9."""
+    empty_log(made)
+    neither_sum(made)
+    made.save = save_number(made.chance)
+
+
 RECORD_FAULTS = (mode, open_count, group_count, log_count, waiting_count, waiting_unless_down, other_blocks, open_address, group_address,
                  log_address, waiting_address, twice_in_open, twice_in_group, few_blocks, few_blocks, few_blocks,
                  last_save)
 CARD_FAULTS = (card_format, card_blocks, card_count, card_previous, sum_of_count, sum_of_count, sum_of_previous, neither_sum, stray_in_list,
                no_save_counts, no_save_sums)
-FAULTS = {fault.__name__: fault for fault in RECORD_FAULTS + CARD_FAULTS}
+UNUSED = (zeros, any_bytes, empty_log, empty_unsound, card_format, card_blocks, card_count, card_previous, no_save_counts, no_save_sums)
+FAULTS = {fault.__name__: fault for fault in RECORD_FAULTS + CARD_FAULTS + UNUSED}
 
 
 def made(blocks, seed, faults):

@@ -1,5 +1,5 @@
-"""Document 01's twelve calls, with W-201, the three inquiries of W-202 and the torn cut of W-204 of document 02, on plain Python values,
-written from the papers and not from the code of the crates.
+"""Document 01's twelve calls, with W-201, the three inquiries of W-202, the torn cut of W-204 and the refusal of W-205 of document 02, on
+plain Python values, written from the papers and not from the code of the crates.
 
 Buffers are bytearrays. A call of the ten returns its number and the record that it leaves; sync, apply and recover their orders
 between. An inquiry returns its number and its four figures, tally and alike their number and what they found. `c_call` is any of the
@@ -96,6 +96,12 @@ def foreign(blocks, head):
     yield from filter(None, [unnumbered(*head[2:])])
 
 
+def in_use(settled):
+    """W-205: recover would not call the card foreign, and the header's count is above 0. N is the buffer's."""
+    head = read_header(settled)
+    return head[3] > 0 and not any(foreign(len(settled) // BLOCK, head))
+
+
 def choice(blocks, settled):
     """What a recovery comes to: its number, the count and the sum of the list taken, whether it falls back, and the number found."""
     head = read_header(settled)
@@ -170,7 +176,7 @@ def cause(call, rec, settled, waiting, work, address=None, block=None, marks=Non
     if len(waiting) != WAITING or len(work) != WORK or (call == "put" and len(block) != BLOCK):
         return 1
     if call == "format":
-        return 0
+        return 13 if in_use(settled) else 0
     if wrong_record(rec, settled, waiting, work):
         return 2
     if call == "power":

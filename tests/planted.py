@@ -1,9 +1,9 @@
 """Plants faults in a copy of the archive's source, one at a time, and shows that the lockstep finds each.
 
 The copy is compiled without proof: Rattle's code is Rust's but for the clauses of contracts, which are left out, and rustc builds the
-shared object. First the copy without a fault must run like the archive. Those that break demand 2 or 3, or what W-202 says of an inquiry,
-are also to be found by the plain disk, the old and new disks and the library's own calls alone, with nothing compared to the model. Not
-a part of the gate, since it needs rustc."""
+shared object. First the copy without a fault must run like the archive. Those that break demand 2 or 3, what W-202 says of an inquiry or
+what W-205 says of a format in a history are also to be found by the plain disk, the log written, the old and new disks and the library's
+own calls alone, with nothing compared to the model. Not a part of the gate, since it needs rustc."""
 import re
 import shutil
 import subprocess
@@ -63,6 +63,24 @@ FAULTS = (
           "let number = self.not_open(settled, waiting, work);\nif number != 0 && number != 4", True),
     Fault("a recovery's inquiry always has two orders", "store/cost", "self.cost(0, false, self.waiting),", "self.cost(2, false, self.waiting + 1),",
           True),
+    Fault("a format of a card in use is served", "store/refusals", "if in_use(settled, blocks_in(settled) as u32)", "if false", True),
+    Fault("13 comes before 1", "store/refusals", "if wrong_sizes(settled, waiting, work) {", "if 512 <= settled.len() && in_use(settled, "
+          "blocks_in(settled) as u32) {\nreturn 13;\n}\nif wrong_sizes(settled, waiting, work) {"),
+    Fault("a format refuses a foreign card", "journal/choice", "if is_foreign(head, blocks)", "if is_foreign(head, blocks) && head.count == 0"),
+    Fault("a format goes by p instead of n", "journal/choice", "0 < head.count", "0 < head.previous", True),
+    Fault("a format refuses a card with n = 0", "journal/choice", "0 < head.count", "true", True),
+    Fault("a format of a card with n = 1 is served", "journal/choice", "0 < head.count", "1 < head.count", True),
+    Fault("a format refuses only if the n entries are good", "journal/choice", "0 < head.count",
+          "0 < head.count && good(settled, blocks, head.count, head.sum)", True),
+    Fault("a format refuses only if a list is good", "journal/choice", "0 < head.count", "0 < head.count\n"
+          "&& (good(settled, blocks, head.count, head.sum) || good(settled, blocks, head.previous, head.presum))"),
+    Fault("a format goes by the record's N", "store/format", "let number = format_number(settled, waiting, work);",
+          "let mut number = format_number(settled, waiting, work);\nif number != 1 {\n"
+          "number = if journal::choice::in_use(settled, self.blocks) { 13 } else { 0 };\n}"),
+    Fault("a format clears the waiting bytes and then refuses", "store/format", "if number != 0 {", "if number != 0 {\nif number == 13 {\n"
+          "zero(waiting);\n}", True),
+    Fault("a format that refuses leaves a fresh record", "store/format", "return self.answer(number);",
+          "return Record::fresh((settled.len() / 512) as u32).answer(number);", True),
     Fault("the table of multiples has a wrong entry", "fnv/product", "2175,", "2176,"),
     Fault("the product loses the carry between its halves", "fnv/product", "half(&table, a % 4294967296)",
           "(half(&table, a % 4294967296) % 4294967296)"),

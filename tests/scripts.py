@@ -84,23 +84,28 @@ def cut(marks):
 
 
 def random_lines(chance, bench):
-    """A save that may be cut short, a cut, a recovery that may be cut short, and calls that may be refused."""
+    """A save that may be cut short, a cut, a recovery that may be cut short, calls that may be refused, and formats: some on a card in use,
+    some behind an apply."""
     address = lambda: chance.randrange(34, 64)
+    perhaps = lambda share, *lines: lines if chance.random() < share else ()
     for _ in range(chance.randrange(1, 14)):
         yield "put\t%d\t%d" % (address(), chance.randrange(256))
     yield chance.choice(["commit", "commit", "commit", "abandon"])
     yield chance.choice(["put\t%d\t1" % chance.randrange(30, 68), "get\t%d" % chance.randrange(30, 68), "recover", "cut\t1", "commit"])
     yield "power\t%d" % chance.choice([chance.randrange(14), chance.randrange(50), 1000, 1000])
     yield chance.choice(["sync", "sync", "sync", "apply"])
+    yield from perhaps(0.2, "format")
     for _ in range(chance.randrange(3)):
         marks = "".join(chance.choice(["0", "1", "1", "1"]) for _ in range(bench.rec.waiting))
         if chance.random() < 0.2:
             yield cut(chance.choice([marks[1:], marks + "1", marks[1:] + "2", "9" + marks[1:]]))
         yield cut(marks)
+        yield from perhaps(0.2, "format")
         yield "power\t%d" % chance.choice([0, 1, 2, 1000])
         yield "recover"
     for _ in range(4):
         yield "get\t%d" % address()
+    yield from perhaps(0.2, "power\t1000", "apply", "format")
 
 
 def random_script(seed):
@@ -118,6 +123,8 @@ EDGES = [b"", b"\n", b"\n\n", b"format", b"format\n", b"format\t\n", b"formats\n
          b"power\t4294967296\n", b"power\t0000000001\n", b"power\t00000000001\n", b"power\t\n", b"power\t-1\n", b"put\t40\t255\n",
          b"put\t40\t256\n", b"put\t40\n", b"put\t40\t1\t2\n", b"get\t40\n", b"tally\n", b"sync_cost\n", b"x" * 80 + b"\n", b"x" * 81 + b"\nsync\n",
          b"format\nput\t40\t7\ncommit\npower\t3\nsync\ncut\ncut\t11\ncut\t1111\ncut\t112\ncut\t911\ncut\t111\nrecover\nget\t40\n",
+         b"format\nformat\n" + b"put\t40\t7\ncommit\npower\t3\nsync\n" + b"format\n" + b"put\t40\t7\ncommit\npower\t3\nsync\n"
+         + b"cut\t011\nformat\npower\t9\nrecover\nget\t40\nformat\n",
          b"format\n" + b"get\t40" * 100 + b"\nget\t40\n", b"format\nget\t33\nget\t34\nget\t63\nget\t64\n", b"\0\n", b"format\x00\n", b"\xff\xfe\n"]
 
 
@@ -141,11 +148,14 @@ for example in sorted((ROOT / "examples/scripts").glob("*.script")):
     same(example.name, example.read_bytes(), example.with_suffix(".out").read_bytes())
 for edge in EDGES:
     same("the script %r" % edge[:40], edge, transcript(edge))
+refused = 0
 for seed in range(RANDOM):
     script = random_script(seed)
-    same("random script %d" % seed, script, transcript(script))
+    expected = transcript(script)
+    same("random script %d" % seed, script, expected)
+    refused += expected.count(b"format\t13\t0\n")
 long_input("a line of 4 MiB", [b"a" * (1 << 20)] * 4 + [b"\nsync\n"], [b"bad\t11\t0\nsync\t3\t0\n"])
 LINES, CHUNKS = 1000, 50 * (1 << 20) // (81 * 1000) + 1
 long_input("an input of 50 MiB", [(b"cut\t" + b"1" * 76 + b"\n") * LINES] * CHUNKS, [b"cut\t10\t0\n" * LINES] * CHUNKS)
-print("scripts: the examples, %d edges, %d random scripts, a line of 4 MiB and %d MiB of lines print what they must"
-      % (len(EDGES), RANDOM, CHUNKS * LINES * 81 >> 20))
+print("scripts: the examples, %d edges, %d random scripts with %d formats refused, a line of 4 MiB and %d MiB of lines print what they must"
+      % (len(EDGES), RANDOM, refused, CHUNKS * LINES * 81 >> 20))

@@ -2,7 +2,8 @@
  * loses power in that sync at every order with every set of kept writes, and behind its last write with each write but the header torn at
  * each of its bytes; recovers, and checks that the three are found together, all old or all new, under the number of their save; and
  * saves them once the battery reaches. Prints a line for each inquiry, one for each order and two for each write that is torn, with how
- * often each save was found, and two with the totals. */
+ * often each save was found, and two with the totals. Last the card is at the service counter: a format turns it down and leaves it, until
+ * it is given up. */
 #include <stdio.h>
 #include <stdlib.h>
 #include <string.h>
@@ -174,6 +175,28 @@ static uint32_t ask_and_save(struct card *c, uint32_t battery)
     return orders;
 }
 
+/* A format by habit: whether it turns the card down, and leaves the record and every lent byte. */
+static int turned_down(struct card *c)
+{
+    static struct card before;
+    before = *c;
+    uint32_t answer = trapcard_format(CARD(c));
+    if (answer != TRAPCARD_ERR_IN_USE || memcmp(c, &before, sizeof before) != 0 || value(c) != NEW) {
+        printf("format answered %u, or wrote a byte\n", answer);
+        return 0;
+    }
+    printf("format turned down: the card is in use, and save %llu is still there\n", (unsigned long long)trapcard_save(c->record));
+    return 1;
+}
+
+/* On purpose: with zeros over block 0 the card is foreign, and what it held is lost. */
+static void give_up(struct card *c)
+{
+    memset(c->settled, 0, TRAPCARD_BLOCK);
+    must(trapcard_format(CARD(c)), "format");
+    printf("formatted once given up: save number %llu, every block of value %d\n", (unsigned long long)trapcard_save(c->record), value(c));
+}
+
 int main(void)
 {
     static struct card c;
@@ -185,5 +208,8 @@ int main(void)
     if (!all_whole(&c, orders) || !all_whole_torn(&c, orders - 1))
         return 1;
     ask_and_save(&c, orders);
+    if (!turned_down(&c))
+        return 1;
+    give_up(&c);
     return 0;
 }

@@ -161,7 +161,7 @@ low-singles [] = refl
 low-singles (true ∷ ks) = low-singles ks
 low-singles (false ∷ ks) = low-singles ks
 
-marksOf-fit : (ks : List Bool) (q : List Entry) → length ks ≡ length q → marksFit (marksOf ks) q ≡ true
+pub marksOf-fit : (ks : List Bool) (q : List Entry) → length ks ≡ length q → marksFit (marksOf ks) q ≡ true
 unfolding marksOf
 marksOf-fit ks q h = spread-fits (singles ks) q ∙ rw (low-singles ks, length-map, eq-eqb _ _ h)
 

@@ -3,5 +3,7 @@ pub mod Refusals
 pub mod Cuts
 pub mod Costs
 pub mod FaceRefusals
+pub mod Formats
+pub mod Guards
 pub mod Links
 pub mod Scripts

@@ -1,5 +1,5 @@
--- The theorems about histories. Their types stand in specs/Statements.antt, specs/Refusals.antt, specs/Cuts.antt, specs/Costs.antt, specs/Dispatch.antt,
--- specs/Linked.antt and specs/Scripts.antt.
+-- The theorems about histories. Their types stand in specs/Statements.antt, specs/Refusals.antt, specs/Cuts.antt, specs/Formats.antt, specs/Costs.antt,
+-- specs/Dispatch.antt, specs/Linked.antt and specs/Scripts.antt.
 use Prim.Native.Nat.{ℕ}
 use mathlib.Core.Path.{_≡_, refl, ap, sym, _∙_}
 use mathlib.Core.Logic.{_≢_, _⊎_}
@@ -27,6 +27,7 @@ use Rattle.history.specs.History.{World, begun, after, foundWritten}
 use Rattle.history.specs.Statements.{Sound, Safety, FallbackNumbered, Refinement, ReadBack, WrittenSummed, Logged, Written, CrashAtomicity}
 use Rattle.history.specs.Refusals.{Refusals}
 use Rattle.history.specs.Cuts.{AllCuts, AllMixtures}
+use Rattle.history.specs.Formats.{AllFormats}
 use Rattle.history.specs.Costs.{Costs}
 use Rattle.history.specs.Linked.{Linked}
 use Rattle.history.specs.Scripts.{ScriptsAreHistories}
@@ -43,6 +44,8 @@ use Rattle.history.proofs.Atomicity.Splits as Atomicity
 use Rattle.history.proofs.Boundary.Refusals as RefusalsProof
 use Rattle.history.proofs.Boundary.Cuts as CutsProof
 use Rattle.history.proofs.Boundary.FaceRefusals as FaceRefusals
+use Rattle.history.proofs.Boundary.Formats as FormatsProof
+use Rattle.history.proofs.Boundary.Guards as Guards
 use Rattle.history.proofs.Boundary.Costs as CostsProof
 use Rattle.history.proofs.Boundary.Links as Links
 use Rattle.history.proofs.Boundary.Scripts as ScriptsProof
@@ -162,6 +165,16 @@ module _ (geo : Geometry) where
 
   pub all-mixtures : AllMixtures geo
   all-mixtures = CutsProof.all-mixtures geo
+
+  -- ---- Format
+
+  pub all-formats : AllFormats geo
+  all-formats = record {
+    any = FormatsProof.any geo;
+    begins = Guards.begins geo;
+    guards = λ st h cs. Guards.guards geo (after geo cs (begun geo st)) (after-safe geo cs (begun geo st) (begun-safe geo st h));
+    guards-plain = λ st h cs e. Guards.guards-plain geo (after geo cs (begun geo st)) (after-sim geo cs (begun geo st) (begun-sim geo st h) e);
+  }
 
   -- ---- What a call will take
 

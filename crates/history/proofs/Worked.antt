@@ -4,6 +4,7 @@ pub mod Card
 pub mod Plain
 pub mod Sync
 pub mod Blank
+pub mod Formats
 pub mod TornMarks
 pub mod Second
 pub mod Both

@@ -6,6 +6,7 @@ pub mod Ledger
 pub mod History
 pub mod Statements
 pub mod Cuts
+pub mod Formats
 pub mod Scripts
 pub mod Refusals
 pub mod Costs

@@ -2,13 +2,15 @@
 -- statements speak of scripts too.
 use Prim.Native.Nat.{ℕ}
 use mathlib.Core.Path.{_≡_}
-use mathlib.Core.Bool.{cond}
+use mathlib.Core.Logic.{_⊎_}
+use mathlib.Core.Bool.{Bool, true, false, cond, not, _&&_}
 use mathlib.Core.List.{List, [], _∷_, _++_}
 use lib.Dec.{eqb}
 use lib.ListN.{getD, replicate}
 use Rattle.cells.specs.Entry.{blockBytes}
 use Rattle.store.specs.Request as Request
 use Rattle.store.specs.State.{State}
+use Rattle.store.specs.Outcomes.{refused}
 use Rattle.store.specs.Format.{formatCall}
 use Rattle.script.specs.declared.command.Command.{Command}
 use Rattle.script.specs.declared.command.Command.the-variants.{Format, Power, Put, Get, Commit, Abandon, Sync, Apply, Recover, Cut, Bad}
@@ -19,7 +21,7 @@ use Rattle.script.specs.Transcript.{linesOf, reply, printed, said, beginning, t
 use Rattle.journal.specs.Geometry.{trap}
 use Rattle.history.specs.Call.{Call, local, save, cut, power, put, get, commit, abandon, sync, apply, recover, ofGet}
 use Rattle.history.specs.Dispatch.{called, dispatch, blockOf}
-use Rattle.history.specs.History.{World, begun, next}
+use Rattle.history.specs.History.{World, begun, next, after}
 
 -- ---- a line
 
@@ -78,10 +80,10 @@ unfoldable pub leftAfter : List (List ℕ) → State → State
 leftAfter [] st = st
 leftAfter (l ∷ ls) st = leftAfter ls (reply l st .state)
 
--- a line along a list of calls: a format begins another
+-- a line along a list of calls: a format that answers 0 begins another; one that is turned down (W-205) leaves everything
 abbrev pub worldBy : Says → World → World
 worldBy nothing w = w
-worldBy begins w = begun trap (w .store)
+worldBy begins w = cond (eqb (called trap Request.format (w .store) .answer) 0) (begun trap (w .store)) w
 worldBy (asks c) w = next trap c w
 
 -- what lines print so
@@ -89,12 +91,34 @@ unfoldable pub told : List (List ℕ) → World → List ℕ
 told [] w = []
 told (l ∷ ls) w = lineOf (says l) (parse l) (w .store) ++ told ls (worldBy (says l) w)
 
--- For every input: a format always answers 0, and what the lines behind it print is what their calls come to along the list of calls
--- that begins with it, up to the next format, which begins another
+-- the world behind some lines
+unfoldable pub worldAfter : List (List ℕ) → World → World
+worldAfter [] w = w
+worldAfter (l ∷ ls) w = worldAfter ls (worldBy (says l) w)
+
+-- no line says format
+abbrev pub isFormat : Says → Bool
+isFormat nothing = false
+isFormat begins = true
+isFormat (asks c) = false
+
+unfoldable pub noFormat : List (List ℕ) → Bool
+noFormat [] = true
+noFormat (l ∷ ls) = not (isFormat (says l)) && noFormat ls
+
+-- what a list of calls left, from a format answering 0
+abbrev pub Lists : World → Type 0
+Lists w = (st : State) × (cs : List Call) × (formatCall trap st .answer ≡ 0) × (w ≡ after trap cs (begun trap st))
+
+-- For every input: a format answers 0 or, W-205, is turned down as 13, and the first answers 0. Behind one that answers 0 the lines print
+-- what their calls come to along the list of calls that begins with it, up to the next such format, which begins another: at every line the
+-- world is that of a list of calls
 pub record ScriptRun (ls ms : List (List ℕ)) : Type 0 where
-  pub formats : formatCall trap (leftAfter ls beginning) .answer ≡ 0
-  pub prints : (f : List ℕ) → parse f ≡ Format → (input : List ℕ) → linesOf input ≡ ls ++ (f ∷ ms)
+  pub formats : (formatCall trap (leftAfter ls beginning) .answer ≡ 0) ⊎ (formatCall trap (leftAfter ls beginning) ≡ refused 13 (leftAfter ls beginning))
+  pub first : noFormat ls ≡ true → formatCall trap (leftAfter ls beginning) .answer ≡ 0
+  pub prints : (f : List ℕ) → parse f ≡ Format → formatCall trap (leftAfter ls beginning) .answer ≡ 0 → (input : List ℕ) → linesOf input ≡ ls ++ (f ∷ ms)
       → transcript input ≡ said ls beginning ++ (answerLine Format 0 0 ++ told ms (begun trap (leftAfter ls beginning)))
+  pub lists : formatCall trap (leftAfter ls beginning) .answer ≡ 0 → Lists (worldAfter ms (begun trap (leftAfter ls beginning)))
 
 abbrev pub ScriptsAreHistories : Type 0
 ScriptsAreHistories = (ls ms : List (List ℕ)) → ScriptRun ls ms

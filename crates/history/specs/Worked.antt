@@ -1,6 +1,6 @@
 -- "Around it", document 01's two worked scripts on a card of 64 blocks, as lists of calls: "format / put 40 7 / commit / sync / put 40 9 /
 -- commit / power 3 / sync / cut 101 / power 100 / recover / get 40", and the same with cut 111. W-204: and the same with cuts that tear the log
--- block, the descriptor, or the header, which is refused.
+-- block, the descriptor, or the header, which is refused. W-205: and a format in the midst of them.
 use Prim.Native.Nat.{ℕ, _+_}
 use mathlib.Core.Path.{_≡_}
 use mathlib.Core.Bool.{Bool, true, false}
@@ -10,10 +10,11 @@ use Rattle.cells.specs.Entry.{blockBytes, Entry}
 use Rattle.card.specs.Card.{blocksIn}
 use Rattle.card.specs.Marks.{spread, marksOf}
 use Rattle.store.specs.State.{State}
+use Rattle.store.specs.Outcomes.{refused}
 use Rattle.script.specs.Replies.{marks}
 use Rattle.store.specs.Format.{formatCall}
 use Rattle.journal.specs.Geometry.{trap}
-use Rattle.history.specs.Call.{Call, power, put, get, commit, sync, recover, cut}
+use Rattle.history.specs.Call.{Call, power, put, get, commit, sync, apply, recover, cut}
 use Rattle.history.specs.Dispatch.{dispatch, blockOf}
 use Rattle.history.specs.History.{World, begun, next, after, storeNext, foundWritten, acceptedCut, exception}
 use Rattle.history.specs.Linked.{AllPassable}
@@ -106,7 +107,8 @@ pub record Script (st : State) (ms : List ℕ) (same new all : Bool) (k c : ℕ)
 -- cut 101 loses the new descriptor: another log than the one written, no collision, old, save 1; cut 111 keeps every write: new, save 2. Where
 -- half of the log block is kept: again another log, no collision, old, save 1; where of the descriptor just the byte is kept that is new: the
 -- log written, new, save 2, though not every write was kept. A torn header is refused, and leaves everything. The digits of any line, "0" being
--- byte 48, are spread into the marks of its cut, the first digit's first. There is such a card
+-- byte 48, are spread into the marks of its cut, the first digit's first. W-205: behind the first sync a format is turned down, and behind cut
+-- 101, where the header needs a fallback; behind an apply it is not. There is such a card
 pub record Worked : Type 0 where
   pub lost : (st : State) → formatCall trap st .answer ≡ 0 → blocksIn (st .settled) ≡ 64 → Script st cut101 false false false 2 1 sevens
   pub whole : (st : State) → formatCall trap st .answer ≡ 0 → blocksIn (st .settled) ≡ 64 → Script st cut111 true true true 0 2 nines
@@ -116,4 +118,8 @@ pub record Worked : Type 0 where
       → dispatch trap (cut cutHeader) (metByCut st .store) ≡ record { answer = 10; orders = 0; state = metByCut st .store }
   pub digits : (ds : List ℕ) → marks (cutLine (map (λ d. 48 + d) ds)) ≡ spread ds
   pub spreads : (spread (1 ∷ 0 ∷ 1 ∷ []) ≡ cut101) × (spread (1 ∷ 1 ∷ 1 ∷ []) ≡ cut111) × (spread (1 ∷ 1 ∷ 0 ∷ []) ≡ replicate blockBytes 1 ++ (replicate blockBytes 1 ++ replicate blockBytes 0))
+  pub turned : (st : State) → formatCall trap st .answer ≡ 0 → blocksIn (st .settled) ≡ 64
+      → formatCall trap (after trap filed (begun trap st) .store) ≡ refused 13 (after trap filed (begun trap st) .store)
+  pub fallback : (st : State) → formatCall trap st .answer ≡ 0 → blocksIn (st .settled) ≡ 64 → formatCall trap (metByRecover cut101 st .store) ≡ refused 13 (metByRecover cut101 st .store)
+  pub applied : (st : State) → formatCall trap st .answer ≡ 0 → blocksIn (st .settled) ≡ 64 → formatCall trap (after trap (apply ∷ []) (after trap filed (begun trap st)) .store) .answer ≡ 0
   pub card : (st : State) × (formatCall trap st .answer ≡ 0) × (blocksIn (st .settled) ≡ 64)

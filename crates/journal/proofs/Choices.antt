@@ -6,14 +6,14 @@ use mathlib.Core.Bool.{Bool, true, false, true≢false, false≢true, cond, not,
 use mathlib.Core.List.{List}
 use native.Mathlib.Omega.{arith}
 use borrow.Author.Tests.{eq-eqb, eqb-true, leb-true, not-false}
-use lib.Dec.{eqb}
+use lib.Dec.{eqb, ltb}
 use Rattle.journal.specs.Geometry.{Geometry}
 use Rattle.journal.specs.declared.header.Header.{Header}
 use Rattle.journal.specs.declared.choice.Choice.{Choice}
 use Rattle.journal.specs.declared.choice.Choice.the-variants.{Whole, Fallback, Foreign, Neither}
 use Rattle.journal.specs.Header.{formatNumber}
 use Rattle.journal.specs.Log.{headerOf, entries, good}
-use Rattle.journal.specs.Choice.{unnumbered, foreign, choose, takenCount}
+use Rattle.journal.specs.Choice.{unnumbered, foreign, choose, inUse, choiceNumber, takenCount}
 pub use Rattle.journal.proofs.Logs.{both}
 use Rattle.journal.proofs.Logs.{neither}
 
@@ -84,6 +84,26 @@ module _ (geo : Geometry) where
         → choose geo N s ≡ Neither
     unfolding choose
     choose-neither f n p = rw (← read, f, n, p)
+
+    -- ---- whether a format would wipe out a log
+
+    pub foreign-unused : foreign geo N h ≡ true → inUse geo N s ≡ false
+    unfolding inUse
+    foreign-unused f = rw (← read, f)
+
+    pub ours-used : foreign geo N h ≡ false → inUse geo N s ≡ ltb 0 (h .count)
+    unfolding inUse
+    ours-used f = rw (← read, f)
+
+  -- only a foreign header is refused as 8
+  pub known-chosen : (N : ℕ) (s : List ℕ) → foreign geo N (headerOf s) ≡ false → choiceNumber (choose geo N s) ≢ 8
+  unfolding choose
+  known-chosen N s f = rw f (go (good geo N (entries geo s (headerOf s .count)) (headerOf s .sum)) (good geo N (entries geo s (headerOf s .previous)) (headerOf s .presum)))
+    where
+      go : (n p : Bool) → choiceNumber (cond n (Whole (headerOf s .count) (headerOf s .sum) (headerOf s .save)) (cond p (Fallback (headerOf s .previous) (headerOf s .presum) (headerOf s .save - 1)) Neither)) ≢ 8
+      go true p z = omega arith
+      go false true z = omega arith
+      go false false z = omega arith
 
   -- a list that is taken fits the slots
   pub taken-count : (N : ℕ) (s : List ℕ) → takenCount (choose geo N s) ≤ geo .slots

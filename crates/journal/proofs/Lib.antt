@@ -6,5 +6,6 @@ pub mod Descriptors
 pub mod OrderLists
 pub mod Peaks
 pub mod Choices
+pub mod OurHeaders
 pub mod Phases
 pub mod Cases

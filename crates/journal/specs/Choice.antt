@@ -2,7 +2,7 @@
 use Prim.Native.Nat.{ℕ, _-_}
 use mathlib.Core.Bool.{Bool, cond, not, _&&_, _||_}
 use mathlib.Core.List.{List, []}
-use lib.Dec.{eqb, leb}
+use lib.Dec.{eqb, leb, ltb}
 use Rattle.card.specs.Card.{Order}
 use Rattle.journal.specs.declared.header.Header.{Header}
 use Rattle.journal.specs.declared.choice.Choice.{Choice}
@@ -32,6 +32,10 @@ module _ (geo : Geometry) where
       (cond (good geo N (entries geo s (h .count)) (h .sum)) (Whole (h .count) (h .sum) (h .save))
       (cond (good geo N (entries geo s (h .previous)) (h .presum)) (Fallback (h .previous) (h .presum) (h .save - 1))
       Neither))
+
+  -- W-205: "a card that recover would not call foreign and whose header count is above 0". No list is summed
+  unfoldable pub inUse : ℕ → List ℕ → Bool
+  inUse N s = not (foreign N (headerOf s)) && ltb 0 (headerOf s .count)
 
 -- the number that document 01 gives for each case
 abbrev pub choiceNumber : Choice → ℕ

@@ -6,4 +6,5 @@ pub mod Log
 pub mod Orders
 pub mod Lookup
 pub mod Choice
+pub mod Ours
 pub mod Cases

@@ -9,7 +9,8 @@ ghost use mathlib.Core.Path.{_≡_};
 ghost use Prim.Native.Nat.{_<_};
 ghost use Rattle.card.specs.Card.{blocksIn};
 ghost use Rattle.journal.specs.Geometry.{trap};
-ghost use Rattle.journal.specs.Layout.{firstData};
+ghost use Rattle.journal.specs.Layout.{headerAt, firstData};
+ghost use Rattle.journal.specs.Log.{headerOf};
 ghost use Rattle.journal.specs.Choice as Spec;
 
 // The list that a recovery takes: its count, its sum and its save number.
@@ -52,12 +53,20 @@ fn unnumbered(h: Header) -> bool
     h.presum != h.sum
 }
 
+// The header of a card.
+fn header_of(settled: &[u8]) -> Header
+    requires { ⌜ headerAt < blocksIn (now settled) ⌝ }
+    ensures { λ r. ⌜ r ≡ headerOf (now (settled .entry)) ⌝ }
+{
+    Header::read(read(settled, HEADER_AT))
+}
+
 // The first n entries if they are good, else the first p if they are, one save before. Each list is checked whole before it is taken.
 pub fn choose(settled: &[u8], blocks: u32) -> Choice
     requires { ⌜ firstData trap < blocksIn (now settled) ⌝ }
     ensures { λ r. ⌜ r ≡ Spec.choose trap blocks (now (settled .entry)) ⌝ }
 {
-    let h = Header::read(read(settled, HEADER_AT));
+    let h = header_of(settled);
     if is_foreign(h, blocks) {
         return Choice::Foreign;
     }
@@ -69,4 +78,16 @@ pub fn choose(settled: &[u8], blocks: u32) -> Choice
         return Choice::Fallback(h.previous, h.presum, save);
     }
     Choice::Neither
+}
+
+// Whether a card holds a log that a format would wipe out: its header is not foreign, and its count is above 0.
+pub fn in_use(settled: &[u8], blocks: u32) -> bool
+    requires { ⌜ headerAt < blocksIn (now settled) ⌝ }
+    ensures { λ r. ⌜ r ≡ Spec.inUse trap blocks (now (settled .entry)) ⌝ }
+{
+    let head = header_of(settled);
+    if is_foreign(head, blocks) {
+        return false;
+    }
+    0 < head.count
 }

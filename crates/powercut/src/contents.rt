@@ -5,6 +5,7 @@ use crate::buffers::Waiting;
 use crate::buffers::Work;
 use cells::BLOCK;
 use cells::bytes::same;
+use cells::bytes::zero;
 use journal::FIRST_DATA;
 use store::record::Record;
 ghost use mathlib.Core.Path.{_≡_};
@@ -98,8 +99,9 @@ fn to_save(r: Record, s: &Settled, w: &Waiting, k: &mut Work) -> Record {
     a.rec
 }
 
-// A card whose home blocks all have age 0, and no log.
+// A card whose home blocks all have age 0, and no log. What it held is given up first: a format turns down a card in use.
 fn home(s: &mut Settled, w: &mut Waiting, k: &mut Work) -> Record {
+    zero(s);
     let made = Record::fresh(BLOCKS).format(s, w, k);
     let saved = save(made.rec, s, w, k, FIRST_DATA, DATA, 0);
     let applied = saved.apply(s, w, k);

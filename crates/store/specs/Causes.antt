@@ -14,7 +14,7 @@ use Rattle.journal.specs.declared.lookup.Found.the-variants.{At, Absent}
 use Rattle.journal.specs.Layout.{isData, wrongSize}
 use Rattle.journal.specs.Header.{mostSave}
 use Rattle.journal.specs.Log.{entries, allData}
-use Rattle.journal.specs.Choice.{choose, choiceNumber}
+use Rattle.journal.specs.Choice.{choose, inUse, choiceNumber}
 use Rattle.store.specs.State.{State, closed, openMode, down, cardIn}
 use Rattle.store.specs.Lists.{openFrom, groupFrom, listed, find}
 use Rattle.store.specs.Local as Local
@@ -160,6 +160,12 @@ marksRow ms = record { number = 10; behind = lib.Dec.lit< tt; test = λ st. not 
 abbrev pub lastSaveRow : Row
 lastSaveRow = record { number = 12; behind = lib.Dec.lit< tt; test = λ st. not (eqb (st .rec .grouped) 0) && eqb (st .rec .save) mostSave }
 
+-- ---- 13: W-205: "a card that recover would not call foreign and whose header count is above 0". N is the buffer's: format reads no record
+
+module _ (geo : Geometry) where
+  abbrev pub inUseRow : Row
+  inUseRow = record { number = 13; behind = lib.Dec.lit< tt; test = λ st. inUse geo (blocksIn (st .settled)) (st .settled) }
+
 -- ---- the rows of a call
 
 -- what a call has of the rows that calls share, by what it reads; with it, what its own arguments have wrong in row 1, and the rows that
@@ -171,7 +177,7 @@ pub data Rules : Type 0 where
 
 module _ (geo : Geometry) where
   abbrev pub rules : Request → Rules
-  rules format = ofBytes false []
+  rules format = ofBytes false (inUseRow geo ∷ [])
   rules (local (Local.power k)) = ofRecord false []
   rules (local (Local.put a b)) = ofOpen (not (eqb (length b) blockBytes)) (addressRow geo a ∷ openFullRow geo a ∷ [])
   rules (local (Local.get a)) = ofOpen false (addressRow geo a ∷ [])
@@ -199,7 +205,7 @@ first [] st = 0
 first (r ∷ rs) st = cond (r .test st) (r .number) (first rs st)
 
 module _ (geo : Geometry) where
-  -- "Format checks 1 only; power and cut 1 and 2." A call that needs an open record has 3 and 4 as well
+  -- "Format checks 1 only; power and cut 1 and 2."; W-205: 13 is "format's last check after 1". A call that needs an open record has 3 and 4 as well
   abbrev pub causeBy : Rules → State → ℕ
   causeBy (ofBytes own rest) st = sizeRow geo own st (first rest st)
   causeBy (ofRecord own rest) st = sizeRow geo own st (recordRow geo st (first rest st))

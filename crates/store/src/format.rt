@@ -1,7 +1,7 @@
-// format: an empty store on a card of any content.
-use crate::check::wrong_sizes;
+// format: an empty store on a card of any content, but for one that is in use.
 use crate::record::Answer;
 use crate::record::Record;
+use crate::refusals::format_number;
 use card::settled::blocks_in;
 use card::settled::settle;
 use card::settled::wipe;
@@ -21,12 +21,14 @@ ghost use Rattle.store.specs.CodeState.{stateOf, outcomeOf};
 ghost use Rattle.store.specs.Format.{formatCall};
 
 impl Record {
-    // format: zeros everywhere, an empty log's header, and a fresh record. What the old record holds plays no part.
+    // format: zeros everywhere, an empty log's header, and a fresh record; 13 for a card with a log. What the old record holds plays no
+    // part.
     pub fn format(self, settled: &mut [u8], waiting: &mut [u8], work: &mut [u8]) -> Answer
         ensures { λ r. ⌜ outcomeOf (r .number) 0 (r .rec) (now (settled .exit)) (now (waiting .exit)) (now (work .exit)) ≡ formatCall trap (stateOf self (now (settled .entry)) (now (waiting .entry)) (now (work .entry))) ⌝ }
     {
-        if wrong_sizes(settled, waiting, work) {
-            return self.answer(1);
+        let number = format_number(settled, waiting, work);
+        if number != 0 {
+            return self.answer(number);
         }
         let blocks = blocks_in(settled) as u32;
         wipe(settled, waiting);

@@ -1,21 +1,38 @@
-// The rows of put, commit and cut that no other call has, behind those of check.rt.
+// The rows of format, put, commit and cut that no other call has, behind those of check.rt.
+use crate::check::wrong_sizes;
 use crate::lists::GROUP;
 use crate::lists::OPEN;
 use crate::lists::address;
 use crate::lists::holds;
 use crate::record::Record;
 use card::marks::fit;
+use card::settled::blocks_in;
 use cells::BLOCK;
 use journal::SLOTS;
+use journal::choice::in_use;
 use journal::log::is_data;
 ghost use mathlib.Core.Path.{_≡_};
 ghost use Prim.Native.Nat.{_≤_};
 ghost use lib.ListN.{length};
 ghost use Rattle.journal.specs.Geometry.{trap};
+ghost use Rattle.store.specs.declared.record.Record as Declared;
 ghost use Rattle.store.specs.CodeState.{stateOf};
 ghost use Rattle.store.specs.Request as Request;
 ghost use Rattle.store.specs.Causes as Causes;
 ghost use Rattle.store.specs.Causes.{cause, workBytes};
+
+// The cause of a format, whatever the record holds.
+pub(crate) fn format_number(settled: &[u8], waiting: &[u8], work: &[u8]) -> u32
+    ensures { λ r. ⌜ ((q : Declared.Record) → r ≡ cause trap Request.format (stateOf q (now (settled .entry)) (now (waiting .entry)) (now (work .entry)))) ⌝ }
+{
+    if wrong_sizes(settled, waiting, work) {
+        return 1;
+    }
+    if in_use(settled, blocks_in(settled) as u32) {
+        return 13;
+    }
+    0
+}
 
 impl Record {
     // The cause of a put.

@@ -96,7 +96,7 @@ module _ (geo : Geometry) where
 
   -- a state that passes checks 1 and 2: what waits is whole, and goes to blocks of the card
   module _ (st : State) (s : Checked geo st) where
-    waits-whole : All Whole (queue (cardIn st))
+    pub waits-whole : All Whole (queue (cardIn st))
     unfolding queue
     waits-whole =
         all-upTo Whole (entryAt (st .waiting)) (st .rec .waiting)

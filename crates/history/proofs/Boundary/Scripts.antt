@@ -1,22 +1,32 @@
 -- A line of a script is its call, and a script from a format on is a list of calls.
 use Prim.Native.Nat.{ℕ, _*_}
-use mathlib.Core.Path.{_≡_, refl, ap, sym, _∙_}
-use mathlib.Core.Bool.{false, cond}
+use mathlib.Core.Path.{_≡_, refl, ap, sym, subst, _∙_}
+use mathlib.Core.Logic.{_≢_, _⊎_}
+use mathlib.Core.Bool.{Bool, true, false, cond, not, true≢false}
 use mathlib.Core.List.{List, [], _∷_, _++_, append-assoc}
+use native.Mathlib.Omega.{arith}
+use native.Mathlib.Decide.{ℕ-discrete}
+use borrow.Author.Tests.{eq-eqb, ne-eqb, eqb-false, not-true}
 use lib.Dec.{eqb}
-use lib.ListN.{length, getD, length-replicate}
+use lib.ListN.{length, getD, replicate, length-replicate}
 use Rattle.cells.specs.Entry.{blockBytes}
+use Rattle.card.specs.Card as Card
+use Rattle.card.specs.Card.{queue}
+use Rattle.crash.proofs.Batches.{no-queue}
+use Rattle.store.specs.Local as Local
+use Rattle.store.specs.Save as Save
 use Rattle.store.specs.Request as Request
-use Rattle.store.specs.State.{State, Outcome}
+use Rattle.store.specs.State.{State, Outcome, closed, cardIn}
 use Rattle.store.specs.Causes.{waitingBytes, workBytes, wrongSizes, cause}
-use Rattle.store.specs.Outcomes.{refused}
-use Rattle.store.specs.Format.{formatCall}
-use Rattle.store.specs.Power.{powerCall}
+use Rattle.store.specs.Outcomes.{refused, completed}
+use Rattle.store.specs.Format.{formatted, formatCall}
+use Rattle.store.specs.Power.{powered, powerCall}
 use Rattle.store.specs.Put.{putCall}
 use Rattle.store.specs.Abandon.{abandonCall}
 use Rattle.store.specs.Commit.{commitCall}
 use Rattle.store.specs.Saves.{syncCall, applyCall, recoverCall}
-use Rattle.store.specs.Cut.{cutCall}
+use Rattle.store.specs.Cut.{cutting, cutCall}
+use Rattle.store.proofs.Causes.{needsOpen, other}
 use Rattle.script.specs.declared.command.Command.{Command}
 use Rattle.script.specs.declared.command.Command.the-variants.{Format, Power, Put, Get, Commit, Abandon, Sync, Apply, Recover, Cut, Bad}
 use Rattle.script.specs.Commands.{parse}
@@ -24,11 +34,19 @@ use Rattle.script.specs.Answers.{answerLine, decimal, digits}
 use Rattle.script.specs.Replies.{perform, answered}
 use Rattle.script.specs.Transcript.{reply, printed, said, beginning, transcript}
 use Rattle.journal.specs.Geometry.{trap}
-use Rattle.history.specs.Call.{requestOf}
-use Rattle.history.specs.Dispatch.{called, blockOf}
-use Rattle.history.specs.History.{World, begun, next}
-use Rattle.history.specs.Scripts.{Says, nothing, begins, asks, saysOf, says, lineOf, leftBy, ByCall, leftAfter, worldBy, told, ScriptsAreHistories}
-use Rattle.history.proofs.Relation.Forms.{SameSizes, get-called, called-sized}
+use Rattle.journal.specs.Choice.{choose, choiceNumber}
+use Rattle.journal.specs.Ours.{numberAt, OurHeader}
+use Rattle.journal.proofs.Choices.{both}
+use Rattle.history.specs.Call.{Call, requestOf, local, save, cut, power, put, get, commit, abandon, sync, apply, recover}
+use Rattle.history.specs.Dispatch.{called, dispatch, blockOf}
+use Rattle.history.specs.History.{World, begun, next, after}
+use Rattle.history.specs.Scripts.{Says, nothing, begins, asks, saysOf, says, lineOf, leftBy, ByCall, leftAfter, worldBy, told, worldAfter, isFormat, noFormat, Lists, ScriptsAreHistories}
+use Rattle.history.specs.Formats.{headerBlock, Exactly, Used}
+use Rattle.history.proofs.Relation.CauseLaws.{cause-passes}
+use Rattle.history.proofs.Relation.Forms.{SameSizes, get-called, called-sized, unless-either}
+use Rattle.history.proofs.Steps.Shown.{dispatch-refused}
+use Rattle.history.proofs.Steps.ListInduction.{after-append}
+use Rattle.history.proofs.Boundary.Formats.{row, choice, other-served, zeros-other}
 
 -- ---- a line
 
@@ -76,9 +94,83 @@ beginning-sizes : wrongSizes trap beginning ≡ false
 unfolding beginning
 beginning-sizes = sizes-right beginning (length-replicate {A = ℕ} (blockBytes * 64) 0) (length-replicate {A = ℕ} (waitingBytes trap) 0) (length-replicate {A = ℕ} (workBytes trap) 0)
 
-format-done : (st : State) → wrongSizes trap st ≡ false → formatCall trap st .answer ≡ 0
-unfolding formatCall
-format-done st h = rw h
+-- a format of a card of the right size is served or turned down
+format-done : (st : State) → wrongSizes trap st ≡ false → (formatCall trap st .answer ≡ 0) ⊎ (formatCall trap st ≡ refused 13 st)
+unfolding formatCall called
+format-done st h = go (row trap st h)
+  where
+    go : Exactly (Used trap (st .settled)) (called trap Request.format st ≡ refused 13 st) (called trap Request.format st ≡ completed (formatted st))
+        → (called trap Request.format st .answer ≡ 0) ⊎ (called trap Request.format st ≡ refused 13 st)
+    go (_⊎_.inl (u, e)) = _⊎_.inr e
+    go (_⊎_.inr (n, e)) = _⊎_.inl (ap (λ (o : Outcome). o .answer) e)
+
+-- ---- before the first format
+
+-- the card is all zeros, nothing waits, and the record is closed
+record Blank (st : State) : Type 0 where
+  zeros : st .settled ≡ replicate (blockBytes * 64) 0
+  mode : st .rec .mode ≡ closed
+  idle : st .rec .waiting ≡ 0
+
+-- such a card is foreign
+blank-foreign : (st : State) → Blank st → cause trap Request.recover st ≢ 0
+blank-foreign st b e = go (choice trap (st .rec .blocks) (st .settled))
+  where
+    k : ℕ
+    k = choiceNumber (choose trap (st .rec .blocks) (st .settled))
+
+    not-eight : k ≢ 8
+    not-eight = eqb-false k 8 (cause-passes trap Request.recover st e .own .1 .1 .0)
+
+    go : Exactly (OurHeader trap (st .rec .blocks) (headerBlock (st .settled))) (k ≢ 8) (k ≡ 8) → ⊥
+    go (_⊎_.inl (o, n)) = zeros-other trap 64 (omega arith) (ap (λ (s : List ℕ). numberAt 0 4 (headerBlock s)) (sym (b .zeros)) ∙ o .format)
+    go (_⊎_.inr (n, z)) = not-eight z
+
+-- a call that needs an open record is refused
+blank-closed : (q : Request.Request) (st : State) → needsOpen trap q ≡ true → Blank st → cause trap q st ≢ 0
+blank-closed q st n b e = let open-now : st .rec .mode ≢ closed = eqb-false _ _ (other _ _ (cause-passes trap q st e .not-closed) n) in open-now (b .mode)
+
+blank-refused : (c : Call) (st : State) → cause trap (requestOf c) st ≢ 0 → Blank st → Blank (dispatch trap c st .state)
+blank-refused c st h b = rw (dispatch-refused trap c st h) b
+
+-- what is served there leaves it so: power and cut
+blank-power : (k : ℕ) (st : State) → Blank st → Blank (dispatch trap (power k) st .state)
+unfolding called
+blank-power k st b =
+    unless-either (λ (o : Outcome). Blank (o .state)) (cause trap (Request.power k) st) st (completed (powered k st)) (λ e. record { zeros = b .zeros; mode = b .mode; idle = b .idle }) b
+
+blank-cut : (ms : List ℕ) (st : State) → Blank st → Blank (dispatch trap (cut ms) st .state)
+unfolding called Card.cut Card.settleKept
+blank-cut ms st b =
+    let still : Card.settleKept ms 0 (queue (cardIn st)) (st .settled) ≡ st .settled = rw (no-queue (cardIn st) (b .idle)) in
+    unless-either (λ (o : Outcome). Blank (o .state)) (cause trap (Request.cut ms) st) st (completed (cutting ms st)) (λ e. record { zeros = still ∙ b .zeros; mode = refl; idle = refl }) b
+
+blank-call : (c : Call) (st : State) → Blank st → Blank (dispatch trap c st .state)
+blank-call (local (Local.power k)) st b = blank-power k st b
+blank-call (local (Local.put a x)) st b = blank-refused (put a x) st (blank-closed (Request.put a x) st refl b) b
+blank-call (local (Local.get a)) st b = blank-refused (get a) st (blank-closed (Request.get a) st refl b) b
+blank-call (local Local.commit) st b = blank-refused commit st (blank-closed Request.commit st refl b) b
+blank-call (local Local.abandon) st b = blank-refused abandon st (blank-closed Request.abandon st refl b) b
+blank-call (save Save.sync) st b = blank-refused sync st (blank-closed Request.sync st refl b) b
+blank-call (save Save.apply) st b = blank-refused apply st (blank-closed Request.apply st refl b) b
+blank-call (save Save.recover) st b = blank-refused recover st (blank-foreign st b) b
+blank-call (cut ms) st b = blank-cut ms st b
+
+blank-line : (s : Says) (st : State) → isFormat s ≡ false → Blank st → Blank (leftBy s st)
+blank-line nothing st n b = b
+blank-line begins st n b = absurd (true≢false n)
+blank-line (asks c) st n b = blank-call c st b
+
+blank-lines : (ls : List (List ℕ)) (st : State) → noFormat ls ≡ true → Blank st → Blank (leftAfter ls st)
+unfolding leftAfter noFormat
+blank-lines [] st n b = b
+blank-lines (l ∷ ls) st n b =
+    let p = both (not (isFormat (says l))) (noFormat ls) n in
+    blank-lines ls (reply l st .state) (p .1) (subst Blank (sym (by-call l st .leaves)) (blank-line (says l) st (not-true (isFormat (says l)) (p .0)) b))
+
+blank-beginning : Blank beginning
+unfolding beginning
+blank-beginning = record { zeros = refl; mode = refl; idle = refl }
 
 -- ---- a list of lines
 
@@ -87,10 +179,24 @@ unfolding said leftAfter
 said-append [] ms st = refl
 said-append (l ∷ ls) ms st = ap (λ (x : List ℕ). printed l st ++ x) (said-append ls ms (reply l st .state)) ∙ sym (append-assoc (printed l st) (said ls (reply l st .state)) _)
 
+-- a format that is refused leaves everything
+refused-left : (st : State) → called trap Request.format st .answer ≢ 0 → called trap Request.format st .state ≡ st
+unfolding called
+refused-left st h =
+    unless-either (λ (o : Outcome). o .answer ≢ 0 → o .state ≡ st) (cause trap Request.format st) st (completed (formatted st)) (λ e z. absurd (z refl)) (λ z. refl) h
+
+by-format : (st : State) → called trap Request.format st .answer ≡ 0 → formatCall trap st .answer ≡ 0
+unfolding called formatCall
+by-format st h = h
+
 called-store : (s : Says) (w : World) → leftBy s (w .store) ≡ worldBy s w .store
 unfolding begun next called formatCall
 called-store nothing w = refl
-called-store begins w = refl
+called-store begins w = go (ℕ-discrete (called trap Request.format (w .store) .answer) 0)
+  where
+    go : Dec (called trap Request.format (w .store) .answer ≡ 0) → called trap Request.format (w .store) .state ≡ cond (eqb (called trap Request.format (w .store) .answer) 0) (begun trap (w .store)) w .store
+    go (yes e) = ap (λ (t : Bool). cond t (begun trap (w .store)) w .store) (sym (eq-eqb _ 0 e))
+    go (no e) = refused-left (w .store) e ∙ ap (λ (t : Bool). cond t (begun trap (w .store)) w .store) (sym (ne-eqb _ 0 e))
 called-store (asks c) w = refl
 
 said-told : (ms : List (List ℕ)) (w : World) → said ms (w .store) ≡ told ms w
@@ -100,6 +206,22 @@ said-told (l ∷ ls) w =
     ap (λ (x : List ℕ). x ++ said ls (reply l (w .store) .state)) (by-call l (w .store) .prints)
     ∙ ap (λ (st : State). lineOf (says l) (parse l) (w .store) ++ said ls st) (by-call l (w .store) .leaves ∙ called-store (says l) w)
     ∙ ap (λ (x : List ℕ). lineOf (says l) (parse l) (w .store) ++ x) (said-told ls (worldBy (says l) w))
+
+-- at every line the world is that of a list of calls
+line-listed : (s : Says) (w : World) → Lists w → Lists (worldBy s w)
+unfolding after
+line-listed nothing w l = l
+line-listed begins w l = go (ℕ-discrete (called trap Request.format (w .store) .answer) 0)
+  where
+    go : Dec (called trap Request.format (w .store) .answer ≡ 0) → Lists (cond (eqb (called trap Request.format (w .store) .answer) 0) (begun trap (w .store)) w)
+    go (yes e) = rw (eq-eqb _ 0 e) (w .store, [], by-format (w .store) e, refl)
+    go (no e) = rw (ne-eqb _ 0 e) l
+line-listed (asks c) w (st, cs, h, e) = (st, cs ++ (c ∷ []), h, ap (next trap c) e ∙ sym (after-append trap cs (c ∷ []) (begun trap st)))
+
+lines-listed : (ms : List (List ℕ)) (w : World) → Lists w → Lists (worldAfter ms w)
+unfolding worldAfter
+lines-listed [] w l = l
+lines-listed (m ∷ ms) w l = lines-listed ms (worldBy (says m) w) (line-listed (says m) w l)
 
 -- ---- the theorem
 
@@ -112,17 +234,23 @@ unfolding begun formatCall called
 format-left f st p = by-call f st .leaves ∙ ap (λ (c : Command). leftBy (saysOf c f) st) p
 
 pub scripts : ScriptsAreHistories
-unfolding transcript said
+unfolding transcript said after
 scripts ls ms = record {
-  formats = done;
-  prints = λ f p input e.
-      let st = leftAfter ls beginning in
+  formats = format-done st sizes;
+  first = λ n.
+      let b = blank-lines ls beginning n blank-beginning in
+      other-served trap st sizes (λ e. zeros-other trap 64 (omega arith) (ap (λ (s : List ℕ). numberAt 0 4 (headerBlock s)) (sym (b .zeros)) ∙ e));
+  prints = λ f p done input e.
       ap (λ (k : List (List ℕ)). said k beginning) e
       ∙ said-append ls (f ∷ ms) beginning
       ∙ ap (λ (x : List ℕ). said ls beginning ++ (x ++ said ms (reply f st .state))) (format-line f st p done)
       ∙ ap (λ (s : State). said ls beginning ++ (answerLine Format 0 0 ++ said ms s)) (format-left f st p)
       ∙ ap (λ (x : List ℕ). said ls beginning ++ (answerLine Format 0 0 ++ x)) (said-told ms (begun trap st));
+  lists = λ done. lines-listed ms (begun trap st) (st, [], done, refl);
 }
   where
-    done : formatCall trap (leftAfter ls beginning) .answer ≡ 0
-    done = format-done (leftAfter ls beginning) (after-sizes ls beginning ∙ beginning-sizes)
+    st : State
+    st = leftAfter ls beginning
+
+    sizes : wrongSizes trap st ≡ false
+    sizes = after-sizes ls beginning ∙ beginning-sizes

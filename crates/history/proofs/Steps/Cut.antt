@@ -49,7 +49,7 @@ module _ (geo : Geometry) where
       (record { settled = refl; waits = no-queue (cardIn st) z; count = z; power = refl; room = refl })
       (ap (marksFit ms) (sym (no-queue (cardIn st) z)) ∙ h))
 
-  any-cut-leads : (ms : List ℕ) (st : State) (l : Ledger) (d : Plain) → Sim geo st l d → marksFit ms (queue (cardIn st)) ≡ true → CutLeads geo ms st l d
+  pub any-cut-leads : (ms : List ℕ) (st : State) (l : Ledger) (d : Plain) → Sim geo st l d → marksFit ms (queue (cardIn st)) ≡ true → CutLeads geo ms st l d
   any-cut-leads ms st l d m h = go (m .phase)
     where
       quiet : st .rec .mode ≢ down → st .rec .waiting ≡ 0

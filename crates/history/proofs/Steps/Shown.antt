@@ -113,7 +113,7 @@ module _ (geo : Geometry) where
   pub big-N : (st : State) (d : Plain) → Basics geo st d → firstData geo < st .rec .blocks
   big-N st d b = let s = sizes-facts geo st (b .sizes) in let r = record-facts geo st (b .counts) in omega (arith, s .least, r .blocks)
 
-  ours : (N p ps c ns k : ℕ) → p ≤ c → c ≤ geo .slots → (k ≡ 0 → (p ≡ c) × (ps ≡ ns)) → foreign geo N (header N p ps c ns k) ≡ false
+  pub ours : (N p ps c ns k : ℕ) → p ≤ c → c ≤ geo .slots → (k ≡ 0 → (p ≡ c) × (ps ≡ ns)) → foreign geo N (header N p ps c ns k) ≡ false
   ours N p ps c ns k h l z = rw (eq-eqb N N refl, le-leb c (geo .slots) l, le-leb p c h) (go (eqb k 0) refl)
     where
       go : (t : Bool) → eqb k 0 ≡ t → t && not (eqb p c && eqb ps ns) ≡ false

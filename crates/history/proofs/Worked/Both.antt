@@ -1,6 +1,6 @@
 -- Document 01's two worked scripts, and those in which a block is torn. The statement stands in specs/Worked.antt.
 use Prim.Native.Nat.{ℕ, _+_, _-_, _^_, _<_}
-use mathlib.Core.Path.{_≡_, refl, ap, ap₂, sym, _∙_}
+use mathlib.Core.Path.{_≡_, refl, ap, ap₂, sym, subst, _∙_}
 use mathlib.Core.Logic.{_⊎_}
 use mathlib.Core.Bool.{Bool, true, false, _&&_}
 use mathlib.Core.List.{List, [], _∷_, _++_, map}
@@ -15,21 +15,23 @@ use Rattle.journal.specs.Geometry.{trap}
 use Rattle.journal.specs.Layout.{isData}
 use Rattle.script.specs.Replies.{values}
 use Rattle.store.specs.State.{State}
+use Rattle.store.specs.Outcomes.{refused}
 use Rattle.store.specs.Format.{formatCall}
-use Rattle.history.specs.Call.{power, put, commit, sync, cut}
+use Rattle.history.specs.Call.{power, put, commit, sync, apply, cut}
 use Rattle.history.specs.Plain.{Plain, blank, fresh, blankPlain, still}
 use Rattle.history.specs.Dispatch.{dispatch}
 use Rattle.history.specs.History.{World, begun, next, after, acceptedCut, exception}
 use Rattle.history.specs.Statements as S
 use Rattle.history.specs.Statements.{noCut, EndsFinished, Fate, quiet, decided, known, fate, outcome}
 use Rattle.history.specs.Linked.{AllPassable}
-use Rattle.history.specs.Worked.{halted, cut101, cut111, cutHalf, cutFifth, cutHeader, metByCut, sevens, nines, at40, filed, crashed, answers, Script, Worked}
+use Rattle.history.specs.Worked.{halted, cut101, cut111, cutHalf, cutFifth, cutHeader, metByCut, metByRecover, sevens, nines, at40, filed, crashed, answers, Script, Worked}
 use Rattle.history.proofs.Steps.ListInduction.{begun-sim, begun-blank}
 use Rattle.history.proofs.Atomicity.Splits.{SplitReading, split-reading, found-counted}
 use Rattle.history.proofs.Worked.TornMarks.{header-half, all-half, halved, header-fifth, all-fifth}
-use Rattle.history.proofs.Worked.Plain.{openAt, plain-put, plain-commit, plain-filed, header-101, header-111, Went, went}
+use Rattle.history.proofs.Worked.Plain.{openAt, plain-put, plain-commit, plain-filed, plain-applied, header-101, header-111, Went, went}
 use Rattle.history.proofs.Worked.Sync.{filed-log, filed-next, filed-slot}
-use Rattle.history.proofs.Worked.Second.{put-settled, commit-settled, length-sevens, zeros, old, Filed, Cuts, lost-cuts, halved-cuts, all-111, whole-cuts, fifth-cuts, header-refused, accepted, t₇, number, all-clean, none-done, fated, later-lines}
+use Rattle.history.proofs.Worked.Second.{put-settled, commit-settled, length-sevens, zeros, old, Filed, Cuts, lost-cuts, lost-falls, halved-cuts, all-111, whole-cuts, fifth-cuts, header-refused, accepted, t₆, t₇, number, all-clean, none-done, fated, later-lines}
+use Rattle.history.proofs.Worked.Formats.{format-turned, format-served, open-count, fall-count}
 use Rattle.history.proofs.Worked.Blank as Blank
 
 -- what is known is one
@@ -147,6 +149,24 @@ module _ (st : State) (f : formatCall trap st .answer ≡ 0) (size : blocksIn (s
   unfolding after
   header = header-refused w₃ all-filed
 
+  -- ---- a format in the midst of them
+
+  turned-down : formatCall trap (w₃ .store) ≡ refused 13 (w₃ .store)
+  turned-down = format-turned w₃ (s₃ .sim) (subst (λ (k : ℕ). 0 < k) (sym (open-count w₃ (s₃ .sim) (s₃ .plain))) (lib.Dec.lit< tt))
+
+  needs-fallback : formatCall trap (metByRecover cut101 st .store) ≡ refused 13 (metByRecover cut101 st .store)
+  unfolding after
+  needs-fallback =
+      let x = t₆ w₃ all-filed cut101 false 2 old (lost-cuts w₃ all-filed) in
+      format-turned (metByRecover cut101 st) (x .sim) (fall-count (metByRecover cut101 st) (x .sim) (x .plain) (lost-falls w₃ all-filed))
+
+  s₄ : Went apply w₃ (record { answer = 0; orders = 4; plain = openAt old [] [] 0 999992 })
+  unfolding exception acceptedCut
+  s₄ = went apply w₃ _ _ (s₃ .sim) refl (s₃ .plain) (plain-applied _ old)
+
+  is-served : formatCall trap (next trap apply w₃ .store) .answer ≡ 0
+  is-served = format-served (next trap apply w₃) (s₄ .sim) (open-count (next trap apply w₃) (s₄ .sim) (s₄ .plain))
+
 -- each digit has its value
 digit-values : (ds : List ℕ) → values (map (λ d. 48 + d) ds) ≡ ds
 unfolding values
@@ -154,5 +174,17 @@ digit-values [] = refl
 digit-values (d ∷ ds) = let z : 48 + d - 48 ≡ d = omega arith in rw (z, digit-values ds)
 
 pub worked : Worked
-unfolding marksOf spread
-worked = record { lost = lost; whole = whole; halved = halved-script; harmless = harmless; header = header; digits = λ ds. ap spread (digit-values ds); spreads = (refl, refl, refl); card = Blank.blank }
+unfolding marksOf spread after
+worked = record {
+  lost = lost;
+  whole = whole;
+  halved = halved-script;
+  harmless = harmless;
+  header = header;
+  digits = λ ds. ap spread (digit-values ds);
+  spreads = (refl, refl, refl);
+  turned = turned-down;
+  fallback = needs-fallback;
+  applied = is-served;
+  card = Blank.blank;
+}

@@ -11,8 +11,8 @@ use Rattle.card.specs.Marks.{keptAt, marksFor, marksOf}
 use Rattle.card.proofs.Spreads.{marksOf-for, marksOf-whole, marksOf-kept}
 use Rattle.journal.specs.Geometry.{trap}
 use Rattle.journal.specs.Header.{mostSave}
-use Rattle.history.specs.Call.{Call, power, put, commit, sync, recover, cut}
-use Rattle.history.specs.Plain.{Plain, Done, ofSync, blankPlain, withS, withLists, withCount, withPower, done, cutShort, closedWith, has, insert, merge, headerWaits, plainFit, refusal, headerKept, verdict, ownVerdict, plainSync, plainRecover, plainCut, plainStep, still}
+use Rattle.history.specs.Call.{Call, power, put, commit, sync, apply, recover, cut}
+use Rattle.history.specs.Plain.{Plain, Done, ofSync, blankPlain, withS, withLists, withCount, withPower, done, cutShort, closedWith, has, insert, merge, headerWaits, plainFit, refusal, headerKept, verdict, ownVerdict, plainSync, plainApply, plainRecover, plainCut, plainStep, still}
 use Rattle.history.specs.Dispatch.{dispatch}
 use Rattle.history.specs.History.{World, next, foundWritten, exception}
 use Rattle.history.specs.Worked.{at40, cut101, cut111, cutHalf, cutFifth, cutHeader}
@@ -44,6 +44,10 @@ pub plain-filed : (t : Bool) (S : Laid) (b : List ℕ) → eqb (S .groups) mostS
     → plainStep trap sync t (openAt S (at40 b ∷ []) [] 0 1000000) ≡ done 4 (openAt (layOver (at40 b ∷ []) S) [] [] 1 999996)
 unfolding plainStep refusal plainSync trap
 plain-filed t S b free = rw free
+
+pub plain-applied : (t : Bool) (S : Laid) → plainStep trap apply t (openAt S [] [] 1 999996) ≡ done 4 (openAt S [] [] 0 999992)
+unfolding plainStep refusal plainApply
+plain-applied t S = refl
 
 pub plain-power : (t : Bool) (S : Laid) (G : List Entry) (p k : ℕ) → plainStep trap (power k) t (openAt S G [] 1 p) ≡ still (openAt S G [] 1 k)
 unfolding plainStep refusal

@@ -226,6 +226,11 @@ other-by w m ms L f k e other usual =
 pub lost-cuts : (w : World) → Filed w → Cuts w cut101 false 2 old
 lost-cuts w m = other-by w m cut101 log-found (fits-101 old nines) header-101 (lost-log w m) other-log no-collision
 
+-- it needs a fallback
+pub lost-falls : (w : World) (m : Filed w) → lost-cuts w m .F ≡ true
+unfolding lost-cuts other-by
+lost-falls w m = refl
+
 pub halved-cuts : (w : World) → Filed w → Cuts w cutHalf false 2 old
 halved-cuts w m = other-by w m cutHalf log-halved (fits-half old nines) header-half (halved-found w m) halved-log halved-no-collision
 
@@ -278,7 +283,7 @@ module _ (w : World) (m : Filed w) (ms : List ℕ) (same : Bool) (k : ℕ) (laid
       went (cut ms) (v₄ w) _ _ (t₄ w m .sim) (c .usual) (t₄ w m .plain)
       (ap (λ (t : Bool). plainStep trap (cut ms) t (downAt old (at40 nines ∷ []))) (c .found) ∙ c .cuts)
 
-  t₆ : Went (power 100) v₅ (still (closedAt laid (c .n) 100 (c .F)))
+  pub t₆ : Went (power 100) v₅ (still (closedAt laid (c .n) 100 (c .F)))
   unfolding exception acceptedCut
   t₆ = went (power 100) v₅ _ _ (t₅ .sim) refl (t₅ .plain) (plain-again _ laid (c .n) 0 100 (c .F))
 

@@ -1,6 +1,5 @@
 -- `store::record::Record::format` meets its contract.
-use mathlib.Core.Path.{_≡_, refl, sym, _∙_}
-use mathlib.Core.Bool.{true, false}
+use mathlib.Core.Path.{_≡_}
 use native.Mathlib.Omega.{arith}
 use lib.ListN.{length, replicate, length-replicate}
 use Rattle.card.specs.Card.{blocksIn}
@@ -8,10 +7,9 @@ use Rattle.journal.specs.Geometry.{trap}
 use Rattle.store.specs.State.{State}
 use Rattle.store.specs.CodeState.{stateOf}
 use Rattle.store.specs.Request.{format}
-use Rattle.store.specs.Causes.{wrongSizes, cause}
 use Rattle.store.specs.Format.{formatted, formatCall}
 use Rattle.store.proofs.Calls.{call-refused, call-done}
-use Rattle.store.proofs.Causes.{sizes-facts}
+use Rattle.store.proofs.Causes.{SizeFacts, sizes-facts, cause-passes}
 use borrow.Author.Needs.{needs}
 use Rattle.store.proofs.record.Record.format.Statement.{statement}
 use Rattle.store.proofs.record.Record.format.Tie as tie
@@ -19,11 +17,14 @@ use Rattle.store.proofs.record.Record.format.Tie as tie
 abbrev given : tie.Start → State
 given c = stateOf (c .args .self) (c .args .settled .now) (c .args .waiting .now) (c .args .work .now)
 
-sized : (c : tie.Else1) → wrongSizes trap (given (c .before .before .before .before .before .before .before .before)) ≡ false
-sized c = sym (c .before .wrong-sizes .ensures _) ∙ c .if1 .left
+-- nothing refuses it
+sized : (c : tie.Else1) → SizeFacts trap (given (c .before .before .before .before .before .before .before .before))
+sized c =
+    let st = given (c .before .before .before .before .before .before .before .before) in
+    sizes-facts trap st (cause-passes trap format st (c .before .format-number .result) (c .before .format-number .ensures _) (c .if1 .left) .sizes)
 
-wrong-sizes-requires : tie.Need-wrong-sizes-requires
-wrong-sizes-requires c κs = search needs
+format-number-requires : tie.Need-format-number-requires
+format-number-requires c κs = search needs
 
 answer-requires : tie.Need-answer-requires
 answer-requires c κs = search needs
@@ -39,9 +40,7 @@ same-length-3 c = search needs
 
 returns : tie.Need-returns
 unfolding formatCall
-returns c =
-    let e : wrongSizes trap (given (c .before .before .before .before .before .before .before .before .before)) ≡ true = sym (c .before .before .wrong-sizes .ensures _) ∙ c .before .if1 .taken in
-    rw (c .answer .ensures) (call-refused 1 (cause trap format (given (c .before .before .before .before .before .before .before .before .before))) (given (c .before .before .before .before .before .before .before .before .before)) _ (rw e) (λ z. omega arith))
+returns c = rw (c .answer .ensures) (call-refused _ _ _ _ (c .before .before .format-number .ensures _) (c .before .if1 .taken))
 
 blocks-in-requires : tie.Need-blocks-in-requires
 blocks-in-requires c κs = search needs
@@ -51,7 +50,7 @@ cast-blocks c =
     let e = c .before .before in
     let st = given (e .before .before .before .before .before .before .before .before) in
     let told : c .blocks-in .result ≡ blocksIn (st .settled) = c .blocks-in .ensures in
-    let s = sizes-facts trap st (sized e) in
+    let s = sized e in
     omega arith
 
 wipe-requires : tie.Need-wipe-requires
@@ -60,7 +59,7 @@ wipe-requires c κs = search needs
 settle-header-requires : tie.Need-settle-header-requires
 settle-header-requires c κs =
     let e = c .before .before .before .before .before .before .before .before .before .before in
-    let s = sizes-facts trap (given (e .before .before .before .before .before .before .before .before)) (sized e) in
+    let s = sized e in
     let zeros : c .before .before .before .before .before .wipe .last .0 ≡ replicate (length (e .before .before .before .before .before .before .before .before .args .settled .now)) 0 = c .before .before .before .before .before .wipe .ensures .0 in
     rw (zeros, length-replicate) (omega arith)
 
@@ -90,13 +89,13 @@ returns-2 c =
     let e = b .before .before in
     let empty : wiped .wipe .last .1 .0 ≡ replicate (length (given (e .before .before .before .before .before .before .before .before) .waiting)) 0 = wiped .wipe .ensures .1 in
     rw (c .answer2 .ensures, c .before .fresh .ensures, c .before .before .before .before .before .before .before .before .settle-header .ensures, b .blocks-in .ensures, wiped .wipe .ensures .0, empty, c .before .before .before .before .zero .ensures)
-    (call-done 0 (cause trap format (given (e .before .before .before .before .before .before .before .before))) (given (e .before .before .before .before .before .before .before .before)) _ (rw (sized e)) refl)
+    (call-done _ _ _ _ (e .before .format-number .ensures _) (e .if1 .left))
 
 pub format-spec : {M : Type 1} → statement M
 format-spec =
     tie.close
     (tie.spec
-    wrong-sizes-requires
+    format-number-requires
     answer-requires
     same-length
     same-length-2
