@@ -1,45 +1,51 @@
 -- Format: which cards it turns down. The statements stand in specs/Formats.antt.
-use Prim.Native.Nat.{ℕ, suc, _+_, _*_, _/_, _^_, _≤_, _<_}
+use Prim.Native.Nat.{ℕ, _*_, _≤_, _<_}
 use mathlib.Core.Path.{_≡_, refl, ap, sym, _∙_}
 use mathlib.Core.Logic.{_≢_, _⊎_}
-use mathlib.Core.Bool.{Bool, true, false, cond, not, _&&_, _||_, true≢false}
-use mathlib.Core.List.{List, [], _∷_}
+use mathlib.Core.Bool.{Bool, true, false, cond, true≢false}
+use mathlib.Core.List.{List}
 use native.Mathlib.Omega.{arith}
 use native.Mathlib.Decide.{ℕ-discrete}
 use borrow.Author.Tests.{eq-eqb, ne-eqb}
 use lib.Dec.{eqb, leb}
 use lib.ListN.{length, replicate, length-replicate}
 use Rattle.cells.specs.Cell.Laws.{cell-zeros}
-use Rattle.cells.specs.Little.{num}
 use Rattle.cells.specs.Little.Laws.{num-nil, num-cons}
-use Rattle.cells.specs.Entry.{blockBytes, Entry}
-use Rattle.card.specs.Card as Card
-use Rattle.card.specs.Card.{queue, blockAt, blocksIn}
+use Rattle.cells.specs.Entry.{blockBytes}
+use Rattle.card.specs.Card.{blockAt, blocksIn}
 use Rattle.journal.specs.Geometry.{Geometry, mostBlocks}
 use Rattle.journal.specs.Layout.{headerAt, leastBlocks, wrongSize}
 use Rattle.journal.specs.Header.{formatNumber}
 use Rattle.journal.specs.Log.{headerOf}
 use Rattle.journal.specs.Choice.{foreign, choose, choiceNumber, inUse}
-use Rattle.journal.specs.declared.choice.Choice.the-variants.{Foreign}
 use Rattle.journal.specs.Ours.{numberAt, OurHeader}
 use Rattle.journal.proofs.Choices.{known-chosen, choose-foreign}
 use Rattle.journal.proofs.OurHeaders.{known-bytes, bytes-known, used-bytes, bytes-used}
 use Rattle.store.specs.declared.record.Record.{Record}
 use Rattle.store.specs.Request as Request
-use Rattle.store.specs.State.{State, Outcome, closed, openMode, withRecord, withMode}
+use Rattle.store.specs.State.{State, Outcome, closed, withRecord, withMode}
 use Rattle.store.specs.CodeState.{stateOf, fresh}
-use Rattle.store.specs.Causes.{waitingBytes, workBytes, wrongSizes, wrongRecord, cause}
+use Rattle.store.specs.Causes.{wrongSizes, wrongRecord, cause}
 use Rattle.store.specs.Outcomes.{refused, completed}
 use Rattle.store.specs.Format.{formatted, formatCall}
-use Rattle.store.proofs.Causes.{SizeFacts, sizes-facts}
 use Rattle.inspect.specs.Reading.{inspection}
 use Rattle.history.specs.Dispatch.{called}
 use Rattle.history.specs.Cuts.{firstRows}
 use Rattle.history.specs.Refusals.{ordersOf, Answers}
-use Rattle.history.specs.Formats.{headerBlock, Exactly, Known, Used, Formats, AtCounter, Begins}
+use Rattle.history.specs.Formats.{headerBlock, Exactly, Known, Used, Formats, AtCounter}
 use Rattle.history.proofs.Relation.CauseLaws.{facts-sizes, record-facts, facts-record, cause-passes}
 use Rattle.history.proofs.Relation.Forms.{called-refused, unless-either}
 use Rattle.history.proofs.Boundary.Refusals as RefusalsProof
+
+-- ---- exactly if
+
+pub by-yes : {P A B : Type 0} → Exactly P A B → P → A
+by-yes (_⊎_.inl (p, a)) q = a
+by-yes (_⊎_.inr (n, b)) q = absurd (n q)
+
+pub by-no : {P A B : Type 0} → Exactly P A B → (P → ⊥) → B
+by-no (_⊎_.inl (p, a)) n = absurd (n p)
+by-no (_⊎_.inr (m, b)) n = b
 
 module _ (geo : Geometry) where
   -- ---- any state
@@ -170,11 +176,7 @@ module _ (geo : Geometry) where
 
   pub other-served : (st : State) → wrongSizes geo st ≡ false → numberAt 0 4 (headerBlock (st .settled)) ≢ formatNumber → formatCall geo st .answer ≡ 0
   unfolding formatCall called
-  other-served st h n = go (row st h)
-    where
-      go : Exactly (Used geo (st .settled)) (called geo Request.format st ≡ refused 13 st) (called geo Request.format st ≡ completed (formatted st)) → called geo Request.format st .answer ≡ 0
-      go (_⊎_.inl (u, e)) = absurd (n (u .ours .format))
-      go (_⊎_.inr (o, e)) = ap (λ (x : Outcome). x .answer) e
+  other-served st h n = ap (λ (o : Outcome). o .answer) (by-no (row st h) (λ u. n (u .ours .format)))
 
   pub zeros-other : (N : ℕ) → 0 < N → numberAt 0 4 (headerBlock (replicate (blockBytes * N) 0)) ≢ formatNumber
   zeros-other N h e =

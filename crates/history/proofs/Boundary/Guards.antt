@@ -7,7 +7,7 @@ use mathlib.Core.List.{List, [], _∷_}
 use native.Mathlib.Omega.{arith}
 use native.Mathlib.Decide.{ℕ-discrete}
 use borrow.Author.Tests.{eq-eqb}
-use lib.Dec.{eqb, leb}
+use lib.Dec.{leb}
 use lib.ListN.{length, replicate, length-replicate, getD-replicate}
 use Rattle.cells.specs.Entry.{Entry}
 use Rattle.fnv.specs.Fnv.{start}
@@ -20,13 +20,13 @@ use Rattle.card.proofs.Spreads.{marksOf-fit, marksOf-kept}
 use Rattle.card.proofs.Leaves.{AllLost, cut-leaves, lost-header}
 use Rattle.journal.specs.Geometry.{Geometry}
 use Rattle.journal.specs.Layout.{headerAt}
-use Rattle.journal.specs.Header.{header, decode}
+use Rattle.journal.specs.Header.{decode}
 use Rattle.journal.specs.Log.{headerOf, sumOf}
 use Rattle.journal.specs.Ours.{OurHeader}
 use Rattle.journal.specs.declared.header.Header.{Header}
 use Rattle.journal.specs.Choice.{foreign}
 use Rattle.journal.proofs.OurHeaders.{known-bytes}
-use Rattle.crash.proofs.Cards.{Every, HasHeader, WholeCard, FallCard, ClosedCard}
+use Rattle.crash.proofs.Cards.{Every, HasHeader, FallCard, ClosedCard}
 use Rattle.crash.proofs.Leads.{read-head}
 use Rattle.crash.proofs.Logs.{logD}
 use Rattle.store.specs.declared.record.Record.{Record}
@@ -45,7 +45,7 @@ use Rattle.history.specs.Dispatch.{called, dispatch}
 use Rattle.history.specs.Ledger.{Ledger}
 use Rattle.history.specs.History.{World, begun}
 use Rattle.history.specs.Statements.{finished}
-use Rattle.history.specs.Formats.{headerBlock, countIn, Exactly, Known, Used, AtCounter, Begins, Guards, GuardsPlain}
+use Rattle.history.specs.Formats.{headerBlock, countIn, Known, AtCounter, Begins, Guards, GuardsPlain}
 use Rattle.history.proofs.Relation.CauseLaws.{facts-sizes, record-facts}
 use Rattle.history.proofs.Relation.Forms.{called-refused}
 use Rattle.history.proofs.Relation.Sim.{OpenSim, ClosedSim, DownSim, Sim, Safe}
@@ -54,7 +54,7 @@ use Rattle.history.proofs.Steps.Cut.{any-cut-leads}
 use Rattle.history.proofs.Steps.ListInduction.{next-safe, formatted-now, begun-safe}
 use Rattle.history.proofs.Atomicity.Finished.{finished-opens}
 use Rattle.history.proofs.Boundary.Cuts.{waits-whole}
-use Rattle.history.proofs.Boundary.Formats.{row, zeros-served}
+use Rattle.history.proofs.Boundary.Formats.{by-yes, by-no, row, zeros-served}
 
 -- marks that lose every write
 abbrev lost : List Entry → List ℕ
@@ -142,25 +142,11 @@ module _ (geo : Geometry) where
 
     turned : 0 < countIn (st .settled) → AtCounter geo (st .settled) (λ t. formatCall geo t ≡ refused 13 t)
     unfolding formatCall called
-    turned h r w k a b = go (row geo (stateOf r (st .settled) w k) (sized r w k a b))
-      where
-        t : State
-        t = stateOf r (st .settled) w k
-
-        go : Exactly (Used geo (st .settled)) (called geo Request.format t ≡ refused 13 t) (called geo Request.format t ≡ completed (formatted t)) → called geo Request.format t ≡ refused 13 t
-        go (_⊎_.inl (u, e)) = e
-        go (_⊎_.inr (n, e)) = absurd (n (record { ours = known st l d m; above = h }))
+    turned h r w k a b = by-yes (row geo (stateOf r (st .settled) w k) (sized r w k a b)) (record { ours = known st l d m; above = h })
 
     served : countIn (st .settled) ≡ 0 → AtCounter geo (st .settled) (λ t. formatCall geo t ≡ completed (formatted t))
     unfolding formatCall called
-    served h r w k a b = go (row geo (stateOf r (st .settled) w k) (sized r w k a b))
-      where
-        t : State
-        t = stateOf r (st .settled) w k
-
-        go : Exactly (Used geo (st .settled)) (called geo Request.format t ≡ refused 13 t) (called geo Request.format t ≡ completed (formatted t)) → called geo Request.format t ≡ completed (formatted t)
-        go (_⊎_.inl (u, e)) = absurd (omega (arith, u .above))
-        go (_⊎_.inr (n, e)) = e
+    served h r w k a b = by-no (row geo (stateOf r (st .settled) w k) (sized r w k a b)) (λ u. omega (arith, u .above))
 
     open-count : st .rec .mode ≡ openMode → countIn (st .settled) ≡ st .rec .logged
     open-count o = go (m .phase)
