@@ -101,13 +101,14 @@ extern "C" {
  * whose header trapcard_recover would not call foreign, N being that of the buffer, and whose count is above 0: its log has saves,
  * or the header is that of a save that power cut off. Every byte is left.
  *
- * 13 does not protect a card whose log is empty: after trapcard_apply the saves are in the home blocks, the header's count is 0, and
- * a format wipes them out. Nor does it see a first save whose header still waits. Whoever wants to know what a card holds recovers it
- * first.
+ * 13 does not protect every card with saves. After trapcard_apply they are in the home blocks, the header's count is 0, and a format
+ * wipes them out; likewise a save onto an empty log whose header still waits. A card that is lent with another length than it was
+ * formatted with is foreign, as is one of format 1, and a format takes it. Whoever wants to know what a card holds recovers it first.
  *
  * To give a card up on purpose, overwrite block 0 of it with zeros, outside the store; then format it:
  *     memset(settled, 0, TRAPCARD_BLOCK);
- * Such a card is foreign, and what it held can't be recovered any more. No call here does this, so none can by accident.
+ * Such a card is foreign, and what it held can't be recovered any more. No call here overwrites block 0 of a card that format turns
+ * down, but with what that call is for.
  *
  * Not safe against power loss: a card that was cut off while it was formatted is formatted again, and given up again first if its
  * old header still stands. */

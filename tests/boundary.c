@@ -613,6 +613,18 @@ static void foreign(void)
     refused(FORMAT, 0, TRAPCARD_ERR_IN_USE);
 }
 
+/* Save number 0: with like counts and sums a card is in use, with unlike sums it is foreign. */
+static void unnumbered(void)
+{
+    used();
+    c.settled[32] = 0;
+    c.settled[8] = c.settled[12];
+    memcpy(c.settled + 16, c.settled + 24, 8);
+    refused(FORMAT, 0, TRAPCARD_ERR_IN_USE);
+    c.settled[16]++;
+    formatted();
+}
+
 /* ---- tally and alike */
 
 static uint8_t large[(TRAPCARD_MOST + 1) * TRAPCARD_BLOCK];
@@ -711,6 +723,7 @@ int main(void)
     in_use();
     given_up();
     foreign();
+    unnumbered();
     bounds();
     inspections();
     printf("boundary: the fifteen functions answer through the header, and write nothing else\n");

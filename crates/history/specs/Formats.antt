@@ -33,12 +33,12 @@ countIn s = numberAt 12 4 (headerBlock s)
 
 -- ---- any state
 
--- A exactly if P, and else B
+-- P and A, or not P and B: where A and B exclude each other, as they do in all that follows, A exactly if P, and else B
 abbrev pub Exactly : Type 0 → Type 0 → Type 0 → Type 0
 Exactly P A B = (P × A) ⊎ ((P → ⊥) × B)
 
 module _ (geo : Geometry) where
-  -- the header is not foreign, "judged with the N of the buffer"
+  -- the header is not foreign, judged with the N of the buffer
   abbrev pub Known : List ℕ → Type 0
   Known s = OurHeader geo (blocksIn s) (headerBlock s)
 
@@ -57,6 +57,9 @@ module _ (geo : Geometry) where
     -- "a card that recover would not call foreign": recover of any closed record that passes 1 and 2, of which there is one
     pub recovers : (r : Record) → r .mode ≡ closed → firstRows geo (withRecord r st) ≡ 0
         → Exactly (Known (st .settled)) (called geo Request.recover (withRecord r st) .answer ≢ 8) (called geo Request.recover (withRecord r st) ≡ refused 8 (withRecord r st))
+    -- the request's sentence by what that recover itself answers, and n by its bytes
+    pub turns : wrongSizes geo st ≡ false → (r : Record) → r .mode ≡ closed → firstRows geo (withRecord r st) ≡ 0
+        → Exactly ((called geo Request.recover (withRecord r st) .answer ≢ 8) × (0 < countIn (st .settled))) (called geo Request.format st ≡ refused 13 st) (called geo Request.format st ≡ completed (formatted st))
     pub boots : wrongSizes geo st ≡ false → (r : Record) × (r .mode ≡ closed) × (firstRows geo (withRecord r st) ≡ 0)
     -- nor would tally and alike
     pub inspects : wrongSize geo (st .settled) ≡ false → Exactly (Known (st .settled)) (inspection geo (st .settled) ≢ 8) (inspection geo (st .settled) ≡ 8)
@@ -70,6 +73,8 @@ module _ (geo : Geometry) where
   -- "A history begins with a format that succeeded": there is one, for every N, on the card of zeros and on any that format itself left
   pub record Begins : Type 0 where
     pub zeros : (N : ℕ) → leastBlocks geo ≤ N → N ≤ mostBlocks → AtCounter (replicate (blockBytes * N) 0) (λ st. formatCall geo st .answer ≡ 0)
+    -- a card is given up on purpose by zeros over block 0, whatever else it holds
+    pub given-up : (s : List ℕ) → wrongSize geo s ≡ false → headerBlock s ≡ replicate blockBytes 0 → AtCounter s (λ st. formatCall geo st .answer ≡ 0)
     pub again : (st : State) → formatCall geo st .answer ≡ 0 → AtCounter (formatCall geo st .state .settled) (λ t. formatCall geo t .answer ≡ 0)
 
   -- ---- a card that a list of calls left
@@ -84,10 +89,10 @@ module _ (geo : Geometry) where
     pub saved : w .store .rec .grouped ≢ 0 → dispatch geo sync (w .store) .answer ≡ 0
         → AtCounter (dispatch geo sync (w .store) .state .settled) (λ st. formatCall geo st ≡ refused 13 st)
 
-  -- no exception before, and not down: that count is the plain disk's n, or above 0 if the header needs a fallback
+  -- no exception before, and not down: that count is the plain disk's n, or above it if the header needs a fallback
   pub record GuardsPlain (w : World) : Type 0 where
     pub whole : w .plain .F ≡ false → countIn (w .store .settled) ≡ w .plain .n
-    pub fallback : w .plain .F ≡ true → 0 < countIn (w .store .settled)
+    pub fallback : w .plain .F ≡ true → w .plain .n < countIn (w .store .settled)
 
   pub record AllFormats : Type 0 where
     pub any : (st : State) → Formats st

@@ -3,7 +3,7 @@
 use Prim.Native.Nat.{ℕ}
 use mathlib.Core.Path.{_≡_}
 use mathlib.Core.Logic.{_⊎_}
-use mathlib.Core.Bool.{Bool, true, false, cond, not, _&&_}
+use mathlib.Core.Bool.{cond}
 use mathlib.Core.List.{List, [], _∷_, _++_}
 use lib.Dec.{eqb}
 use lib.ListN.{getD, replicate}
@@ -96,28 +96,24 @@ unfoldable pub worldAfter : List (List ℕ) → World → World
 worldAfter [] w = w
 worldAfter (l ∷ ls) w = worldAfter ls (worldBy (says l) w)
 
--- no line says format
-abbrev pub isFormat : Says → Bool
-isFormat nothing = false
-isFormat begins = true
-isFormat (asks c) = false
-
-unfoldable pub noFormat : List (List ℕ) → Bool
-noFormat [] = true
-noFormat (l ∷ ls) = not (isFormat (says l)) && noFormat ls
+-- one of the lines, from a state on, is a format that answered 0
+abbrev pub ServedIn : State → List (List ℕ) → Type 0
+ServedIn st ls = (ks : List (List ℕ)) × (f : List ℕ) × (js : List (List ℕ)) × (ls ≡ ks ++ (f ∷ js)) × (says f ≡ begins) × (formatCall trap (leftAfter ks st) .answer ≡ 0)
 
 -- what a list of calls left, from a format answering 0
 abbrev pub Lists : World → Type 0
 Lists w = (st : State) × (cs : List Call) × (formatCall trap st .answer ≡ 0) × (w ≡ after trap cs (begun trap st))
 
--- For every input: a format answers 0 or, W-205, is turned down as 13, and the first answers 0. Behind one that answers 0 the lines print
--- what their calls come to along the list of calls that begins with it, up to the next such format, which begins another: at every line the
--- world is that of a list of calls
+-- For every input: a format answers 0 or, W-205, is turned down as 13, and then one before it answered 0, so the first answers 0. Behind one
+-- that answers 0 the lines print what their calls come to along the list of calls that begins with it, up to the next such format, which
+-- begins another: at every line the world is that of a list of calls, and its store is what the lines left
 pub record ScriptRun (ls ms : List (List ℕ)) : Type 0 where
   pub formats : (formatCall trap (leftAfter ls beginning) .answer ≡ 0) ⊎ (formatCall trap (leftAfter ls beginning) ≡ refused 13 (leftAfter ls beginning))
-  pub first : noFormat ls ≡ true → formatCall trap (leftAfter ls beginning) .answer ≡ 0
+  pub first : formatCall trap (leftAfter ls beginning) ≡ refused 13 (leftAfter ls beginning) → ServedIn beginning ls
   pub prints : (f : List ℕ) → parse f ≡ Format → formatCall trap (leftAfter ls beginning) .answer ≡ 0 → (input : List ℕ) → linesOf input ≡ ls ++ (f ∷ ms)
       → transcript input ≡ said ls beginning ++ (answerLine Format 0 0 ++ told ms (begun trap (leftAfter ls beginning)))
+  pub states : (f : List ℕ) → parse f ≡ Format → formatCall trap (leftAfter ls beginning) .answer ≡ 0
+      → leftAfter (f ∷ ms) (leftAfter ls beginning) ≡ worldAfter ms (begun trap (leftAfter ls beginning)) .store
   pub lists : formatCall trap (leftAfter ls beginning) .answer ≡ 0 → Lists (worldAfter ms (begun trap (leftAfter ls beginning)))
 
 abbrev pub ScriptsAreHistories : Type 0

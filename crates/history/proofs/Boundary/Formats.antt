@@ -1,12 +1,12 @@
 -- Format: which cards it turns down. The statements stand in specs/Formats.antt.
-use Prim.Native.Nat.{ℕ, _*_, _≤_, _<_}
+use Prim.Native.Nat.{ℕ, _*_, _%_, _≤_, _<_}
 use mathlib.Core.Path.{_≡_, refl, ap, sym, _∙_}
 use mathlib.Core.Logic.{_≢_, _⊎_}
 use mathlib.Core.Bool.{Bool, true, false, cond, true≢false}
 use mathlib.Core.List.{List}
 use native.Mathlib.Omega.{arith}
 use native.Mathlib.Decide.{ℕ-discrete}
-use borrow.Author.Tests.{eq-eqb, ne-eqb}
+use borrow.Author.Tests.{eq-eqb, ne-eqb, le-ltb}
 use lib.Dec.{eqb, leb}
 use lib.ListN.{length, replicate, length-replicate}
 use Rattle.cells.specs.Cell.Laws.{cell-zeros}
@@ -32,8 +32,8 @@ use Rattle.inspect.specs.Reading.{inspection}
 use Rattle.history.specs.Dispatch.{called}
 use Rattle.history.specs.Cuts.{firstRows}
 use Rattle.history.specs.Refusals.{ordersOf, Answers}
-use Rattle.history.specs.Formats.{headerBlock, Exactly, Known, Used, Formats, AtCounter}
-use Rattle.history.proofs.Relation.CauseLaws.{facts-sizes, record-facts, facts-record, cause-passes}
+use Rattle.history.specs.Formats.{headerBlock, countIn, Exactly, Known, Used, Formats, AtCounter}
+use Rattle.history.proofs.Relation.CauseLaws.{record-facts, facts-record, cause-passes}
 use Rattle.history.proofs.Relation.Forms.{called-refused, unless-either}
 use Rattle.history.proofs.Boundary.Refusals as RefusalsProof
 
@@ -161,6 +161,25 @@ module _ (geo : Geometry) where
       }) in
       (r, refl, rw (sizes, counts))
 
+  -- by what recover answers: what it calls foreign is not known, and what is known it does not
+  turns : (st : State) → wrongSizes geo st ≡ false → (r : Record) → r .mode ≡ closed → firstRows geo (withRecord r st) ≡ 0
+      → Exactly ((called geo Request.recover (withRecord r st) .answer ≢ 8) × (0 < countIn (st .settled))) (called geo Request.format st ≡ refused 13 st) (called geo Request.format st ≡ completed (formatted st))
+  turns st h r m z = go (row st h)
+    where
+      heard : Exactly (Known geo (st .settled)) (called geo Request.recover (withRecord r st) .answer ≢ 8) (called geo Request.recover (withRecord r st) ≡ refused 8 (withRecord r st))
+      heard = recovers (withRecord r st) m z
+
+      go : Exactly (Used geo (st .settled)) (called geo Request.format st ≡ refused 13 st) (called geo Request.format st ≡ completed (formatted st))
+          → Exactly ((called geo Request.recover (withRecord r st) .answer ≢ 8) × (0 < countIn (st .settled))) (called geo Request.format st ≡ refused 13 st) (called geo Request.format st ≡ completed (formatted st))
+      go (_⊎_.inl (u, e)) = _⊎_.inl ((by-yes heard (u .ours), u .above), e)
+      go (_⊎_.inr (n, e)) =
+          _⊎_.inr (
+            (λ p.
+                let foreign-now = by-no heard (λ k. n (record { ours = k; above = p .1 })) in
+                p .0 (ap (λ (o : Outcome). o .answer) foreign-now)),
+            e,
+          )
+
   pub any : (st : State) → Formats geo st
   any st = record {
     early = early st;
@@ -168,6 +187,7 @@ module _ (geo : Geometry) where
     blind = blind st;
     blank = blank st;
     recovers = λ r m h. recovers (withRecord r st) m h;
+    turns = turns st;
     boots = boots st;
     inspects = inspects (st .settled);
   }
@@ -178,16 +198,27 @@ module _ (geo : Geometry) where
   unfolding formatCall called
   other-served st h n = ap (λ (o : Outcome). o .answer) (by-no (row st h) (λ u. n (u .ours .format)))
 
-  pub zeros-other : (N : ℕ) → 0 < N → numberAt 0 4 (headerBlock (replicate (blockBytes * N) 0)) ≢ formatNumber
-  zeros-other N h e =
-      let blank : headerBlock (replicate (blockBytes * N) 0) ≡ replicate blockBytes 0 = cell-zeros blockBytes (blockBytes * N) headerAt (omega arith) in
+  -- zeros over block 0
+  pub blank-other : (s : List ℕ) → headerBlock s ≡ replicate blockBytes 0 → numberAt 0 4 (headerBlock s) ≢ formatNumber
+  blank-other s z e =
       let none : numberAt 0 4 (replicate blockBytes 0) ≡ 0 = simp (num-cons, num-nil) in
-      let z : numberAt 0 4 (headerBlock (replicate (blockBytes * N) 0)) ≡ 0 = ap (numberAt 0 4) blank ∙ none in
+      let naught : numberAt 0 4 (headerBlock s) ≡ 0 = ap (numberAt 0 4) z ∙ none in
       omega arith
 
-  pub zeros-served : (N : ℕ) → leastBlocks geo ≤ N → N ≤ mostBlocks → AtCounter geo (replicate (blockBytes * N) 0) (λ st. formatCall geo st .answer ≡ 0)
-  zeros-served N least most r w k a b =
+  pub given-up : (s : List ℕ) → wrongSize geo s ≡ false → headerBlock s ≡ replicate blockBytes 0 → AtCounter geo s (λ st. formatCall geo st .answer ≡ 0)
+  unfolding wrongSizes
+  given-up s h z r w k a b = other-served (stateOf r s w k) (rw (h, eq-eqb _ _ a, eq-eqb _ _ b)) (blank-other s z)
+
+  pub zeros-blank : (N : ℕ) → 0 < N → headerBlock (replicate (blockBytes * N) 0) ≡ replicate blockBytes 0
+  zeros-blank N h = cell-zeros blockBytes (blockBytes * N) headerAt (omega arith)
+
+  zeros-size : (N : ℕ) → leastBlocks geo ≤ N → N ≤ mostBlocks → wrongSize geo (replicate (blockBytes * N) 0) ≡ false
+  unfolding wrongSize
+  zeros-size N least most =
       let size : length (replicate {A = ℕ} (blockBytes * N) 0) ≡ blockBytes * N = length-replicate (blockBytes * N) 0 in
-      other-served (stateOf r (replicate (blockBytes * N) 0) w k)
-      (facts-sizes geo (stateOf r (replicate (blockBytes * N) 0) w k) (record { settled = omega arith; least = omega arith; most = omega arith; waiting = a; work = b }))
-      (zeros-other N (omega arith))
+      let whole : length (replicate {A = ℕ} (blockBytes * N) 0) % blockBytes ≡ 0 = omega arith in
+      let N-is : blocksIn (replicate (blockBytes * N) 0) ≡ N = omega arith in
+      rw (eq-eqb _ _ whole, N-is, le-ltb _ _ least, le-ltb _ _ most)
+
+  pub zeros-served : (N : ℕ) → leastBlocks geo ≤ N → N ≤ mostBlocks → AtCounter geo (replicate (blockBytes * N) 0) (λ st. formatCall geo st .answer ≡ 0)
+  zeros-served N least most = given-up (replicate (blockBytes * N) 0) (zeros-size N least most) (zeros-blank N (omega arith))

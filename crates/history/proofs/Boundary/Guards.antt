@@ -8,7 +8,8 @@ use native.Mathlib.Omega.{arith}
 use native.Mathlib.Decide.{ℕ-discrete}
 use borrow.Author.Tests.{eq-eqb}
 use lib.Dec.{leb}
-use lib.ListN.{length, replicate, length-replicate, getD-replicate}
+use lib.ListN.{length, replicate, take, length-replicate, getD-replicate}
+use lib.Seq.{take-all}
 use Rattle.cells.specs.Entry.{Entry}
 use Rattle.fnv.specs.Fnv.{start}
 use Rattle.crash.specs.Laid.{Laid}
@@ -54,7 +55,7 @@ use Rattle.history.proofs.Steps.Cut.{any-cut-leads}
 use Rattle.history.proofs.Steps.ListInduction.{next-safe, formatted-now, begun-safe}
 use Rattle.history.proofs.Atomicity.Finished.{finished-opens}
 use Rattle.history.proofs.Boundary.Cuts.{waits-whole}
-use Rattle.history.proofs.Boundary.Formats.{by-yes, by-no, row, zeros-served}
+use Rattle.history.proofs.Boundary.Formats.{by-yes, by-no, row, given-up, zeros-served}
 
 -- marks that lose every write
 abbrev lost : List Entry → List ℕ
@@ -73,10 +74,6 @@ lost-fits q = marksOf-fit (replicate (length q) false) q (length-replicate (leng
 
 lost-kept : (q : List Entry) (i : ℕ) → i < length q → keptAt (lost q) i ≡ false
 lost-kept q i h = marksOf-kept (replicate (length q) false) i (rw (length-replicate) h) ∙ getD-replicate (length q) i false false h
-
-nothing-in : (w : List Entry) → length w ≡ 0 → w ≡ []
-nothing-in [] h = refl
-nothing-in (e ∷ w) h = absurd (omega arith)
 
 -- the record of a call whose orders were all carried out
 carried-log : (os : List Order) (done gone : Record) (st : State) → carried os done gone st .answer ≡ 0 → carried os done gone st .state .rec .logged ≡ done .logged
@@ -196,13 +193,15 @@ module _ (geo : Geometry) where
 
   -- ---- by the plain disk
 
-  -- a card that needs a fallback has entries: they are not those written
-  falls-above : {X : ℕ → Type 0} {N : ℕ} {d : Disk} {w : List Entry} {S : Laid} {n : ℕ} (r : FallCard geo X N d w S n) → 0 < r .c
-  falls-above {d = d} {w = w} r = go (ℕ-discrete (r .c) 0)
+  -- a card that needs a fallback counts more entries than are taken then: with as many they would be those written
+  falls-above : {X : ℕ → Type 0} {N : ℕ} {d : Disk} {w : List Entry} {S : Laid} {n : ℕ} (r : FallCard geo X N d w S n) → n < r .c
+  falls-above {d = d} {w = w} {n = n} r = go (ℕ-discrete (r .c) n)
     where
-      go : Dec (r .c ≡ 0) → 0 < r .c
-      go (yes z) = absurd (r .other (nothing-in w (r .size ∙ z) ∙ sym (ap (logD geo d) z)))
-      go (no z) = omega arith
+      go : Dec (r .c ≡ n) → n < r .c
+      go (yes z) =
+          let all : take n w ≡ w = take-all n w (omega (arith, r .size)) in
+          absurd (r .other (sym all ∙ r .front ∙ sym (ap (logD geo d) z)))
+      go (no z) = omega (arith, r .head .ordered)
 
   pub guards-plain : (w : World) → WorldSim geo w → w .store .rec .mode ≢ down → GuardsPlain geo w
   guards-plain w m c = go (m .phase)
@@ -217,7 +216,7 @@ module _ (geo : Geometry) where
       by false f r = record { whole = λ e. count-read N (w .store .settled) _ _ _ _ _ small (r .head); fallback = λ e. absurd (true≢false (sym e ∙ f)) }
       by true f r = record {
         whole = λ e. absurd (true≢false (sym f ∙ e));
-        fallback = λ e. subst (λ (k : ℕ). 0 < k) (sym (count-read N (w .store .settled) _ _ _ _ _ small (r .head))) (falls-above r);
+        fallback = λ e. subst (λ (k : ℕ). w .plain .n < k) (sym (count-read N (w .store .settled) _ _ _ _ _ small (r .head))) (falls-above r);
       }
 
       go : OpenSim geo (w .store) (w .ledger) (w .plain) ⊎ (ClosedSim geo (w .store) (w .ledger) (w .plain) ⊎ DownSim geo (w .store) (w .ledger) (w .plain)) → GuardsPlain geo w
@@ -238,4 +237,4 @@ module _ (geo : Geometry) where
       ap (λ (o : Outcome). o .answer) (served (formatCall geo st .state) (s .ledger) (s .plain) (s .sim) none r w k a b)
 
   pub begins : Begins geo
-  begins = record { zeros = zeros-served geo; again = again }
+  begins = record { zeros = zeros-served geo; given-up = given-up geo; again = again }

@@ -2,11 +2,11 @@
 use Prim.Native.Nat.{ℕ, _*_}
 use mathlib.Core.Path.{_≡_, refl, ap, sym, subst, _∙_}
 use mathlib.Core.Logic.{_≢_, _⊎_}
-use mathlib.Core.Bool.{Bool, true, false, cond, not, true≢false}
+use mathlib.Core.Bool.{Bool, true, false, cond}
 use mathlib.Core.List.{List, [], _∷_, _++_, append-assoc}
 use native.Mathlib.Omega.{arith}
 use native.Mathlib.Decide.{ℕ-discrete}
-use borrow.Author.Tests.{eq-eqb, ne-eqb, eqb-false, not-true}
+use borrow.Author.Tests.{eq-eqb, ne-eqb, eqb-false}
 use lib.Dec.{eqb}
 use lib.ListN.{length, getD, replicate, length-replicate}
 use Rattle.cells.specs.Entry.{blockBytes}
@@ -35,18 +35,17 @@ use Rattle.script.specs.Replies.{perform, answered}
 use Rattle.script.specs.Transcript.{reply, printed, said, beginning, transcript}
 use Rattle.journal.specs.Geometry.{trap}
 use Rattle.journal.specs.Choice.{choose, choiceNumber}
-use Rattle.journal.specs.Ours.{numberAt, OurHeader}
-use Rattle.journal.proofs.Choices.{both}
+use Rattle.journal.specs.Ours.{OurHeader}
 use Rattle.history.specs.Call.{Call, requestOf, local, save, cut, power, put, get, commit, abandon, sync, apply, recover}
 use Rattle.history.specs.Dispatch.{called, dispatch, blockOf}
 use Rattle.history.specs.History.{World, begun, next, after}
-use Rattle.history.specs.Scripts.{Says, nothing, begins, asks, saysOf, says, lineOf, leftBy, ByCall, leftAfter, worldBy, told, worldAfter, isFormat, noFormat, Lists, ScriptsAreHistories}
+use Rattle.history.specs.Scripts.{Says, nothing, begins, asks, saysOf, says, lineOf, leftBy, ByCall, leftAfter, worldBy, told, worldAfter, ServedIn, Lists, ScriptsAreHistories}
 use Rattle.history.specs.Formats.{headerBlock, Exactly, Used}
 use Rattle.history.proofs.Relation.CauseLaws.{cause-passes}
 use Rattle.history.proofs.Relation.Forms.{SameSizes, get-called, called-sized, unless-either}
 use Rattle.history.proofs.Steps.Shown.{dispatch-refused}
 use Rattle.history.proofs.Steps.ListInduction.{after-append}
-use Rattle.history.proofs.Boundary.Formats.{row, choice, other-served, zeros-other}
+use Rattle.history.proofs.Boundary.Formats.{row, choice, other-served, blank-other, zeros-blank}
 
 -- ---- a line
 
@@ -123,7 +122,7 @@ blank-foreign st b e = go (choice trap (st .rec .blocks) (st .settled))
     not-eight = eqb-false k 8 (cause-passes trap Request.recover st e .own .1 .1 .0)
 
     go : Exactly (OurHeader trap (st .rec .blocks) (headerBlock (st .settled))) (k ≢ 8) (k ≡ 8) → ⊥
-    go (_⊎_.inl (o, n)) = zeros-other trap 64 (omega arith) (ap (λ (s : List ℕ). numberAt 0 4 (headerBlock s)) (sym (b .zeros)) ∙ o .format)
+    go (_⊎_.inl (o, n)) = blank-other trap (st .settled) (ap headerBlock (b .zeros) ∙ zeros-blank trap 64 (omega arith)) (o .format)
     go (_⊎_.inr (n, z)) = not-eight z
 
 -- a call that needs an open record is refused
@@ -156,17 +155,31 @@ blank-call (save Save.apply) st b = blank-refused apply st (blank-closed Request
 blank-call (save Save.recover) st b = blank-refused recover st (blank-foreign st b) b
 blank-call (cut ms) st b = blank-cut ms st b
 
-blank-line : (s : Says) (st : State) → isFormat s ≡ false → Blank st → Blank (leftBy s st)
-blank-line nothing st n b = b
-blank-line begins st n b = absurd (true≢false n)
-blank-line (asks c) st n b = blank-call c st b
+-- a format there answers 0
+blank-served : (st : State) → wrongSizes trap st ≡ false → Blank st → formatCall trap st .answer ≡ 0
+blank-served st z b = other-served trap st z (blank-other trap (st .settled) (ap headerBlock (b .zeros) ∙ zeros-blank trap 64 (omega arith)))
 
-blank-lines : (ls : List (List ℕ)) (st : State) → noFormat ls ≡ true → Blank st → Blank (leftAfter ls st)
-unfolding leftAfter noFormat
-blank-lines [] st n b = b
-blank-lines (l ∷ ls) st n b =
-    let p = both (not (isFormat (says l))) (noFormat ls) n in
-    blank-lines ls (reply l st .state) (p .1) (subst Blank (sym (by-call l st .leaves)) (blank-line (says l) st (not-true (isFormat (says l)) (p .0)) b))
+-- lines leave it so, up to the first format
+blank-lines : (ls : List (List ℕ)) (st : State) → wrongSizes trap st ≡ false → Blank st → Blank (leftAfter ls st) ⊎ ServedIn st ls
+unfolding leftAfter
+blank-lines [] st z b = _⊎_.inl b
+blank-lines (l ∷ ls) st z b = go (says l) refl (λ y c. blank-lines ls (reply l st .state) y c)
+  where
+    later : Blank (leftAfter ls (reply l st .state)) ⊎ ServedIn (reply l st .state) ls → Blank (leftAfter ls (reply l st .state)) ⊎ ServedIn st (l ∷ ls)
+    later (_⊎_.inl c) = _⊎_.inl c
+    later (_⊎_.inr (ks, f, js, e, p, h)) = _⊎_.inr (l ∷ ks, f, js, ap (λ (k : List (List ℕ)). l ∷ k) e, p, h)
+
+    left : (s : Says) → says l ≡ s → reply l st .state ≡ leftBy s st
+    left s e = by-call l st .leaves ∙ ap (λ (x : Says). leftBy x st) e
+
+    sized : wrongSizes trap (reply l st .state) ≡ false
+    sized = ap (wrongSizes trap) (by-call l st .leaves) ∙ line-sizes (says l) st ∙ z
+
+    go : (s : Says) → says l ≡ s → (wrongSizes trap (reply l st .state) ≡ false → Blank (reply l st .state) → Blank (leftAfter ls (reply l st .state)) ⊎ ServedIn (reply l st .state) ls)
+        → Blank (leftAfter ls (reply l st .state)) ⊎ ServedIn st (l ∷ ls)
+    go nothing e more = later (more sized (subst Blank (sym (left nothing e)) b))
+    go begins e more = _⊎_.inr ([], l, ls, refl, e, blank-served st z b)
+    go (asks c) e more = later (more sized (subst Blank (sym (left (asks c) e)) (blank-call c st b)))
 
 blank-beginning : Blank beginning
 unfolding beginning
@@ -223,6 +236,12 @@ unfolding worldAfter
 lines-listed [] w l = l
 lines-listed (m ∷ ms) w l = lines-listed ms (worldBy (says m) w) (line-listed (says m) w l)
 
+-- its store is what the lines left
+left-world : (ms : List (List ℕ)) (w : World) → leftAfter ms (w .store) ≡ worldAfter ms w .store
+unfolding leftAfter worldAfter
+left-world [] w = refl
+left-world (m ∷ ms) w = ap (leftAfter ms) (by-call m (w .store) .leaves ∙ called-store (says m) w) ∙ left-world ms (worldBy (says m) w)
+
 -- ---- the theorem
 
 format-line : (f : List ℕ) (st : State) → parse f ≡ Format → formatCall trap st .answer ≡ 0 → printed f st ≡ answerLine Format 0 0
@@ -233,19 +252,28 @@ format-left : (f : List ℕ) (st : State) → parse f ≡ Format → reply f st 
 unfolding begun formatCall called
 format-left f st p = by-call f st .leaves ∙ ap (λ (c : Command). leftBy (saysOf c f) st) p
 
+-- a format that is turned down stands behind one that was served
+turned-later : (ls : List (List ℕ)) → formatCall trap (leftAfter ls beginning) ≡ refused 13 (leftAfter ls beginning) → ServedIn beginning ls
+turned-later ls e = go (blank-lines ls beginning beginning-sizes blank-beginning)
+  where
+    go : Blank (leftAfter ls beginning) ⊎ ServedIn beginning ls → ServedIn beginning ls
+    go (_⊎_.inl b) =
+        let z : _≡_ {A = ℕ} 13 0 = sym (ap (λ (o : Outcome). o .answer) e) ∙ blank-served (leftAfter ls beginning) (after-sizes ls beginning ∙ beginning-sizes) b in
+        absurd (omega arith)
+    go (_⊎_.inr s) = s
+
 pub scripts : ScriptsAreHistories
-unfolding transcript said after
+unfolding transcript said after leftAfter
 scripts ls ms = record {
   formats = format-done st sizes;
-  first = λ n.
-      let b = blank-lines ls beginning n blank-beginning in
-      other-served trap st sizes (λ e. zeros-other trap 64 (omega arith) (ap (λ (s : List ℕ). numberAt 0 4 (headerBlock s)) (sym (b .zeros)) ∙ e));
+  first = turned-later ls;
   prints = λ f p done input e.
       ap (λ (k : List (List ℕ)). said k beginning) e
       ∙ said-append ls (f ∷ ms) beginning
       ∙ ap (λ (x : List ℕ). said ls beginning ++ (x ++ said ms (reply f st .state))) (format-line f st p done)
       ∙ ap (λ (s : State). said ls beginning ++ (answerLine Format 0 0 ++ said ms s)) (format-left f st p)
       ∙ ap (λ (x : List ℕ). said ls beginning ++ (answerLine Format 0 0 ++ x)) (said-told ms (begun trap st));
+  states = λ f p done. ap (leftAfter ms) (format-left f st p) ∙ left-world ms (begun trap st);
   lists = λ done. lines-listed ms (begun trap st) (st, [], done, refl);
 }
   where

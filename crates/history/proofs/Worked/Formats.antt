@@ -42,4 +42,4 @@ module _ (w : World) (m : WorldSim trap w) where
 
   -- closed, with a fallback to come
   pub fall-count : {S : Laid} {n p : ℕ} {F : Bool} → w .plain ≡ closedAt S n p F → F ≡ true → 0 < countIn (w .store .settled)
-  fall-count e f = by-plain e (λ z. omega arith) .fallback (ap (λ (d : Plain). d .F) e ∙ f)
+  fall-count e f = let above = by-plain e (λ z. omega arith) .fallback (ap (λ (d : Plain). d .F) e ∙ f) in omega arith
