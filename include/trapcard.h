@@ -30,8 +30,9 @@
  *   3. trapcard_power, before any orders: the record just made has power for none.
  *   4. trapcard_recover. After 0 the record is open and has the number of the save found. After TRAPCARD_ERR_FOREIGN or
  *      TRAPCARD_ERR_UNSOUND this is no card of N blocks that a format made and these calls alone wrote since; trapcard_format
- *      makes it one, and forgets what it held. It does so at once with a foreign card. It turns down an unsound one whose header has a
- *      count above 0, and the firmware has to give that card up first (trapcard_format says how).
+ *      makes it one, and forgets what it held. It does so at once with a foreign card, one that is lent with a wrong length included. It
+ *      turns down an unsound one whose header has a count above 0, and the firmware has to give that card up first (trapcard_format
+ *      says how).
  *
  * "Checksum collisions apart" says: unless, at a power loss before, the log found on the card was another list than the log
  * written, as long and with the same sum.
@@ -98,17 +99,18 @@ extern "C" {
 
 /* Makes a fresh card: zeros everywhere, an empty log, save number 0, the record open with power 1,000,000. Returns 0, 1 or 13, and
  * looks at nothing but lengths and block 0: not at what the record holds, nor at any list. 13, TRAPCARD_ERR_IN_USE, is for a card
- * whose header trapcard_recover would not call foreign, N being that of the buffer, and whose count is above 0: its log has saves,
- * or the header is that of a save that power cut off. Every byte is left.
+ * whose header trapcard_recover would not call foreign, N being that of the buffer, and whose count is above 0. On a card that these
+ * calls left its log has saves then, or the header is that of a save that power cut off; of another, trapcard_recover may return 9.
+ * Every byte is left.
  *
  * 13 does not protect every card with saves. After trapcard_apply they are in the home blocks, the header's count is 0, and a format
  * wipes them out; likewise a save onto an empty log whose header still waits. A card that is lent with another length than it was
- * formatted with is foreign, as is one of format 1, and a format takes it. Whoever wants to know what a card holds recovers it first.
+ * formatted with is foreign, as is one of format 1, and a format takes it. Whoever wants to know what a card holds lends it with the
+ * length that it was formatted with and recovers it first; TRAPCARD_ERR_FOREIGN does not say that a card is empty.
  *
  * To give a card up on purpose, overwrite block 0 of it with zeros, outside the store; then format it:
  *     memset(settled, 0, TRAPCARD_BLOCK);
- * Such a card is foreign, and what it held can't be recovered any more. No call here overwrites block 0 of a card that format turns
- * down, but with what that call is for.
+ * Such a card is foreign, and what it held can't be recovered any more. No call here does this.
  *
  * Not safe against power loss: a card that was cut off while it was formatted is formatted again, and given up again first if its
  * old header still stands. */

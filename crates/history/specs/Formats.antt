@@ -54,14 +54,15 @@ module _ (geo : Geometry) where
     -- what the record holds plays no part: with another one the number is the same, and so is what a format that is served leaves
     pub blind : (r : Record) → called geo Request.format (withRecord r st) .answer ≡ called geo Request.format st .answer
     pub blank : (r : Record) → called geo Request.format st .answer ≡ 0 → called geo Request.format (withRecord r st) ≡ called geo Request.format st
-    -- "a card that recover would not call foreign": recover of any closed record that passes 1 and 2, of which there is one
+    -- "a card that recover would not call foreign": recover of any closed record that passes 1 and 2 (`boots`: there is one)
     pub recovers : (r : Record) → r .mode ≡ closed → firstRows geo (withRecord r st) ≡ 0
         → Exactly (Known (st .settled)) (called geo Request.recover (withRecord r st) .answer ≢ 8) (called geo Request.recover (withRecord r st) ≡ refused 8 (withRecord r st))
     -- the request's sentence by what that recover itself answers, and n by its bytes
-    pub turns : wrongSizes geo st ≡ false → (r : Record) → r .mode ≡ closed → firstRows geo (withRecord r st) ≡ 0
+    pub turns : (r : Record) → r .mode ≡ closed → firstRows geo (withRecord r st) ≡ 0
         → Exactly ((called geo Request.recover (withRecord r st) .answer ≢ 8) × (0 < countIn (st .settled))) (called geo Request.format st ≡ refused 13 st) (called geo Request.format st ≡ completed (formatted st))
+    -- for every card of a right size there is such a record
     pub boots : wrongSizes geo st ≡ false → (r : Record) × (r .mode ≡ closed) × (firstRows geo (withRecord r st) ≡ 0)
-    -- nor would tally and alike
+    -- tally and alike call a card foreign by the same bytes
     pub inspects : wrongSize geo (st .settled) ≡ false → Exactly (Known (st .settled)) (inspection geo (st .settled) ≢ 8) (inspection geo (st .settled) ≡ 8)
 
   -- ---- a format that is served

@@ -100,13 +100,19 @@ worldAfter (l ∷ ls) w = worldAfter ls (worldBy (says l) w)
 abbrev pub ServedIn : State → List (List ℕ) → Type 0
 ServedIn st ls = (ks : List (List ℕ)) × (f : List ℕ) × (js : List (List ℕ)) × (ls ≡ ks ++ (f ∷ js)) × (says f ≡ begins) × (formatCall trap (leftAfter ks st) .answer ≡ 0)
 
--- what a list of calls left, from a format answering 0
-abbrev pub Lists : World → Type 0
-Lists w = (st : State) × (cs : List Call) × (formatCall trap st .answer ≡ 0) × (w ≡ after trap cs (begun trap st))
+-- the calls that lines ask for
+abbrev pub askedBy : Says → List Call → List Call
+askedBy nothing cs = cs
+askedBy begins cs = cs
+askedBy (asks c) cs = c ∷ cs
+
+unfoldable pub asked : List (List ℕ) → List Call
+asked [] = []
+asked (l ∷ ls) = askedBy (says l) (asked ls)
 
 -- For every input: a format answers 0 or, W-205, is turned down as 13, and then one before it answered 0, so the first answers 0. Behind one
--- that answers 0 the lines print what their calls come to along the list of calls that begins with it, up to the next such format, which
--- begins another: at every line the world is that of a list of calls, and its store is what the lines left
+-- that answers 0 the lines print what their calls come to along a world whose store is what the lines left; and up to the next such format,
+-- which begins another, it is the world of the calls of these lines, from this format on
 pub record ScriptRun (ls ms : List (List ℕ)) : Type 0 where
   pub formats : (formatCall trap (leftAfter ls beginning) .answer ≡ 0) ⊎ (formatCall trap (leftAfter ls beginning) ≡ refused 13 (leftAfter ls beginning))
   pub first : formatCall trap (leftAfter ls beginning) ≡ refused 13 (leftAfter ls beginning) → ServedIn beginning ls
@@ -114,7 +120,8 @@ pub record ScriptRun (ls ms : List (List ℕ)) : Type 0 where
       → transcript input ≡ said ls beginning ++ (answerLine Format 0 0 ++ told ms (begun trap (leftAfter ls beginning)))
   pub states : (f : List ℕ) → parse f ≡ Format → formatCall trap (leftAfter ls beginning) .answer ≡ 0
       → leftAfter (f ∷ ms) (leftAfter ls beginning) ≡ worldAfter ms (begun trap (leftAfter ls beginning)) .store
-  pub lists : formatCall trap (leftAfter ls beginning) .answer ≡ 0 → Lists (worldAfter ms (begun trap (leftAfter ls beginning)))
+  pub lists : formatCall trap (leftAfter ls beginning) .answer ≡ 0 → (ServedIn (begun trap (leftAfter ls beginning) .store) ms → ⊥)
+      → worldAfter ms (begun trap (leftAfter ls beginning)) ≡ after trap (asked ms) (begun trap (leftAfter ls beginning))
 
 abbrev pub ScriptsAreHistories : Type 0
 ScriptsAreHistories = (ls ms : List (List ℕ)) → ScriptRun ls ms

@@ -80,7 +80,7 @@ pub fn choose(settled: &[u8], blocks: u32) -> Choice
     Choice::Neither
 }
 
-// Whether a card holds a log that a format would wipe out: its header is not foreign, and its count is above 0.
+// Whether a card is in use: its header is not foreign and has a count above 0, be a list good or not.
 pub fn in_use(settled: &[u8], blocks: u32) -> bool
     requires { ⌜ headerAt < blocksIn (now settled) ⌝ }
     ensures { λ r. ⌜ r ≡ Spec.inUse trap blocks (now (settled .entry)) ⌝ }

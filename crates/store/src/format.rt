@@ -21,8 +21,7 @@ ghost use Rattle.store.specs.CodeState.{stateOf, outcomeOf};
 ghost use Rattle.store.specs.Format.{formatCall};
 
 impl Record {
-    // format: zeros everywhere, an empty log's header, and a fresh record; 13 for a card with a log. What the old record holds plays no
-    // part.
+    // format: zeros everywhere, an empty log's header, and a fresh record; 13 for a card in use. What the old record holds plays no part.
     pub fn format(self, settled: &mut [u8], waiting: &mut [u8], work: &mut [u8]) -> Answer
         ensures { λ r. ⌜ outcomeOf (r .number) 0 (r .rec) (now (settled .exit)) (now (waiting .exit)) (now (work .exit)) ≡ formatCall trap (stateOf self (now (settled .entry)) (now (waiting .entry)) (now (work .entry))) ⌝ }
     {

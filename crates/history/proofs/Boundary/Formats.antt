@@ -162,10 +162,13 @@ module _ (geo : Geometry) where
       (r, refl, rw (sizes, counts))
 
   -- by what recover answers: what it calls foreign is not known, and what is known it does not
-  turns : (st : State) → wrongSizes geo st ≡ false → (r : Record) → r .mode ≡ closed → firstRows geo (withRecord r st) ≡ 0
+  turns : (st : State) (r : Record) → r .mode ≡ closed → firstRows geo (withRecord r st) ≡ 0
       → Exactly ((called geo Request.recover (withRecord r st) .answer ≢ 8) × (0 < countIn (st .settled))) (called geo Request.format st ≡ refused 13 st) (called geo Request.format st ≡ completed (formatted st))
-  turns st h r m z = go (row st h)
+  turns st r m z = go (row st sizes)
     where
+      sizes : wrongSizes geo st ≡ false
+      sizes = sized-alike (withRecord r st) (st .rec) (cause-passes geo (Request.power 0) (withRecord r st) z .sizes)
+
       heard : Exactly (Known geo (st .settled)) (called geo Request.recover (withRecord r st) .answer ≢ 8) (called geo Request.recover (withRecord r st) ≡ refused 8 (withRecord r st))
       heard = recovers (withRecord r st) m z
 

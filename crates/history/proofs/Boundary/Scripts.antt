@@ -39,12 +39,11 @@ use Rattle.journal.specs.Ours.{OurHeader}
 use Rattle.history.specs.Call.{Call, requestOf, local, save, cut, power, put, get, commit, abandon, sync, apply, recover}
 use Rattle.history.specs.Dispatch.{called, dispatch, blockOf}
 use Rattle.history.specs.History.{World, begun, next, after}
-use Rattle.history.specs.Scripts.{Says, nothing, begins, asks, saysOf, says, lineOf, leftBy, ByCall, leftAfter, worldBy, told, worldAfter, ServedIn, Lists, ScriptsAreHistories}
+use Rattle.history.specs.Scripts.{Says, nothing, begins, asks, saysOf, says, lineOf, leftBy, ByCall, leftAfter, worldBy, told, worldAfter, ServedIn, askedBy, asked, ScriptsAreHistories}
 use Rattle.history.specs.Formats.{headerBlock, Exactly, Used}
 use Rattle.history.proofs.Relation.CauseLaws.{cause-passes}
 use Rattle.history.proofs.Relation.Forms.{SameSizes, get-called, called-sized, unless-either}
 use Rattle.history.proofs.Steps.Shown.{dispatch-refused}
-use Rattle.history.proofs.Steps.ListInduction.{after-append}
 use Rattle.history.proofs.Boundary.Formats.{row, choice, other-served, blank-other, zeros-blank}
 
 -- ---- a line
@@ -220,21 +219,27 @@ said-told (l ∷ ls) w =
     ∙ ap (λ (st : State). lineOf (says l) (parse l) (w .store) ++ said ls st) (by-call l (w .store) .leaves ∙ called-store (says l) w)
     ∙ ap (λ (x : List ℕ). lineOf (says l) (parse l) (w .store) ++ x) (said-told ls (worldBy (says l) w))
 
--- at every line the world is that of a list of calls
-line-listed : (s : Says) (w : World) → Lists w → Lists (worldBy s w)
-unfolding after
-line-listed nothing w l = l
-line-listed begins w l = go (ℕ-discrete (called trap Request.format (w .store) .answer) 0)
+-- up to a format that answers 0 the world is that of the calls of the lines
+lines-listed : (ms : List (List ℕ)) (w : World) → (ServedIn (w .store) ms → ⊥) → worldAfter ms w ≡ after trap (asked ms) w
+unfolding worldAfter after asked leftAfter
+lines-listed [] w n = refl
+lines-listed (m ∷ ms) w n = go (says m) refl (λ v k. lines-listed ms v k)
   where
-    go : Dec (called trap Request.format (w .store) .answer ≡ 0) → Lists (cond (eqb (called trap Request.format (w .store) .answer) 0) (begun trap (w .store)) w)
-    go (yes e) = rw (eq-eqb _ 0 e) (w .store, [], by-format (w .store) e, refl)
-    go (no e) = rw (ne-eqb _ 0 e) l
-line-listed (asks c) w (st, cs, h, e) = (st, cs ++ (c ∷ []), h, ap (next trap c) e ∙ sym (after-append trap cs (c ∷ []) (begun trap st)))
+    -- what is served behind this line is served behind the lines
+    unserved : (s : Says) → says m ≡ s → ServedIn (worldBy s w .store) ms → ⊥
+    unserved s e (ks, f, js, x, p, h) =
+        let left : reply m (w .store) .state ≡ worldBy s w .store = by-call m (w .store) .leaves ∙ ap (λ (y : Says). leftBy y (w .store)) e ∙ called-store s w in
+        n (m ∷ ks, f, js, ap (λ (k : List (List ℕ)). m ∷ k) x, p, ap (λ (st : State). formatCall trap (leftAfter ks st) .answer) left ∙ h)
 
-lines-listed : (ms : List (List ℕ)) (w : World) → Lists w → Lists (worldAfter ms w)
-unfolding worldAfter
-lines-listed [] w l = l
-lines-listed (m ∷ ms) w l = lines-listed ms (worldBy (says m) w) (line-listed (says m) w l)
+    turned : says m ≡ begins → called trap Request.format (w .store) .answer ≢ 0
+    turned e h = n ([], m, ms, refl, e, by-format (w .store) h)
+
+    go : (s : Says) → says m ≡ s → ((v : World) → (ServedIn (v .store) ms → ⊥) → worldAfter ms v ≡ after trap (asked ms) v) → worldAfter ms (worldBy s w) ≡ after trap (askedBy s (asked ms)) w
+    go nothing e more = more w (unserved nothing e)
+    go begins e more =
+        let same : worldBy begins w ≡ w = rw (ne-eqb _ 0 (turned e)) in
+        ap (worldAfter ms) same ∙ more w (λ s. unserved begins e (subst (λ (v : World). ServedIn (v .store) ms) (sym same) s))
+    go (asks c) e more = more (next trap c w) (unserved (asks c) e)
 
 -- its store is what the lines left
 left-world : (ms : List (List ℕ)) (w : World) → leftAfter ms (w .store) ≡ worldAfter ms w .store
@@ -274,7 +279,7 @@ scripts ls ms = record {
       ∙ ap (λ (s : State). said ls beginning ++ (answerLine Format 0 0 ++ said ms s)) (format-left f st p)
       ∙ ap (λ (x : List ℕ). said ls beginning ++ (answerLine Format 0 0 ++ x)) (said-told ms (begun trap st));
   states = λ f p done. ap (leftAfter ms) (format-left f st p) ∙ left-world ms (begun trap st);
-  lists = λ done. lines-listed ms (begun trap st) (st, [], done, refl);
+  lists = λ done. lines-listed ms (begun trap st);
 }
   where
     st : State
