@@ -46,11 +46,15 @@ module _ (geo : Geometry) where
   abbrev pub Used : List ℕ → Type 0
   Used s = CountsEntries geo (blocksIn s) (headerBlock s)
 
+  -- format turns the card down exactly if P, "leaving everything", and else makes it anew
+  abbrev pub TurnedDownIf : Type 0 → State → Type 0
+  TurnedDownIf P st = Exactly P (called geo Request.format st ≡ refused 13 st) (called geo Request.format st ≡ completed (formatted st))
+
   pub record Formats (st : State) : Type 0 where
     -- 13 is "format's last check after 1"
     pub early : wrongSizes geo st ≡ true → called geo Request.format st ≡ refused 1 st
-    -- "Format shall turn down" such a card, "leaving everything"; every other is formatted
-    pub row : wrongSizes geo st ≡ false → Exactly (Used (st .settled)) (called geo Request.format st ≡ refused 13 st) (called geo Request.format st ≡ completed (formatted st))
+    -- "Format shall turn down" such a card; every other is formatted
+    pub row : wrongSizes geo st ≡ false → TurnedDownIf (Used (st .settled)) st
     -- what the record holds plays no part: with another one the number is the same, and so is what a format that is served leaves
     pub blind : (r : Record) → called geo Request.format (withRecord r st) .answer ≡ called geo Request.format st .answer
     pub blank : (r : Record) → called geo Request.format st .answer ≡ 0 → called geo Request.format (withRecord r st) ≡ called geo Request.format st
@@ -59,7 +63,7 @@ module _ (geo : Geometry) where
         → Exactly (Known (st .settled)) (called geo Request.recover (withRecord r st) .answer ≢ 8) (called geo Request.recover (withRecord r st) ≡ refused 8 (withRecord r st))
     -- the request's sentence by what that recover itself answers, and n by its bytes
     pub turns : (r : Record) → r .mode ≡ closed → firstRows geo (withRecord r st) ≡ 0
-        → Exactly ((called geo Request.recover (withRecord r st) .answer ≢ 8) × (0 < countIn (st .settled))) (called geo Request.format st ≡ refused 13 st) (called geo Request.format st ≡ completed (formatted st))
+        → TurnedDownIf ((called geo Request.recover (withRecord r st) .answer ≢ 8) × (0 < countIn (st .settled))) st
     -- for every card of a right size there is such a record
     pub boots : wrongSizes geo st ≡ false → (r : Record) × (r .mode ≡ closed) × (firstRows geo (withRecord r st) ≡ 0)
     -- tally and alike call a card foreign by the same bytes

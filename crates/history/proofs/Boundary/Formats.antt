@@ -32,7 +32,7 @@ use Rattle.inspect.specs.Reading.{inspection}
 use Rattle.history.specs.Dispatch.{called}
 use Rattle.history.specs.Cuts.{firstRows}
 use Rattle.history.specs.Refusals.{ordersOf, Answers}
-use Rattle.history.specs.Formats.{headerBlock, countIn, Exactly, Known, Used, Formats, AtCounter}
+use Rattle.history.specs.Formats.{headerBlock, countIn, Exactly, Known, Used, TurnedDownIf, Formats, AtCounter}
 use Rattle.history.proofs.Relation.CauseLaws.{record-facts, facts-record, cause-passes}
 use Rattle.history.proofs.Relation.Forms.{called-refused, unless-either}
 use Rattle.history.proofs.Boundary.Refusals as RefusalsProof
@@ -64,10 +64,10 @@ module _ (geo : Geometry) where
   unfolding called
   made-anew st h u = rw (h, u)
 
-  pub row : (st : State) → wrongSizes geo st ≡ false → Exactly (Used geo (st .settled)) (called geo Request.format st ≡ refused 13 st) (called geo Request.format st ≡ completed (formatted st))
+  pub row : (st : State) → wrongSizes geo st ≡ false → TurnedDownIf geo (Used geo (st .settled)) st
   row st h = go (inUse geo (blocksIn (st .settled)) (st .settled)) refl
     where
-      go : (t : Bool) → inUse geo (blocksIn (st .settled)) (st .settled) ≡ t → Exactly (Used geo (st .settled)) (called geo Request.format st ≡ refused 13 st) (called geo Request.format st ≡ completed (formatted st))
+      go : (t : Bool) → inUse geo (blocksIn (st .settled)) (st .settled) ≡ t → TurnedDownIf geo (Used geo (st .settled)) st
       go true u = _⊎_.inl (used-bytes geo (blocksIn (st .settled)) (st .settled) u, turned-down st h u)
       go false u = _⊎_.inr ((λ c. true≢false (sym (bytes-used geo (blocksIn (st .settled)) (st .settled) c) ∙ u)), made-anew st h u)
 
@@ -163,7 +163,7 @@ module _ (geo : Geometry) where
 
   -- by what recover answers: what it calls foreign is not known, and what is known it does not
   turns : (st : State) (r : Record) → r .mode ≡ closed → firstRows geo (withRecord r st) ≡ 0
-      → Exactly ((called geo Request.recover (withRecord r st) .answer ≢ 8) × (0 < countIn (st .settled))) (called geo Request.format st ≡ refused 13 st) (called geo Request.format st ≡ completed (formatted st))
+      → TurnedDownIf geo ((called geo Request.recover (withRecord r st) .answer ≢ 8) × (0 < countIn (st .settled))) st
   turns st r m z = go (row st sizes)
     where
       sizes : wrongSizes geo st ≡ false
@@ -172,8 +172,8 @@ module _ (geo : Geometry) where
       heard : Exactly (Known geo (st .settled)) (called geo Request.recover (withRecord r st) .answer ≢ 8) (called geo Request.recover (withRecord r st) ≡ refused 8 (withRecord r st))
       heard = recovers (withRecord r st) m z
 
-      go : Exactly (Used geo (st .settled)) (called geo Request.format st ≡ refused 13 st) (called geo Request.format st ≡ completed (formatted st))
-          → Exactly ((called geo Request.recover (withRecord r st) .answer ≢ 8) × (0 < countIn (st .settled))) (called geo Request.format st ≡ refused 13 st) (called geo Request.format st ≡ completed (formatted st))
+      go : TurnedDownIf geo (Used geo (st .settled)) st
+          → TurnedDownIf geo ((called geo Request.recover (withRecord r st) .answer ≢ 8) × (0 < countIn (st .settled))) st
       go (_⊎_.inl (u, e)) = _⊎_.inl ((by-yes heard (u .ours), u .above), e)
       go (_⊎_.inr (n, e)) =
           _⊎_.inr (

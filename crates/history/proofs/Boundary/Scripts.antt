@@ -2,7 +2,7 @@
 use Prim.Native.Nat.{ℕ, _*_}
 use mathlib.Core.Path.{_≡_, refl, ap, sym, subst, _∙_}
 use mathlib.Core.Logic.{_≢_, _⊎_}
-use mathlib.Core.Bool.{Bool, true, false, cond}
+use mathlib.Core.Bool.{true, false, cond}
 use mathlib.Core.List.{List, [], _∷_, _++_, append-assoc}
 use native.Mathlib.Omega.{arith}
 use native.Mathlib.Decide.{ℕ-discrete}
@@ -40,7 +40,7 @@ use Rattle.history.specs.Call.{Call, requestOf, local, save, cut, power,
 use Rattle.history.specs.Dispatch.{called, dispatch, blockOf}
 use Rattle.history.specs.History.{World, begun, next, after}
 use Rattle.history.specs.Scripts.{Says, nothing, begins, asks, saysOf, says, lineOf, leftBy, ByCall, leftAfter, worldBy, told, worldAfter, ServedIn, askedBy, asked, ScriptsAreHistories}
-use Rattle.history.specs.Formats.{headerBlock, Exactly, Used}
+use Rattle.history.specs.Formats.{headerBlock, Exactly, Used, TurnedDownIf}
 use Rattle.history.proofs.Relation.CauseLaws.{cause-passes}
 use Rattle.history.proofs.Relation.Forms.{SameSizes, get-called, called-sized, unless-either}
 use Rattle.history.proofs.Steps.Shown.{dispatch-refused}
@@ -97,7 +97,7 @@ format-done : (st : State) → wrongSizes trap st ≡ false → (formatCall trap
 unfolding formatCall called
 format-done st h = go (row trap st h)
   where
-    go : Exactly (Used trap (st .settled)) (called trap Request.format st ≡ refused 13 st) (called trap Request.format st ≡ completed (formatted st))
+    go : TurnedDownIf trap (Used trap (st .settled)) st
         → (called trap Request.format st .answer ≡ 0) ⊎ (called trap Request.format st ≡ refused 13 st)
     go (_⊎_.inl (u, e)) = _⊎_.inr e
     go (_⊎_.inr (n, e)) = _⊎_.inl (ap (λ (o : Outcome). o .answer) e)
@@ -206,9 +206,9 @@ unfolding begun next called formatCall
 called-store nothing w = refl
 called-store begins w = go (ℕ-discrete (called trap Request.format (w .store) .answer) 0)
   where
-    go : Dec (called trap Request.format (w .store) .answer ≡ 0) → called trap Request.format (w .store) .state ≡ cond (eqb (called trap Request.format (w .store) .answer) 0) (begun trap (w .store)) w .store
-    go (yes e) = ap (λ (t : Bool). cond t (begun trap (w .store)) w .store) (sym (eq-eqb _ 0 e))
-    go (no e) = refused-left (w .store) e ∙ ap (λ (t : Bool). cond t (begun trap (w .store)) w .store) (sym (ne-eqb _ 0 e))
+    go : Dec (called trap Request.format (w .store) .answer ≡ 0) → called trap Request.format (w .store) .state ≡ worldBy begins w .store
+    go (yes e) = rw (eq-eqb _ 0 e)
+    go (no e) = rw (ne-eqb _ 0 e) (refused-left (w .store) e)
 called-store (asks c) w = refl
 
 said-told : (ms : List (List ℕ)) (w : World) → said ms (w .store) ≡ told ms w
