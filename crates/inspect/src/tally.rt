@@ -1,19 +1,48 @@
-// tally: the sum of all data bytes, the log laid over.
+// tally: the sum of all data bytes, the log laid over. The home blocks are added up first, then corrected for the log.
 use crate::answer::Tally;
 use crate::reading::inspect;
-use crate::reading::laid_block;
+use card::settled::read;
+use cells::BLOCK;
 use journal::FIRST_DATA;
+use journal::log::is_data;
+use journal::log::slot_address;
+use journal::log::slot_block;
+use journal::lookup::Found;
+use journal::lookup::last_slot;
 ghost use mathlib.Core.Path.{_≡_};
-ghost use Prim.Native.Nat.{_*_, _≤_, _<_};
+ghost use mathlib.Core.Bool.{true};
+ghost use mathlib.Core.Logic.{_↔_};
+ghost use Prim.Native.Nat.{_+_, _*_, _^_, _≤_, _<_};
 ghost use lib.ListN.{length};
 ghost use Rattle.cells.specs.Entry.{blockBytes};
-ghost use Rattle.card.specs.Card.{blocksIn};
+ghost use Rattle.card.specs.Card.{blocksIn, blockAt};
 ghost use Rattle.journal.specs.Geometry.{trap};
-ghost use Rattle.journal.specs.Layout.{firstData, mostBlocks};
+ghost use Rattle.journal.specs.declared.lookup.Found.the-variants.{At};
+ghost use Rattle.journal.specs.Layout.{firstData, slotAt, isData, mostBlocks};
+ghost use Rattle.journal.specs.Log.{slotAddress};
+ghost use Rattle.journal.specs.Lookup.{lastSlot};
 ghost use Rattle.inspect.specs.Reading.{dataBlocks, laid};
 ghost use Rattle.inspect.specs.Tally.{sumBytes, sumData, tallyOf};
 
-// The sum of a block's bytes. In 32 bits, so that four of them fit a vector.
+// So many bytes are added up without a test between them, which compiles to sums of vectors.
+const CHUNK: usize = 64;
+
+// The sum of a chunk's bytes.
+fn sum_chunk(chunk: &[u8]) -> u32
+    requires { ⌜ length (now chunk) ≡ 64 ⌝ }
+    ensures { λ r. ⌜ r ≡ sumBytes (now (chunk .entry)) ⌝ }
+    ensures { λ r. ⌜ r ≤ 255 * 64 ⌝ }
+{
+    let mut sum: u32 = 0;
+    let mut i = 0;
+    while i < CHUNK {
+        sum += chunk[i] as u32;
+        i += 1;
+    }
+    sum
+}
+
+// The sum of a block's bytes, chunk by chunk.
 fn sum_bytes(block: &[u8]) -> u64
     requires { ⌜ length (now block) ≡ blockBytes ⌝ }
     ensures { λ r. ⌜ r ≡ sumBytes (now (block .entry)) ⌝ }
@@ -21,14 +50,60 @@ fn sum_bytes(block: &[u8]) -> u64
 {
     let mut sum: u32 = 0;
     let mut i = 0;
-    while i < block.len() {
-        sum += block[i] as u32;
+    while i < BLOCK / CHUNK {
+        let at = CHUNK * i;
+        sum += sum_chunk(&block[at..at + CHUNK]);
         i += 1;
     }
     sum as u64
 }
 
-// The sum of all data bytes, the first n entries laid over.
+// The sum of all data bytes in the home blocks.
+fn sum_homes(settled: &[u8], blocks: u32) -> u64
+    requires { ⌜ firstData trap < blocksIn (now settled) ⌝ }
+    requires { ⌜ blocks ≡ blocksIn (now settled) ⌝ }
+    ensures { λ r. ⌜ r ≡ sumData trap (blockAt (now (settled .entry))) (dataBlocks trap blocks) ⌝ }
+    ensures { λ r. ⌜ r ≤ 255 * blockBytes * blocks ⌝ }
+{
+    let mut sum: u64 = 0;
+    let mut a = FIRST_DATA;
+    while a < blocks {
+        sum += sum_bytes(read(settled, a));
+        a += 1;
+    }
+    sum
+}
+
+// Whether slot i decides a data block: it has the block's address, and no later one of the first n has.
+fn decides(settled: &[u8], blocks: u32, n: u32, i: u32) -> bool
+    requires { ⌜ firstData trap < blocksIn (now settled) ⌝ }
+    requires { ⌜ n ≤ trap .slots ⌝ }
+    requires { ⌜ i < n ⌝ }
+    ensures { λ r. ⌜ (r ≡ true) ↔ (isData trap blocks (slotAddress (now (settled .entry)) i) ≡ true) × (lastSlot (now (settled .entry)) (slotAddress (now (settled .entry)) i) n ≡ At i) ⌝ }
+{
+    let a = slot_address(settled, i);
+    let Found::At(newest) = last_slot(settled, a, n) else {
+        return false;
+    };
+    is_data(blocks, a) & (newest == i)
+}
+
+// A sum once slot i's block is laid over: the bytes of its home off, its own on.
+fn corrected(settled: &[u8], i: u32, sum: u64) -> u64
+    requires { ⌜ firstData trap < blocksIn (now settled) ⌝ }
+    requires { ⌜ i < trap .slots ⌝ }
+    requires { ⌜ slotAddress (now settled) i < blocksIn (now settled) ⌝ }
+    requires { ⌜ sumBytes (blockAt (now settled) (slotAddress (now settled) i)) ≤ sum ⌝ }
+    requires { ⌜ sum + 255 * blockBytes < 2 ^ 64 ⌝ }
+    ensures { λ r. ⌜ r + sumBytes (blockAt (now (settled .entry)) (slotAddress (now (settled .entry)) i)) ≡ sum + sumBytes (blockAt (now (settled .entry)) (slotAt trap i)) ⌝ }
+    ensures { λ r. ⌜ r ≤ sum + 255 * blockBytes ⌝ }
+{
+    let home = read(settled, slot_address(settled, i));
+    let own = slot_block(settled, i);
+    sum - sum_bytes(home) + sum_bytes(own)
+}
+
+// The sum of all data bytes, the first n entries laid over: that of the home blocks, corrected once for each address.
 fn sum_data(settled: &[u8], blocks: u32, n: u32) -> u64
     requires { ⌜ firstData trap < blocksIn (now settled) ⌝ }
     requires { ⌜ blocks ≡ blocksIn (now settled) ⌝ }
@@ -36,11 +111,13 @@ fn sum_data(settled: &[u8], blocks: u32, n: u32) -> u64
     requires { ⌜ n ≤ trap .slots ⌝ }
     ensures { λ r. ⌜ r ≡ sumData trap (laid trap (now (settled .entry)) n) (dataBlocks trap blocks) ⌝ }
 {
-    let mut sum: u64 = 0;
-    let mut a = FIRST_DATA;
-    while a < blocks {
-        sum += sum_bytes(laid_block(settled, a, n));
-        a += 1;
+    let mut sum = sum_homes(settled, blocks);
+    let mut i = 0;
+    while i < n {
+        if decides(settled, blocks, n, i) {
+            sum = corrected(settled, i, sum);
+        }
+        i += 1;
     }
     sum
 }

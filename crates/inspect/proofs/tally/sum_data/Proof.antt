@@ -1,56 +1,75 @@
--- `inspect::tally::sum_data` meets its contract. The invariant: the sum so far is that of the data blocks below a, and is bounded by
--- their bytes.
-use Prim.Native.Nat.{_*_, _-_, _≤_}
+-- `inspect::tally::sum_data` meets its contract. The invariant: the sum is that of the home blocks with each slot below i laid over
+-- that is the last with its address, and at most a block's bytes have come on top for each.
+use Prim.Native.Nat.{_+_, _*_, _-_, _≤_}
 use mathlib.Core.Path.{_≡_, ap, sym, _∙_}
+use mathlib.Core.Bool.{true≢false}
+use mathlib.Core.Logic.{⊎-elim}
 use native.Mathlib.Omega.{arith}
+use borrow.Author.Needs.{needs}
 use Rattle.cells.specs.Entry.{blockBytes}
+use Rattle.card.specs.Disk.{Disk}
 use Rattle.journal.specs.Geometry.{trap}
-use Rattle.journal.specs.Geometry.Laws.{trap-data}
-use Rattle.journal.specs.Layout.{firstData}
-use Rattle.inspect.specs.Reading.{dataBlocks, laid}
-use Rattle.inspect.specs.Tally.{sumBytes, sumData}
-use Rattle.inspect.proofs.Sums.{data-none, data-next}
+use Rattle.journal.specs.Log.{slotAddress}
+use Rattle.journal.proofs.Logs.{data-bounds}
+use Rattle.inspect.specs.Reading.{dataBlocks}
+use Rattle.inspect.specs.Tally.{sumData}
+use Rattle.inspect.proofs.Corrections.{Decides, sumBelow, sum-homes, sum-laid, home-counted, slot-corrected, slot-passed}
 use Rattle.inspect.proofs.tally.sum_data.Statement.{statement}
 use Rattle.inspect.proofs.tally.sum_data.Tie as tie
 
 abbrev Inv-loop : tie.InvT-loop
-Inv-loop settled blocks n sum₀ a₀ sum a =
-    (firstData trap ≤ a) × (a ≤ blocks) × (sum ≡ sumData trap (laid trap settled n) (dataBlocks trap a)) × (sum ≤ 255 * blockBytes * dataBlocks trap a)
+Inv-loop settled blocks n sum₀ i₀ sum i = (i ≤ n) × (sum ≡ sumBelow trap settled blocks n i) × (sum ≤ 255 * blockBytes * (blocks + i))
 
 abbrev μ-loop : tie.MeasureT-loop
-μ-loop settled blocks n sum₀ a₀ sum a = blocks - a
+μ-loop settled blocks n sum₀ i₀ sum i = n - i
+
+sum-homes-requires : tie.Need-sum-homes-requires Inv-loop μ-loop
+sum-homes-requires c κs = search needs
 
 loop-holds : tie.Need-loop-holds Inv-loop μ-loop
-unfolding trap
-loop-holds c = (omega arith, omega arith, sym (data-none trap _ _ trap-data), omega arith)
+loop-holds c =
+    let a = c .before .before .args in
+    (omega arith, c .sum-homes .ensures .0 ∙ sum-homes trap (a .settled .now) (a .blocks) (a .n), omega arith)
 
-laid-block-requires : tie.Need-laid-block-requires Inv-loop μ-loop
-laid-block-requires c κs = omega arith
+decides-requires : tie.Need-decides-requires Inv-loop μ-loop
+decides-requires c κs = search needs
 
-sum-bytes-requires : tie.Need-sum-bytes-requires Inv-loop μ-loop
-sum-bytes-requires c κs = c .laid-block .ensures .1
+-- what the test says of slot i
+decided : (c : tie.Then1 Inv-loop μ-loop) → let a = c .before .before .before .before .before .before .args in Decides trap (a .settled .now) (a .blocks) (a .n) (c .before .before .before .loop .i)
+decided c = c .before .decides .ensures .0 (c .if1 .taken)
 
-add-sum : tie.Need-add-sum Inv-loop μ-loop
-add-sum c = omega arith
+corrected-requires : tie.Need-corrected-requires Inv-loop μ-loop
+corrected-requires c κs =
+    let d = decided c in
+    let l = c .before .before .before .loop in
+    let a = c .before .before .before .before .before .before .args in
+    let b = data-bounds trap (a .blocks) (slotAddress (a .settled .now) (l .i)) (d .0) in
+    let home = home-counted trap (a .settled .now) (a .blocks) (a .n) (l .i) d in
+    (omega arith, (omega arith, (omega arith, (omega arith, omega arith))))
 
-add-a : tie.Need-add-a Inv-loop μ-loop
-add-a c = omega arith
+add-i : tie.Need-add-i Inv-loop μ-loop
+add-i c = omega arith
 
 loop-less : tie.Need-loop-less Inv-loop μ-loop
 loop-less c = omega arith
 
 loop-again : tie.Need-loop-again Inv-loop μ-loop
 loop-again c =
-    let l = c .before .before .before in
-    let args = l .before .before .args in
-    let block = c .sum-bytes .ensures .0 ∙ ap sumBytes (c .before .laid-block .ensures .0) in
-    (omega arith, omega arith, rw (data-next trap (laid trap (args .settled .now) (args .n)) (l .loop .a) (l .loop .inv .0), ← l .loop .inv .2, ← block), omega arith)
+    let l = c .before .before .before .loop in
+    let a = c .before .before .before .before .before .before .args in
+    let s = a .settled .now in
+    let told = c .before .decides .ensures in
+    ⊎-elim
+    (λ w. (omega arith, w .2 ∙ slot-corrected trap s (a .blocks) (a .n) (l .i) (l .sum) _ (told .0 (w .0 .taken)) (l .inv .1) (w .1 .ensures .0), omega (arith, w .2, w .1 .ensures .1)))
+    (λ w. (omega arith, w .1 ∙ l .inv .1 ∙ slot-passed trap s (a .blocks) (a .n) (l .i) (λ d. true≢false (sym (told .1 d) ∙ w .0 .left)), omega (arith, w .1)))
+    (c .if1 .came)
 
 returns : tie.Need-returns Inv-loop μ-loop
 returns c =
     let l = c .before .loop in
-    let over : l .a ≡ c .before .before .before .args .blocks = omega arith in
-    rw over at (l .inv .2)
+    let a = c .before .before .before .before .args in
+    let over : l .i ≡ a .n = omega arith in
+    rw over at (l .inv .1) ∙ sum-laid trap (a .settled .now) (a .blocks) (a .n)
 
 pub sum-data-spec : {M : Type 1} → statement M
 sum-data-spec =
@@ -58,11 +77,11 @@ sum-data-spec =
     (tie.spec
     Inv-loop
     μ-loop
+    sum-homes-requires
     loop-holds
-    laid-block-requires
-    sum-bytes-requires
-    add-sum
-    add-a
+    decides-requires
+    corrected-requires
+    add-i
     loop-less
     loop-again
     returns)

@@ -1,0 +1,55 @@
+-- `inspect::tally::decides` meets its contract.
+use Prim.Native.Nat.{ℕ}
+use mathlib.Core.Path.{_≡_, ap, sym, _∙_}
+use mathlib.Core.Bool.{true, _&&_}
+use mathlib.Core.Logic.{_↔_}
+use borrow.Author.Needs.{needs}
+use borrow.Author.Tests.{eq-eqb, eqb-true}
+use lib.Dec.{eqb}
+use Rattle.journal.specs.Geometry.{trap}
+use Rattle.journal.specs.declared.lookup.Found.{Found}
+use Rattle.journal.specs.declared.lookup.Found.the-variants.{At, Absent}
+use Rattle.journal.specs.Layout.{isData}
+use Rattle.journal.specs.Log.{slotAddress}
+use Rattle.journal.specs.Lookup.{lastSlot}
+use Rattle.inspect.proofs.Corrections.{absent-decides, found-decides}
+use Rattle.inspect.proofs.tally.decides.Statement.{statement}
+use Rattle.inspect.proofs.tally.decides.Tie as tie
+
+slot-address-requires : tie.Need-slot-address-requires
+slot-address-requires c κs = search needs
+
+last-slot-requires : tie.Need-last-slot-requires
+last-slot-requires c κs = search needs
+
+enum-known-newest : tie.Need-enum-known-newest
+enum-known-newest c = search needs
+
+enum-told : tie.Need-enum-told
+enum-told c = search needs
+
+returns : tie.Need-returns
+returns c =
+    let a = c .before .before .before .before .before .args in
+    absent-decides trap (a .settled .now) (a .blocks) (a .n) (a .i) _ (c .before .before .before .before .before .pre .1 .1) (c .before .before .before .slot-address .ensures) (sym (c .before .before .last-slot .ensures) ∙ c .enum-told .given .1)
+
+is-data-requires : tie.Need-is-data-requires
+is-data-requires c κs = search needs
+
+returns-2 : tie.Need-returns-2
+returns-2 c =
+    let h = c .before .before in
+    let a = h .before .before .before .before .before .args in
+    found-decides trap (a .settled .now) (a .blocks) (a .n) (a .i) _ _ _ (h .before .before .before .slot-address .ensures) (sym (h .before .before .last-slot .ensures) ∙ h .newest .given .1) (c .is-data .ensures)
+
+pub decides-spec : {M : Type 1} → statement M
+decides-spec =
+    tie.close
+    (tie.spec
+    slot-address-requires
+    last-slot-requires
+    enum-known-newest
+    enum-told
+    returns
+    is-data-requires
+    returns-2)
