@@ -1,17 +1,7 @@
 -- `inspect::tally::decides` meets its contract.
-use Prim.Native.Nat.{ℕ}
-use mathlib.Core.Path.{_≡_, ap, sym, _∙_}
-use mathlib.Core.Bool.{true, _&&_}
-use mathlib.Core.Logic.{_↔_}
+use mathlib.Core.Path.{sym, _∙_}
 use borrow.Author.Needs.{needs}
-use borrow.Author.Tests.{eq-eqb, eqb-true}
-use lib.Dec.{eqb}
 use Rattle.journal.specs.Geometry.{trap}
-use Rattle.journal.specs.declared.lookup.Found.{Found}
-use Rattle.journal.specs.declared.lookup.Found.the-variants.{At, Absent}
-use Rattle.journal.specs.Layout.{isData}
-use Rattle.journal.specs.Log.{slotAddress}
-use Rattle.journal.specs.Lookup.{lastSlot}
 use Rattle.inspect.proofs.Corrections.{absent-decides, found-decides}
 use Rattle.inspect.proofs.tally.decides.Statement.{statement}
 use Rattle.inspect.proofs.tally.decides.Tie as tie

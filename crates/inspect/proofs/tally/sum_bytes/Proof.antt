@@ -1,11 +1,11 @@
 -- `inspect::tally::sum_bytes` meets its contract. The invariant: the sum so far is that of the first i chunks, 255 at most for each byte.
-use Prim.Native.Nat.{ℕ, _+_, _*_, _-_, _≤_}
-use mathlib.Core.Path.{_≡_, ap, sym}
+use Prim.Native.Nat.{_+_, _*_, _-_, _≤_}
+use mathlib.Core.Path.{_≡_, sym}
 use native.Mathlib.Omega.{arith}
-use lib.ListN.{take, drop, length-drop}
-use lib.Seq.{take-all, length-take-le}
+use lib.ListN.{take}
+use lib.Seq.{take-all}
 use Rattle.inspect.specs.Tally.{sumBytes}
-use Rattle.inspect.proofs.Sums.{bytes-none, bytes-chunk}
+use Rattle.inspect.proofs.Sums.{bytes-none, chunk-length, chunk-next}
 use Rattle.inspect.proofs.tally.sum_bytes.Statement.{statement}
 use Rattle.inspect.proofs.tally.sum_bytes.Tie as tie
 
@@ -36,8 +36,7 @@ part-sum-chunk-end c = omega arith
 sum-chunk-requires : tie.Need-sum-chunk-requires Inv-loop μ-loop
 sum-chunk-requires c κs =
     let at = 64 * c .before .before .loop .i in
-    let size : at + 64 - at ≡ 64 = omega arith in
-    rw size (length-take-le 64 (drop at (c .before .before .before .before .args .block .now)) (rw length-drop (omega arith)))
+    chunk-length 64 (c .before .before .before .before .args .block .now) at (at + 64 - at) (omega arith) (omega arith)
 
 add-sum : tie.Need-add-sum Inv-loop μ-loop
 add-sum c = omega arith
@@ -52,9 +51,8 @@ loop-again : tie.Need-loop-again Inv-loop μ-loop
 loop-again c =
     let l = c .before .before .before .loop in
     let at = 64 * l .i in
-    let size : at + 64 - at ≡ 64 = omega arith in
     let block = c .before .before .before .before .before .args .block .now in
-    (omega arith, rw (bytes-chunk 64 block (l .i), ← l .inv .1) (rw size at (ap (λ (v : ℕ). l .sum + v) (c .sum-chunk .ensures .0))), omega arith)
+    (omega arith, chunk-next 64 block (l .i) (at + 64 - at) (l .sum) (c .sum-chunk .result) (omega arith) (l .inv .1) (c .sum-chunk .ensures .0), omega arith)
 
 cast-result : tie.Need-cast-result Inv-loop μ-loop
 cast-result c = omega arith

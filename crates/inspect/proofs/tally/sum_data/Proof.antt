@@ -1,18 +1,15 @@
 -- `inspect::tally::sum_data` meets its contract. The invariant: the sum is that of the home blocks with each slot below i laid over
 -- that is the last with its address, and at most a block's bytes have come on top for each.
 use Prim.Native.Nat.{_+_, _*_, _-_, _≤_}
-use mathlib.Core.Path.{_≡_, ap, sym, _∙_}
+use mathlib.Core.Path.{_≡_, sym, _∙_}
 use mathlib.Core.Bool.{true≢false}
 use mathlib.Core.Logic.{⊎-elim}
 use native.Mathlib.Omega.{arith}
 use borrow.Author.Needs.{needs}
 use Rattle.cells.specs.Entry.{blockBytes}
-use Rattle.card.specs.Disk.{Disk}
 use Rattle.journal.specs.Geometry.{trap}
 use Rattle.journal.specs.Log.{slotAddress}
 use Rattle.journal.proofs.Logs.{data-bounds}
-use Rattle.inspect.specs.Reading.{dataBlocks}
-use Rattle.inspect.specs.Tally.{sumData}
 use Rattle.inspect.proofs.Corrections.{Decides, sumBelow, sum-homes, sum-laid, home-counted, slot-corrected, slot-passed}
 use Rattle.inspect.proofs.tally.sum_data.Statement.{statement}
 use Rattle.inspect.proofs.tally.sum_data.Tie as tie
