@@ -98,9 +98,9 @@ fn corrected(settled: &[u8], i: u32, sum: u64) -> u64
     ensures { λ r. ⌜ r + sumBytes (blockAt (now (settled .entry)) (slotAddress (now (settled .entry)) i)) ≡ sum + sumBytes (blockAt (now (settled .entry)) (slotAt trap i)) ⌝ }
     ensures { λ r. ⌜ r ≤ sum + 255 * blockBytes ⌝ }
 {
-    let home = read(settled, slot_address(settled, i));
-    let own = slot_block(settled, i);
-    sum - sum_bytes(home) + sum_bytes(own)
+    let home = sum_bytes(read(settled, slot_address(settled, i)));
+    let own = sum_bytes(slot_block(settled, i));
+    sum - home + own
 }
 
 // The sum of all data bytes, the first n entries laid over: that of the home blocks, corrected once for each address.
