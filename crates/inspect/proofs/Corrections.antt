@@ -49,7 +49,7 @@ module _ (geo : Geometry) (s : List ℕ) (n : ℕ) where
       go (At k) a m = rw (lt-ltb k n (m .inside))
       go Absent a m = refl
 
-  -- at an address whose last slot is another than i nothing happens at i
+  -- slot i changes no address but the one that it is the last slot of
   elsewhere : (i a : ℕ) → lastSlot s a n ≢ At i → laidBelow (i + 1) a ≡ laidBelow i a
   unfolding laidBelow
   elsewhere i a h = go (lastSlot s a n) refl
@@ -62,7 +62,7 @@ module _ (geo : Geometry) (s : List ℕ) (n : ℕ) where
       go (At k) e = ap (λ (t : Bool). cond t (blockAt s (slotAt geo k)) (blockAt s a)) (same k (λ z. h (e ∙ ap At z)) (decLt k i))
       go Absent e = refl
 
-  -- one that is the last with its address is laid over
+  -- a slot that is the last with its address is laid over
   below-laid : (i : ℕ) → lastSlot s (slotAddress s i) n ≡ At i → laidBelow (i + 1) ≡ lay (slotEntry geo s i) (laidBelow i)
   unfolding laidBelow slotEntry
   below-laid i h = λ j a. go a (ℕ-discrete a (slotAddress s i)) j
@@ -109,20 +109,22 @@ module _ (geo : Geometry) (s : List ℕ) (N n i : ℕ) where
 -- ---- the sum, one slot after the other
 
 module _ (geo : Geometry) (s : List ℕ) (N n : ℕ) where
+  -- the sum of all data bytes of that disk
   abbrev pub sumBelow : ℕ → ℕ
   sumBelow i = sumData geo (laidBelow geo s n i) (dataBlocks geo N)
 
-  pub sum-homes : sumData geo (blockAt s) (dataBlocks geo N) ≡ sumBelow 0
-  sum-homes = rw (below-none geo s n)
+  -- it begins with the home blocks and ends with the log laid over
+  pub none-laid : sumData geo (blockAt s) (dataBlocks geo N) ≡ sumBelow 0
+  none-laid = rw (below-none geo s n)
 
-  pub sum-laid : sumBelow n ≡ sumData geo (laid geo s n) (dataBlocks geo N)
-  sum-laid = rw (below-all geo s n)
+  pub all-laid : sumBelow n ≡ sumData geo (laid geo s n) (dataBlocks geo N)
+  all-laid = rw (below-all geo s n)
 
-  -- a slot that decides: its home bytes are in the sum
+  -- the home bytes of a slot that decides are in the sum, so that taking them off does not fall below 0
   pub home-counted : (i : ℕ) → Decides geo s N n i → sumBytes (blockAt s (slotAddress s i)) ≤ sumBelow i
   home-counted i d = rw (← below-home geo s n i (d .1)) (data-has geo (laidBelow geo s n i) N (slotAddress s i) (d .0))
 
-  -- off with them, and on with its own
+  -- its home bytes off and its own on
   pub slot-corrected : (i u v : ℕ) → Decides geo s N n i → u ≡ sumBelow i → v + sumBytes (blockAt s (slotAddress s i)) ≡ u + sumBytes (blockAt s (slotAt geo i)) → v ≡ sumBelow (i + 1)
   unfolding slotEntry
   slot-corrected i u v d p e =

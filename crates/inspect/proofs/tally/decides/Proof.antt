@@ -1,10 +1,15 @@
 -- `inspect::tally::decides` meets its contract.
-use mathlib.Core.Path.{sym, _∙_}
+use mathlib.Core.Path.{_≡_, sym, _∙_}
 use borrow.Author.Needs.{needs}
 use Rattle.journal.specs.Geometry.{trap}
+use Rattle.journal.specs.Lookup.{lastSlot}
 use Rattle.inspect.proofs.Corrections.{absent-decides, found-decides}
 use Rattle.inspect.proofs.tally.decides.Statement.{statement}
 use Rattle.inspect.proofs.tally.decides.Tie as tie
+
+-- what the lookup found, of the first n slots
+looked : (c : tie.After-last-slot) → let a = c .before .before .before .args in lastSlot (a .settled .now) (c .before .slot-address .result) (a .n) ≡ c .last-slot .result
+looked c = sym (c .last-slot .ensures)
 
 slot-address-requires : tie.Need-slot-address-requires
 slot-address-requires c κs = search needs
@@ -21,7 +26,7 @@ enum-told c = search needs
 returns : tie.Need-returns
 returns c =
     let a = c .before .before .before .before .before .args in
-    absent-decides trap (a .settled .now) (a .blocks) (a .n) (a .i) _ (c .before .before .before .before .before .pre .1 .1) (c .before .before .before .slot-address .ensures) (sym (c .before .before .last-slot .ensures) ∙ c .enum-told .given .1)
+    absent-decides trap (a .settled .now) (a .blocks) (a .n) (a .i) _ (c .before .before .before .before .before .pre .1 .1) (c .before .before .before .slot-address .ensures) (looked (c .before .before) ∙ c .enum-told .given .1)
 
 is-data-requires : tie.Need-is-data-requires
 is-data-requires c κs = search needs
@@ -30,7 +35,7 @@ returns-2 : tie.Need-returns-2
 returns-2 c =
     let h = c .before .before in
     let a = h .before .before .before .before .before .args in
-    found-decides trap (a .settled .now) (a .blocks) (a .n) (a .i) _ _ _ (h .before .before .before .slot-address .ensures) (sym (h .before .before .last-slot .ensures) ∙ h .newest .given .1) (c .is-data .ensures)
+    found-decides trap (a .settled .now) (a .blocks) (a .n) (a .i) _ _ _ (h .before .before .before .slot-address .ensures) (looked (h .before .before) ∙ h .newest .given .1) (c .is-data .ensures)
 
 pub decides-spec : {M : Type 1} → statement M
 decides-spec =

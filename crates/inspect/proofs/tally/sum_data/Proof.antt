@@ -10,7 +10,7 @@ use Rattle.cells.specs.Entry.{blockBytes}
 use Rattle.journal.specs.Geometry.{trap}
 use Rattle.journal.specs.Log.{slotAddress}
 use Rattle.journal.proofs.Logs.{data-bounds}
-use Rattle.inspect.proofs.Corrections.{Decides, sumBelow, sum-homes, sum-laid, home-counted, slot-corrected, slot-passed}
+use Rattle.inspect.proofs.Corrections.{Decides, sumBelow, none-laid, all-laid, home-counted, slot-corrected, slot-passed}
 use Rattle.inspect.proofs.tally.sum_data.Statement.{statement}
 use Rattle.inspect.proofs.tally.sum_data.Tie as tie
 
@@ -26,7 +26,7 @@ sum-homes-requires c κs = search needs
 loop-holds : tie.Need-loop-holds Inv-loop μ-loop
 loop-holds c =
     let a = c .before .before .args in
-    (omega arith, c .sum-homes .ensures .0 ∙ sum-homes trap (a .settled .now) (a .blocks) (a .n), omega arith)
+    (omega arith, c .sum-homes .ensures .0 ∙ none-laid trap (a .settled .now) (a .blocks) (a .n), omega arith)
 
 decides-requires : tie.Need-decides-requires Inv-loop μ-loop
 decides-requires c κs = search needs
@@ -66,7 +66,7 @@ returns c =
     let l = c .before .loop in
     let a = c .before .before .before .before .args in
     let over : l .i ≡ a .n = omega arith in
-    rw over at (l .inv .1) ∙ sum-laid trap (a .settled .now) (a .blocks) (a .n)
+    rw over at (l .inv .1) ∙ all-laid trap (a .settled .now) (a .blocks) (a .n)
 
 pub sum-data-spec : {M : Type 1} → statement M
 sum-data-spec =
