@@ -656,6 +656,40 @@ static void bounds(void)
     same("tally", "set sum to", wide[1], 0);
 }
 
+/* Half as many blocks as there are slots, saved as one group, each filled with a byte: data blocks 0, 3, 6 and so on. */
+#define HALF (TRAPCARD_SLOTS / 2)
+
+static void save_half(int byte)
+{
+    uint8_t block[TRAPCARD_BLOCK];
+    uint32_t orders;
+    memset(block, byte, sizeof block);
+    for (uint32_t i = 0; i < HALF; i++)
+        same("put", "answered", trapcard_put(c.record, sizeof c.record, large, sizeof large - TRAPCARD_BLOCK, c.waiting, sizeof c.waiting,
+                                             c.work, sizeof c.work, TRAPCARD_FIRST + 3 * i, block, sizeof block), TRAPCARD_DONE);
+    same("commit", "answered", trapcard_commit(c.record, sizeof c.record, large, sizeof large - TRAPCARD_BLOCK, c.waiting,
+                                               sizeof c.waiting, c.work, sizeof c.work), TRAPCARD_DONE);
+    same("sync", "answered", trapcard_sync(c.record, sizeof c.record, large, sizeof large - TRAPCARD_BLOCK, c.waiting, sizeof c.waiting,
+                                           c.work, sizeof c.work, &orders), TRAPCARD_DONE);
+}
+
+/* The largest card full of 255 with a full log in which each address has two slots: the newer one counts, and its home does not. */
+static void corrections(void)
+{
+    static uint8_t before[sizeof large];
+    same("format", "answered for the largest card", format(large, TRAPCARD_MOST), TRAPCARD_DONE);
+    memset(large + DATA, 255, sizeof large - DATA);
+    save_half(254);
+    save_half(3);
+    memcpy(before, large, sizeof large);
+    arm();
+    same("tally", "answered", trapcard_tally(large, sizeof large - TRAPCARD_BLOCK, &wide[1]), TRAPCARD_DONE);
+    check_guards("tally");
+    same("tally", "set sum to", wide[1],
+         (uint64_t)TRAPCARD_BLOCK * (255 * (uint64_t)(TRAPCARD_MOST - TRAPCARD_FIRST - HALF) + 3 * HALF));
+    must(memcmp(before, large, sizeof large) == 0, "tally", "wrote a card");
+}
+
 #define KINDS 7
 #define SMALL (36u * TRAPCARD_BLOCK)
 #define OTHER (40u * TRAPCARD_BLOCK)
@@ -725,6 +759,7 @@ int main(void)
     foreign();
     unnumbered();
     bounds();
+    corrections();
     inspections();
     printf("boundary: the fifteen functions answer through the header, and write nothing else\n");
     return 0;

@@ -83,7 +83,8 @@ CASES = (
                          "block long"))
     + prefixed("commit: ", ("empty", "joins", "replaces", "gives 32"))
     + prefixed("accepted: ", ("32 open", "32 in the group", "32 in the log", "N 35", "N 65535", "N 65536"))
-    + prefixed("tally: ", ("no log", "whole log", "fallback list", "N 65536"))
+    + prefixed("tally: ", ("no log", "whole log", "fallback list", "N 65536", "32 slots", "an address in several slots",
+                           "more than the home blocks", "less than the home blocks"))
     + prefixed("alike: ", ("yes, one card twice", "yes, other bytes", "no", "no, other N", "yes, N 65536"))
     + tuple("alike: %d by the %s" % (number, card) for number in (1, 8, 9) for card in ("first", "second"))
     + prefixed("save number, sync: ", ("refused at 2^64 - 1", "2^64 - 1, nothing to save", "2^64 - 2, done", "2^64 - 2, cut short",

@@ -1,6 +1,7 @@
 #!/usr/bin/env bash
 # The C library: all its functions are called through the header; its example is built against the archive, run, held to its
-# output and run under valgrind; the stack frames of the archive are measured, and its sum is looked through for products.
+# output and run under valgrind; the stack frames of the archive are measured, its sum is looked through for products, and the
+# instructions of its tally are counted.
 set -euo pipefail
 cd "$(dirname "$0")/.."
 
@@ -31,3 +32,14 @@ sum=$(objdump -d --disassemble=fnv::sum_from "$archive")
 grep -q 'ret' <<<"$sum"
 if grep -E 'mul|call' <<<"$sum"; then exit 1; fi
 echo "firmware: the sum is there, and nothing in it multiplies or calls"
+
+# What a full log adds to a tally is the same on a card with ten times as many data blocks: no data block is looked up in it.
+gcc -O2 "${strict[@]}" bench/passes.c bench/pass.c "$archive" -o "$out/passes"
+counted() { # N COUNT: the instructions of a tally
+  valgrind -q --tool=callgrind --toggle-collect=trapcard_tally --callgrind-out-file="$out/dump" "$out/passes" "$1" "$2"
+  awk '/^totals:/ { print $2 }' "$out/dump"
+}
+small=$(($(counted 134 32) - $(counted 134 0)))
+large=$(($(counted 1034 32) - $(counted 1034 0)))
+echo "firmware: a full log adds $small instructions to a tally of 100 data blocks, and $large to one of 1,000"
+((small > 0 && small == large))

@@ -1,6 +1,6 @@
 """Faults for the model, to see that the lockstep bites: those of document 01's "Faults to keep out", two of the save number, three of
-the inquiries, those of a torn cut, two of which are faults of the plain disk and of the witness that feeds it, and those of a format that
-meets a card in use, one of which is a fault of the bench."""
+the inquiries, those of a torn cut, two of which are faults of the plain disk and of the witness that feeds it, those of a format that
+meets a card in use, one of which is a fault of the bench, and those of a tally that corrects the home blocks' sum for the log."""
 from contextlib import contextmanager
 from dataclasses import replace
 
@@ -205,10 +205,43 @@ def begins_again(self, step, outcome):
     real_follow(self, step, (0,) if step.call == "format" and outcome[0] == 13 else outcome)
 
 
+# ---- a tally by corrections
+
+def corrected(settled, listed):
+    """The sum of the home blocks, corrected for each entry of a list."""
+    return real_data_sum(settled, []) + sum(sum(block) - sum(settled[BLOCK * address:BLOCK * (address + 1)]) for address, block in listed)
+
+
+def every_slot(settled, listed):
+    """a tally is corrected for every slot"""
+    return corrected(settled, listed)
+
+
+def first_slot(settled, listed):
+    """a tally is corrected for the first slot of an address"""
+    return corrected(settled, dict(reversed(listed)).items())
+
+
+def own_for_home(settled, listed):
+    """a tally takes off the bytes of the slot's own block"""
+    return real_data_sum(settled, [])
+
+
+def first_block_out(settled, listed):
+    """a tally leaves out the first data block"""
+    return sum(model.laid(settled, listed)[BLOCK:])
+
+
+def last_block_out(settled, listed):
+    """a tally leaves out the last data block"""
+    return sum(model.laid(settled, listed)[:-BLOCK])
+
+
 real_get, real_recover, real_unnumbered = model.get, model.recover, model.unnumbered
 real_sync_cost, real_apply_cost, real_recover_cost = model.sync_cost, model.apply_cost, model.recover_cost
 real_tear, real_wrong_marks, real_cut = model.tear, model.wrong_marks, Witness.cut
 real_c_call, real_in_use, real_cause, real_format, real_follow = model.c_call, model.in_use, model.cause, model.format, Bench.follow
+real_data_sum = model.data_sum
 
 # What each replaces: the function of its name in the model, unless a pair says otherwise.
 TORN = {oldest_wins: (model, "tear"), newest_alone: (model, "tear"), next_write: (model, "tear"), oldest_write: (model, "tear"),
@@ -218,13 +251,14 @@ TORN = {oldest_wins: (model, "tear"), newest_alone: (model, "tear"), next_write:
 USED = {before_lengths: (model, "c_call"), any_card: (model, "in_use"), by_previous: (model, "in_use"), without_count: (model, "in_use"),
         without_save: (model, "in_use"), with_good_list: (model, "in_use"), with_found_list: (model, "in_use"),
         records_blocks: (model, "cause"), clears_waiting: (model, "format"), begins_again: (Bench, "follow")}
-IMPOSTORS = (checkpoint, log_sum, choice, get, recover, unnumbered, sync_cost, apply_cost, recover_cost, *TORN, *USED)
+SUMMED = dict.fromkeys((every_slot, first_slot, own_for_home, first_block_out, last_block_out), (model, "data_sum"))
+IMPOSTORS = (checkpoint, log_sum, choice, get, recover, unnumbered, sync_cost, apply_cost, recover_cost, *TORN, *USED, *SUMMED)
 
 
 @contextmanager
 def planted(impostor):
     """The model, the plain disk, the witness or the bench with one of its functions replaced."""
-    owner, name = {**TORN, **USED}.get(impostor, (model, impostor.__name__))
+    owner, name = {**TORN, **USED, **SUMMED}.get(impostor, (model, impostor.__name__))
     real = getattr(owner, name)
     setattr(owner, name, impostor)
     try:

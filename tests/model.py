@@ -424,9 +424,14 @@ def laid(settled, listed):
     return data
 
 
+def data_sum(settled, listed):
+    """The sum of all data bytes with the list laid over."""
+    return sum(laid(settled, listed).translate(None, b"\0"))
+
+
 def tally(settled):
     answer, listed = chosen(settled)
-    return answer, 0 if answer else sum(laid(settled, listed).translate(None, b"\0"))
+    return answer, 0 if answer else data_sum(settled, listed)
 
 
 def alike(one, other):

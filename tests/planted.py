@@ -84,6 +84,13 @@ FAULTS = (
     Fault("the table of multiples has a wrong entry", "fnv/product", "2175,", "2176,"),
     Fault("the product loses the carry between its halves", "fnv/product", "half(&table, a % 4294967296)",
           "(half(&table, a % 4294967296) % 4294967296)"),
+    Fault("a tally is corrected for every slot", "inspect/tally", "(newest == i)", "(i <= newest)"),
+    Fault("a tally is corrected for the first slot of an address", "inspect/tally", "let Found::At(newest) = last_slot(settled, a, n) else {\n"
+          "        return false;", "let Found::At(newest) = last_slot(settled, a, i) else {\nreturn true;"),
+    Fault("a tally takes off the bytes of the slot's own block", "inspect/tally", "sum - home + own", "sum.wrapping_sub(own) + own"),
+    Fault("a tally leaves out the last data block", "inspect/tally", "while a < blocks {", "while a + 1 < blocks {"),
+    Fault("a tally leaves out the last chunk of a block", "inspect/tally", "while i < BLOCK / CHUNK {", "while i + 1 < BLOCK / CHUNK {"),
+    Fault("a tally leaves out the log's last slot", "inspect/tally", "while i < n {", "while i + 1 < n {"),
     Fault("put reads a byte behind its block", "firmware/calls", "let placed = decode(rec)",
           "unsafe { std::ptr::read_volatile(block.as_ptr().add(block.len())) };\nlet placed = decode(rec)"),
     Fault("commit writes a const byte with itself", "firmware/calls", "let committed = decode(rec)",
