@@ -1,5 +1,5 @@
 -- The laws of a tally's corrections: the disk that the sum stands for, slot by slot, from the home blocks to the log laid over.
-use Prim.Native.Nat.{ℕ, _+_, _≤_, _<_}
+use Prim.Native.Nat.{ℕ, suc, _+_, _≤_, _<_}
 use mathlib.Core.Path.{_≡_, refl, ap, sym, _∙_}
 use mathlib.Core.Bool.{Bool, true, false, cond, _&&_, true≢false}
 use mathlib.Core.Logic.{_≢_, _↔_}
@@ -24,20 +24,19 @@ use Rattle.inspect.specs.Tally.{sumBytes, sumData}
 use Rattle.inspect.proofs.Sums.{data-agree, data-replaced, data-has}
 
 module _ (geo : Geometry) (s : List ℕ) (n : ℕ) where
-  -- the slot that was found, if it is below i, or another block
-  abbrev foundBelow : ℕ → Found → List ℕ → List ℕ
-  foundBelow i (At k) d = cond (ltb k i) (blockAt s (slotAt geo k)) d
-  foundBelow i Absent d = d
+  -- slot k's block if k is below i, else another
+  abbrev slotBelow : ℕ → List ℕ → ℕ → List ℕ
+  slotBelow i d k = cond (ltb k i) (blockAt s (slotAt geo k)) d
 
   -- the home blocks, with each slot below i laid over that is the last of n with its address
   unfoldable pub laidBelow : ℕ → Disk
-  laidBelow i a = foundBelow i (lastSlot s a n) (blockAt s a)
+  laidBelow i a = foundIn (lastSlot s a n) (slotBelow i (blockAt s a)) (blockAt s a)
 
   below-none : laidBelow 0 ≡ blockAt s
   unfolding laidBelow
   below-none = λ j a. go (lastSlot s a n) a j
     where
-      go : (r : Found) (a : ℕ) → foundBelow 0 r (blockAt s a) ≡ blockAt s a
+      go : (r : Found) (a : ℕ) → foundIn r (slotBelow 0 (blockAt s a)) (blockAt s a) ≡ blockAt s a
       go (At k) a = rw (le-ltb k 0 (omega arith))
       go Absent a = refl
 
@@ -45,7 +44,7 @@ module _ (geo : Geometry) (s : List ℕ) (n : ℕ) where
   unfolding laidBelow
   below-all = λ j a. (go (lastSlot s a n) a (last-means (slotAddress s) a n) ∙ sym (overlay-slots geo s n (blockAt s) a)) j
     where
-      go : (r : Found) (a : ℕ) → Means (slotAddress s) a n r → foundBelow n r (blockAt s a) ≡ foundIn r (λ k. blockAt s (slotAt geo k)) (blockAt s a)
+      go : (r : Found) (a : ℕ) → Means (slotAddress s) a n r → foundIn r (slotBelow n (blockAt s a)) (blockAt s a) ≡ foundIn r (λ k. blockAt s (slotAt geo k)) (blockAt s a)
       go (At k) a m = rw (lt-ltb k n (m .inside))
       go Absent a m = refl
 
@@ -58,7 +57,7 @@ module _ (geo : Geometry) (s : List ℕ) (n : ℕ) where
       same k q (yes l) = lt-ltb k (i + 1) (omega arith) ∙ sym (lt-ltb k i l)
       same k q (no l) = le-ltb k (i + 1) (omega arith) ∙ sym (le-ltb k i (omega arith))
 
-      go : (r : Found) → lastSlot s a n ≡ r → foundBelow (i + 1) r (blockAt s a) ≡ foundBelow i r (blockAt s a)
+      go : (r : Found) → lastSlot s a n ≡ r → foundIn r (slotBelow (i + 1) (blockAt s a)) (blockAt s a) ≡ foundIn r (slotBelow i (blockAt s a)) (blockAt s a)
       go (At k) e = ap (λ (t : Bool). cond t (blockAt s (slotAt geo k)) (blockAt s a)) (same k (λ z. h (e ∙ ap At z)) (decLt k i))
       go Absent e = refl
 
@@ -82,29 +81,38 @@ module _ (geo : Geometry) (s : List ℕ) (n : ℕ) where
 
 -- ---- the test
 
-place : Found → ℕ
-place (At k) = k
-place Absent = 0
+-- what a lookup found, as a number that tells the cases apart
+rank : Found → ℕ
+rank (At k) = suc k
+rank Absent = 0
+
+at-equal : (k i : ℕ) → At k ≡ At i → k ≡ i
+unfolding rank
+at-equal k i e = let z : suc k ≡ suc i = ap rank e in omega arith
+
+absent-found : (i : ℕ) → Absent ≡ At i → ⊥
+unfolding rank
+absent-found i e = let z : 0 ≡ suc i = ap rank e in omega arith
 
 module _ (geo : Geometry) (s : List ℕ) (N n i : ℕ) where
   -- slot i is the last with its address, and the address is a data block's
   abbrev pub Decides : Type 0
   Decides = (isData geo N (slotAddress s i) ≡ true) × (lastSlot s (slotAddress s i) n ≡ At i)
 
+  -- the lookup of its address is that of the address that was read
+  of-read : (a : ℕ) → a ≡ slotAddress s i → lastSlot s (slotAddress s i) n ≡ lastSlot s a n
+  of-read a p = ap (λ (x : ℕ). lastSlot s x n) (sym p)
+
   -- a lookup that found nothing
-  pub absent-decides : (a : ℕ) → i < n → a ≡ slotAddress s i → lastSlot s a n ≡ Absent → (false ≡ true) ↔ Decides
-  absent-decides a h p e = (λ z. absurd (true≢false (sym z)), λ d. absurd (rw e at (last-means (slotAddress s) a n) i h (sym p)))
+  pub absent-decides : (a : ℕ) → a ≡ slotAddress s i → lastSlot s a n ≡ Absent → (false ≡ true) ↔ Decides
+  absent-decides a p e = (λ z. absurd (true≢false (sym z)), λ d. absurd (absent-found i (sym (of-read a p ∙ e) ∙ d .1)))
 
   -- one that found slot k
   pub found-decides : (a k : ℕ) (t : Bool) → a ≡ slotAddress s i → lastSlot s a n ≡ At k → t ≡ isData geo N a → (t && eqb k i ≡ true) ↔ Decides
-  unfolding place
   found-decides a k t p e d = (
-    λ z. let q = both _ _ z in (ap (isData geo N) (sym p) ∙ sym d ∙ q .0, found ∙ ap At (eqb-true k i (q .1))),
-    λ z. rw (d ∙ ap (isData geo N) p ∙ z .0, eq-eqb k i (ap place (sym found ∙ z .1))),
+    λ z. let q = both _ _ z in (ap (isData geo N) (sym p) ∙ sym d ∙ q .0, of-read a p ∙ e ∙ ap At (eqb-true k i (q .1))),
+    λ z. rw (d ∙ ap (isData geo N) p ∙ z .0, eq-eqb k i (at-equal k i (sym (of-read a p ∙ e) ∙ z .1))),
   )
-    where
-      found : lastSlot s (slotAddress s i) n ≡ At k
-      found = ap (λ (x : ℕ). lastSlot s x n) (sym p) ∙ e
 
 -- ---- the sum, one slot after the other
 
@@ -114,11 +122,11 @@ module _ (geo : Geometry) (s : List ℕ) (N n : ℕ) where
   sumBelow i = sumData geo (laidBelow geo s n i) (dataBlocks geo N)
 
   -- it begins with the home blocks and ends with the log laid over
-  pub none-laid : sumData geo (blockAt s) (dataBlocks geo N) ≡ sumBelow 0
-  none-laid = rw (below-none geo s n)
+  pub sum-none : sumData geo (blockAt s) (dataBlocks geo N) ≡ sumBelow 0
+  sum-none = rw (below-none geo s n)
 
-  pub all-laid : sumBelow n ≡ sumData geo (laid geo s n) (dataBlocks geo N)
-  all-laid = rw (below-all geo s n)
+  pub sum-all : sumBelow n ≡ sumData geo (laid geo s n) (dataBlocks geo N)
+  sum-all = rw (below-all geo s n)
 
   -- the home bytes of a slot that decides are in the sum, so that taking them off does not fall below 0
   pub home-counted : (i : ℕ) → Decides geo s N n i → sumBytes (blockAt s (slotAddress s i)) ≤ sumBelow i

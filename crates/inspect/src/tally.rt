@@ -24,7 +24,7 @@ ghost use Rattle.journal.specs.Lookup.{lastSlot};
 ghost use Rattle.inspect.specs.Reading.{dataBlocks, laid};
 ghost use Rattle.inspect.specs.Tally.{sumBytes, sumData, tallyOf};
 
-// So many bytes are added up without a test between them, which compiles to sums of vectors.
+// A loop of this known length is unrolled, and its bytes are added up sixteen at a time.
 const CHUNK: usize = 64;
 
 // The sum of a chunk's bytes.
@@ -60,10 +60,9 @@ fn sum_bytes(block: &[u8]) -> u64
 
 // The sum of all data bytes in the home blocks.
 fn sum_homes(settled: &[u8], blocks: u32) -> u64
-    requires { ⌜ firstData trap < blocksIn (now settled) ⌝ }
-    requires { ⌜ blocks ≡ blocksIn (now settled) ⌝ }
+    requires { ⌜ blocks ≤ blocksIn (now settled) ⌝ }
     ensures { λ r. ⌜ r ≡ sumData trap (blockAt (now (settled .entry))) (dataBlocks trap blocks) ⌝ }
-    ensures { λ r. ⌜ r ≤ 255 * blockBytes * blocks ⌝ }
+    ensures { λ r. ⌜ r ≤ 255 * blockBytes * dataBlocks trap blocks ⌝ }
 {
     let mut sum: u64 = 0;
     let mut a = FIRST_DATA;
@@ -78,7 +77,7 @@ fn sum_homes(settled: &[u8], blocks: u32) -> u64
 fn decides(settled: &[u8], blocks: u32, n: u32, i: u32) -> bool
     requires { ⌜ firstData trap < blocksIn (now settled) ⌝ }
     requires { ⌜ n ≤ trap .slots ⌝ }
-    requires { ⌜ i < n ⌝ }
+    requires { ⌜ i < trap .slots ⌝ }
     ensures { λ r. ⌜ (r ≡ true) ↔ (isData trap blocks (slotAddress (now (settled .entry)) i) ≡ true) × (lastSlot (now (settled .entry)) (slotAddress (now (settled .entry)) i) n ≡ At i) ⌝ }
 {
     let a = slot_address(settled, i);

@@ -26,7 +26,7 @@ enum-told c = search needs
 returns : tie.Need-returns
 returns c =
     let a = c .before .before .before .before .before .args in
-    absent-decides trap (a .settled .now) (a .blocks) (a .n) (a .i) _ (c .before .before .before .before .before .pre .1 .1) (c .before .before .before .slot-address .ensures) (looked (c .before .before) ∙ c .enum-told .given .1)
+    absent-decides trap (a .settled .now) (a .blocks) (a .n) (a .i) _ (c .before .before .before .slot-address .ensures) (looked (c .before .before) ∙ c .enum-told .given .1)
 
 is-data-requires : tie.Need-is-data-requires
 is-data-requires c κs = search needs

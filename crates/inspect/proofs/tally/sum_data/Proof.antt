@@ -10,23 +10,24 @@ use Rattle.cells.specs.Entry.{blockBytes}
 use Rattle.journal.specs.Geometry.{trap}
 use Rattle.journal.specs.Log.{slotAddress}
 use Rattle.journal.proofs.Logs.{data-bounds}
-use Rattle.inspect.proofs.Corrections.{Decides, sumBelow, none-laid, all-laid, home-counted, slot-corrected, slot-passed}
+use Rattle.inspect.specs.Reading.{dataBlocks}
+use Rattle.inspect.proofs.Corrections.{Decides, sumBelow, sum-none, sum-all, home-counted, slot-corrected, slot-passed}
 use Rattle.inspect.proofs.tally.sum_data.Statement.{statement}
 use Rattle.inspect.proofs.tally.sum_data.Tie as tie
 
 abbrev Inv-loop : tie.InvT-loop
-Inv-loop settled blocks n sum₀ i₀ sum i = (i ≤ n) × (sum ≡ sumBelow trap settled blocks n i) × (sum ≤ 255 * blockBytes * (blocks + i))
+Inv-loop settled blocks n sum₀ i₀ sum i = (i ≤ n) × (sum ≡ sumBelow trap settled blocks n i) × (sum ≤ 255 * blockBytes * (dataBlocks trap blocks + i))
 
 abbrev μ-loop : tie.MeasureT-loop
 μ-loop settled blocks n sum₀ i₀ sum i = n - i
 
 sum-homes-requires : tie.Need-sum-homes-requires Inv-loop μ-loop
-sum-homes-requires c κs = search needs
+sum-homes-requires c κs = omega arith
 
 loop-holds : tie.Need-loop-holds Inv-loop μ-loop
 loop-holds c =
     let a = c .before .before .args in
-    (omega arith, c .sum-homes .ensures .0 ∙ none-laid trap (a .settled .now) (a .blocks) (a .n), omega arith)
+    (omega arith, c .sum-homes .ensures .0 ∙ sum-none trap (a .settled .now) (a .blocks) (a .n), omega arith)
 
 decides-requires : tie.Need-decides-requires Inv-loop μ-loop
 decides-requires c κs = search needs
@@ -66,7 +67,7 @@ returns c =
     let l = c .before .loop in
     let a = c .before .before .before .before .args in
     let over : l .i ≡ a .n = omega arith in
-    rw over at (l .inv .1) ∙ all-laid trap (a .settled .now) (a .blocks) (a .n)
+    rw over at (l .inv .1) ∙ sum-all trap (a .settled .now) (a .blocks) (a .n)
 
 pub sum-data-spec : {M : Type 1} → statement M
 sum-data-spec =

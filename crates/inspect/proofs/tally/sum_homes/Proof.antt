@@ -18,7 +18,7 @@ use Rattle.inspect.proofs.tally.sum_homes.Tie as tie
 
 abbrev Inv-loop : tie.InvT-loop
 Inv-loop settled blocks sum₀ a₀ sum a =
-    (firstData trap ≤ a) × (a ≤ blocks) × (sum ≡ sumData trap (blockAt settled) (dataBlocks trap a)) × (sum ≤ 255 * blockBytes * a)
+    (firstData trap ≤ a) × (dataBlocks trap a ≤ dataBlocks trap blocks) × (sum ≡ sumData trap (blockAt settled) (dataBlocks trap a)) × (sum ≤ 255 * blockBytes * dataBlocks trap a)
 
 abbrev μ-loop : tie.MeasureT-loop
 μ-loop settled blocks sum₀ a₀ sum a = blocks - a
@@ -57,7 +57,7 @@ loop-again c =
 returns : tie.Need-returns Inv-loop μ-loop
 returns c =
     let l = c .before .loop in
-    let over : l .a ≡ c .before .before .before .args .blocks = omega arith in
+    let over : dataBlocks trap (l .a) ≡ dataBlocks trap (c .before .before .before .args .blocks) = omega arith in
     (rw over at (l .inv .2), rw over at (l .inv .3))
 
 pub sum-homes-spec : {M : Type 1} → statement M
