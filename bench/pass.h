@@ -1,4 +1,4 @@
-/* One pass of additions over bytes in plain C: what a tally is measured against (passes.c). */
+/* One pass of additions over bytes, whole blocks of them, in plain C: what a tally is measured against (passes.c). */
 #ifndef PASS_H
 #define PASS_H
 

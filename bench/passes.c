@@ -2,7 +2,8 @@
  * the medians of ROUNDS runs and the store's time as a part of each pass's. Each tally is held to the sum that it should have.
  *
  *   passes ROUNDS
- *   passes N COUNT        one tally of a card of N blocks with COUNT entries in the log, for callgrind
+ *   passes N COUNT        one tally of a card of N blocks with COUNT entries in the log, for callgrind. The addresses are unlike if there
+ *                         are as many data blocks as slots and their number is no multiple of STEP, which is asked.
  */
 #define _POSIX_C_SOURCE 199309L
 #include <stdio.h>
@@ -13,7 +14,7 @@
 #include "pass.h"
 #include "trapcard.h"
 
-enum { MOST_ROUNDS = 2001, DATA = TRAPCARD_FIRST * TRAPCARD_BLOCK };
+enum { MOST_ROUNDS = 2001, STEP = 1571, DATA = TRAPCARD_FIRST * TRAPCARD_BLOCK };
 
 static uint8_t record[TRAPCARD_RECORD], waiting[TRAPCARD_WAITING], work[TRAPCARD_WORK];
 static uint8_t settled[TRAPCARD_MOST * TRAPCARD_BLOCK];
@@ -41,7 +42,7 @@ static uint64_t prepare(uint32_t blocks, uint32_t n)
         settled[i] = (uint8_t)(i * 2654435761u >> 13);
     uint64_t sum = pass_row(settled + DATA, settled_len - DATA);
     for (uint32_t i = 0; i < n; i++) {
-        uint32_t address = TRAPCARD_FIRST + (200 + i) * 1571 % (blocks - TRAPCARD_FIRST);
+        uint32_t address = TRAPCARD_FIRST + (200 + i) * STEP % (blocks - TRAPCARD_FIRST);
         memset(block, (int)(200 + i), sizeof block);
         must(trapcard_put(CARD, address, block, sizeof block), "put");
         sum += pass_row(block, sizeof block) - pass_row(settled + (size_t)address * TRAPCARD_BLOCK, TRAPCARD_BLOCK);
@@ -99,7 +100,8 @@ static void measure(uint32_t blocks, uint32_t n, int rounds)
 int main(int argc, char **argv)
 {
     unsigned first = argc > 1 ? (unsigned)atoi(argv[1]) : 0, count = argc > 2 ? (unsigned)atoi(argv[2]) : 0;
-    if (argc == 3 && first >= TRAPCARD_LEAST && first <= TRAPCARD_MOST && count <= TRAPCARD_SLOTS) {
+    if (argc == 3 && first >= TRAPCARD_FIRST + TRAPCARD_SLOTS && first <= TRAPCARD_MOST && (first - TRAPCARD_FIRST) % STEP != 0 &&
+        count <= TRAPCARD_SLOTS) {
         uint64_t sum = prepare(first, count);
         return tally(settled + DATA, settled_len - DATA) != sum;
     }

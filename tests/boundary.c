@@ -656,9 +656,9 @@ static void bounds(void)
     same("tally", "set sum to", wide[1], 0);
 }
 
-/* Half as many blocks as there are slots, saved as one group, each filled with a byte: data blocks 0, 3, 6 and so on. */
 #define HALF (TRAPCARD_SLOTS / 2)
 
+/* Half as many blocks as there are slots, saved as one group, each filled with a byte: data blocks 0, 3, 6 and so on. */
 static void save_half(int byte)
 {
     uint8_t block[TRAPCARD_BLOCK];
@@ -676,18 +676,18 @@ static void save_half(int byte)
 /* The largest card full of 255 with a full log in which each address has two slots: the newer one counts, and its home does not. */
 static void corrections(void)
 {
-    static uint8_t before[sizeof large];
+    static uint8_t held[sizeof large];
     same("format", "answered for the largest card", format(large, TRAPCARD_MOST), TRAPCARD_DONE);
     memset(large + DATA, 255, sizeof large - DATA);
     save_half(254);
     save_half(3);
-    memcpy(before, large, sizeof large);
+    memcpy(held, large, sizeof large);
     arm();
     same("tally", "answered", trapcard_tally(large, sizeof large - TRAPCARD_BLOCK, &wide[1]), TRAPCARD_DONE);
     check_guards("tally");
     same("tally", "set sum to", wide[1],
          (uint64_t)TRAPCARD_BLOCK * (255 * (uint64_t)(TRAPCARD_MOST - TRAPCARD_FIRST - HALF) + 3 * HALF));
-    must(memcmp(before, large, sizeof large) == 0, "tally", "wrote a card");
+    must(memcmp(held, large, sizeof large) == 0, "tally", "wrote a card");
 }
 
 #define KINDS 7

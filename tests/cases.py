@@ -1,7 +1,7 @@
 """What one call met, as cells of the coverage table. It is asked before the call, and told the outcome after it."""
 from coverage import IN_APPLY, IN_SYNC, NUMBER, TWO
 from model import (BLOCK, CLOSED, COSTS, DOWN, EMPTY_SUM, FIRST_DATA, LAST, LEAST, MOST, OPEN, PLACES, RECORD, SLOTS, WAITING, WORK, choice,
-                   chosen, data_sum, entries, foreign, in_use, is_data, lists, marks_of, read_header, torn, wrong_counts, wrong_lists, wrong_marks)
+                   chosen, data_sum, entries, foreign, in_use, is_data, lists, log, marks_of, read_header, torn, wrong_counts, wrong_lists, wrong_marks)
 
 
 def settled_sizes(settled):
@@ -352,9 +352,10 @@ class MetCards(Met):
             yield "save number, %s: 2^64 - 1, %s" % (self.call, "fallback" if choice(self.blocks, one)[3] else "whole")
 
     def tally(self, total, one):
-        listed, homes = chosen(one)[1], data_sum(one, [])
+        _, count, _, back, _ = choice(self.blocks, one)
+        listed, homes = log(one, count), data_sum(one, [])
         addresses = {address for address, _ in listed}
-        yield "tally: " + ("fallback list" if choice(self.blocks, one)[3] else "whole log" if listed else "no log")
+        yield "tally: " + ("fallback list" if back else "whole log" if listed else "no log")
         for case, applies in (("N 65536", self.blocks == MOST), ("32 slots", len(listed) == SLOTS),
                               ("an address in several slots", len(addresses) < len(listed)),
                               ("more than the home blocks", total > homes), ("less than the home blocks", total < homes)):

@@ -33,13 +33,18 @@ grep -q 'ret' <<<"$sum"
 if grep -E 'mul|call' <<<"$sum"; then exit 1; fi
 echo "firmware: the sum is there, and nothing in it multiplies or calls"
 
-# What a full log adds to a tally is the same on a card with ten times as many data blocks: no data block is looked up in it.
+# What a full log adds to a tally is the same on a card with ten times as many data blocks. A search of the log for each data block would
+# add to it, unless it took as long in an empty log.
 gcc -O2 "${strict[@]}" bench/passes.c bench/pass.c "$archive" -o "$out/passes"
-counted() { # N COUNT: the instructions of a tally
-  valgrind -q --tool=callgrind --toggle-collect=trapcard_tally --callgrind-out-file="$out/dump" "$out/passes" "$1" "$2"
-  awk '/^totals:/ { print $2 }' "$out/dump"
+counted() { # N COUNT: the instructions of a tally, whose sum has to be right
+  valgrind -q --tool=callgrind --toggle-collect=trapcard_tally --callgrind-out-file="$out/dump" "$out/passes" "$1" "$2" &&
+    sed -n 's/^totals: *//p' "$out/dump"
 }
-small=$(($(counted 134 32) - $(counted 134 0)))
-large=$(($(counted 1034 32) - $(counted 1034 0)))
+added() { # N: the instructions that a full log adds
+  local full empty
+  full=$(counted "$1" 32) && empty=$(counted "$1" 0) && echo $((full - empty))
+}
+small=$(added 134)
+large=$(added 1034)
 echo "firmware: a full log adds $small instructions to a tally of 100 data blocks, and $large to one of 1,000"
 ((small > 0 && small == large))

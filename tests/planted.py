@@ -87,7 +87,7 @@ FAULTS = (
     Fault("a tally is corrected for every slot", "inspect/tally", "(newest == i)", "(i <= newest)"),
     Fault("a tally is corrected for the first slot of an address", "inspect/tally", "let Found::At(newest) = last_slot(settled, a, n) else {\n"
           "        return false;", "let Found::At(newest) = last_slot(settled, a, i) else {\nreturn true;"),
-    Fault("a tally takes off the bytes of the slot's own block", "inspect/tally", "sum - home + own", "sum.wrapping_sub(own) + own"),
+    Fault("a tally takes off the bytes of the slot's own block", "inspect/tally", "sum - home + own", "sum - own + own"),
     Fault("a tally leaves out the last data block", "inspect/tally", "while a < blocks {", "while a + 1 < blocks {"),
     Fault("a tally leaves out the last chunk of a block", "inspect/tally", "while i < BLOCK / CHUNK {", "while i + 1 < BLOCK / CHUNK {"),
     Fault("a tally leaves out the log's last slot", "inspect/tally", "while i < n {", "while i + 1 < n {"),

@@ -1,5 +1,5 @@
 -- The laws of a tally's corrections: the disk that the sum stands for, slot by slot, from the home blocks to the log laid over.
-use Prim.Native.Nat.{ℕ, suc, _+_, _≤_, _<_}
+use Prim.Native.Nat.{ℕ, _+_, _≤_, _<_}
 use mathlib.Core.Path.{_≡_, refl, ap, sym, _∙_}
 use mathlib.Core.Bool.{Bool, true, false, cond, _&&_, true≢false}
 use mathlib.Core.Logic.{_≢_, _↔_}
@@ -81,18 +81,11 @@ module _ (geo : Geometry) (s : List ℕ) (n : ℕ) where
 
 -- ---- the test
 
--- what a lookup found, as a number that tells the cases apart
-rank : Found → ℕ
-rank (At k) = suc k
-rank Absent = 0
-
 at-equal : (k i : ℕ) → At k ≡ At i → k ≡ i
-unfolding rank
-at-equal k i e = let z : suc k ≡ suc i = ap rank e in omega arith
+at-equal k i e = cc
 
 absent-found : (i : ℕ) → Absent ≡ At i → ⊥
-unfolding rank
-absent-found i e = let z : 0 ≡ suc i = ap rank e in omega arith
+absent-found i e = let z : _≡_ {A = ℕ} 0 1 = cc in omega arith
 
 module _ (geo : Geometry) (s : List ℕ) (N n i : ℕ) where
   -- slot i is the last with its address, and the address is a data block's

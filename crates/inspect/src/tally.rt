@@ -73,7 +73,7 @@ fn sum_homes(settled: &[u8], blocks: u32) -> u64
     sum
 }
 
-// Whether slot i decides a data block: it has the block's address, and no later one of the first n has.
+// Whether slot i decides a data block: it is the last of the first n slots with the block's address.
 fn decides(settled: &[u8], blocks: u32, n: u32, i: u32) -> bool
     requires { ⌜ firstData trap < blocksIn (now settled) ⌝ }
     requires { ⌜ n ≤ trap .slots ⌝ }
