@@ -9,8 +9,8 @@ use native.Mathlib.Numerals.{add-one}
 use native.Mathlib.Decide.{ℕ-discrete}
 use native.Mathlib.Omega.{arith}
 use borrow.Author.Tests.{ne-eqb}
-use lib.ListN.{length, take, drop, getD, length-drop}
-use lib.Seq.{length-take-le, take-suc, take-add}
+use lib.ListN.{length, take, drop, getD}
+use lib.Seq.{take-suc, take-add}
 use Rattle.cells.specs.Entry.{Entry}
 use Rattle.card.specs.Disk.{Disk, lay}
 use Rattle.card.proofs.Overlays.{lay-same, lay-other}
@@ -36,12 +36,7 @@ pub bytes-next : (s : List ℕ) (i : ℕ) → i < length s → sumBytes (take (i
 unfolding sumBytes
 bytes-next s i h = rw (add-one, take-suc s i 0, bytes-append, add-zero)
 
--- ---- chunks of k bytes: n is their length as the code computes it
-
-pub chunk-length : (k : ℕ) (s : List ℕ) (at n : ℕ) → n ≡ k → at + k ≤ length s → length (take n (drop at s)) ≡ k
-chunk-length k s at n e h = rw e (length-take-le k (drop at s) (rw length-drop (omega arith)))
-
--- one more chunk, of sum v
+-- one more chunk of k bytes, of sum v: n is its length as the code computes it
 pub chunk-next : (k : ℕ) (s : List ℕ) (i n u v : ℕ) → n ≡ k → u ≡ sumBytes (take (k * i) s) → v ≡ sumBytes (take n (drop (k * i) s)) → u + v ≡ sumBytes (take (k * (i + 1)) s)
 chunk-next k s i n u v e p q = rw (p, q, e, mul-add k i 1, mul-one k, take-add (k * i) k s) (sym (bytes-append (take (k * i) s) (take k (drop (k * i) s))))
 

@@ -2,10 +2,10 @@
 use Prim.Native.Nat.{_+_, _*_, _-_, _≤_}
 use mathlib.Core.Path.{_≡_, sym}
 use native.Mathlib.Omega.{arith}
-use lib.ListN.{take}
+use lib.ListN.{take, length-take, length-drop}
 use lib.Seq.{take-all}
 use Rattle.inspect.specs.Tally.{sumBytes}
-use Rattle.inspect.proofs.Sums.{bytes-none, chunk-length, chunk-next}
+use Rattle.inspect.proofs.Sums.{bytes-none, chunk-next}
 use Rattle.inspect.proofs.tally.sum_bytes.Statement.{statement}
 use Rattle.inspect.proofs.tally.sum_bytes.Tie as tie
 
@@ -34,9 +34,7 @@ part-sum-chunk-end : tie.Need-part-sum-chunk-end Inv-loop μ-loop
 part-sum-chunk-end c = omega arith
 
 sum-chunk-requires : tie.Need-sum-chunk-requires Inv-loop μ-loop
-sum-chunk-requires c κs =
-    let at = 64 * c .before .before .loop .i in
-    chunk-length 64 (c .before .before .before .before .args .block .now) at (at + 64 - at) (omega arith) (omega arith)
+sum-chunk-requires c κs = rw (length-take, length-drop) (omega arith)
 
 add-sum : tie.Need-add-sum Inv-loop μ-loop
 add-sum c = omega arith
