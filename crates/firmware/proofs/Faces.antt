@@ -17,11 +17,12 @@ use Rattle.store.specs.CodeState.{stateOf, outcomeOf}
 use Rattle.store.specs.Request.{get}
 use Rattle.store.specs.Causes.{cause}
 use Rattle.store.specs.Get.{newest, getPlace}
+use Rattle.store.specs.GetList.{listingOf, listing}
 use Rattle.store.specs.Cost.{noFigures}
 use Rattle.inspect.specs.declared.answer.Alike.{Alike}
 use Rattle.inspect.specs.Alike.{alikeOf}
 use Rattle.journal.specs.Geometry.{Geometry}
-use Rattle.firmware.specs.Face.{recordBytes, encodeRecord, decodeRecord, faceOf, handed, faced, bufferNumber, bufferOffset, gotOf, gotIn, got, Asked, told, asked, comparedOf, compared}
+use Rattle.firmware.specs.Face.{recordBytes, encodeRecord, decodeRecord, faceOf, handed, faced, bufferNumber, bufferOffset, gotOf, gotIn, got, listed, Asked, told, asked, comparedOf, compared}
 
 -- "another length is 1"
 pub faced-length : (call : State → Outcome) (r s w k : List ℕ) → length r ≢ recordBytes → faceOf 1 0 r s w k ≡ faced call r s w k
@@ -89,6 +90,16 @@ module _ (geo : Geometry) where
   got-named a r s w k b o d p h e f g i n =
       let named : bufferNumber (getPlace geo a (stateOf d s w k)) ≢ 0 = λ z. n (g ∙ ap bufferNumber f ∙ z) in
       got-done a r s w k 0 b o d p h e f g i (named-done a (stateOf d s w k) named)
+
+module _ (geo : Geometry) where
+  -- likewise a list
+  pub listed-length : (xs bs r s w k : List ℕ) → length r ≢ recordBytes → listingOf 1 0 bs ≡ listed geo xs bs r s w k
+  unfolding listed
+  listed-length xs bs r s w k h = rw (ne-eqb (length r) recordBytes h)
+
+  pub listed-listing : (xs bs r s w k : List ℕ) → length r ≡ recordBytes → listing geo xs bs (stateOf (decodeRecord r) s w k) ≡ listed geo xs bs r s w k
+  unfolding listed
+  listed-listing xs bs r s w k h = rw (eq-eqb (length r) recordBytes h)
 
 -- a yes is 1
 as-byte : (y : Bool) → boolByte y ≡ cond y 1 0

@@ -15,6 +15,7 @@ use Rattle.store.specs.CodeState.{stateOf}
 use Rattle.store.specs.Request.{get}
 use Rattle.store.specs.Causes.{cause}
 use Rattle.store.specs.Get.{getPlace}
+use Rattle.store.specs.GetList.{Listing, listingOf, listing}
 use Rattle.store.specs.Cost.{noFigures}
 use Rattle.inspect.specs.declared.answer.Tally.{Tally}
 use Rattle.inspect.specs.Alike.{alikeOf}
@@ -106,6 +107,12 @@ module _ (geo : Geometry) where
 
   unfoldable pub got : ℕ → List ℕ → List ℕ → List ℕ → List ℕ → Got
   got a r s w k = cond (eqb (length r) recordBytes) (gotIn a (stateOf (decodeRecord r) s w k)) (gotOf 1 0 0)
+
+-- ---- W-207: a list of gets; the buffer for the blocks is lent for writing
+
+module _ (geo : Geometry) where
+  unfoldable pub listed : List ℕ → List ℕ → List ℕ → List ℕ → List ℕ → List ℕ → Listing
+  listed xs bs r s w k = cond (eqb (length r) recordBytes) (listing geo xs bs (stateOf (decodeRecord r) s w k)) (listingOf 1 0 bs)
 
 -- ---- W-202: what a sync, an apply or a recover will take
 

@@ -1,12 +1,13 @@
-// The calls that change nothing: get, tally, alike.
+// The calls that change nothing but what they are lent for their answer: get, a list of gets, tally, alike.
 use crate::record::RECORD;
 use crate::record::SIZE;
 use crate::record::decode;
 use store::place::Place;
 ghost use mathlib.Core.Path.{_≡_};
+ghost use Rattle.store.specs.GetList.{listingOf};
 ghost use Rattle.inspect.specs.Tally.{tallyOf};
 ghost use Rattle.journal.specs.Geometry.{trap};
-ghost use Rattle.firmware.specs.Face.{bufferNumber, bufferOffset, gotOf, got, tallied, comparedOf, compared};
+ghost use Rattle.firmware.specs.Face.{bufferNumber, bufferOffset, gotOf, got, listed, tallied, comparedOf, compared};
 
 // The buffers that a get names.
 const NOWHERE: u32 = 0;
@@ -60,6 +61,27 @@ pub extern "C" fn trapcard_get(
         return 0;
     }
     held.get_number(settled, waiting, work, address)
+}
+
+#[no_mangle]
+pub extern "C" fn trapcard_get_list(
+    rec: &[u8],
+    settled: &[u8],
+    waiting: &[u8],
+    work: &[u8],
+    addresses: &[u8],
+    blocks: &mut [u8],
+    slots: &mut u32,
+) -> u32
+    ensures { λ r. ⌜ listingOf r (now (slots .exit)) (now (blocks .exit)) ≡ listed trap (now (addresses .entry)) (now (blocks .entry)) (now (rec .entry)) (now (settled .entry)) (now (waiting .entry)) (now (work .entry)) ⌝ }
+{
+    if rec.len() != RECORD {
+        *slots = 0;
+        return SIZE;
+    }
+    let listed = decode(rec).get_list(settled, waiting, work, addresses, blocks);
+    *slots = listed.slots;
+    listed.number
 }
 
 #[no_mangle]

@@ -5,5 +5,6 @@ pub mod Costs
 pub mod FaceRefusals
 pub mod Formats
 pub mod Guards
+pub mod Lists
 pub mod Links
 pub mod Scripts

@@ -1,5 +1,5 @@
 -- The theorems about histories. Their types stand in specs/Statements.antt, specs/Refusals.antt, specs/Cuts.antt, specs/Formats.antt, specs/Costs.antt,
--- specs/Dispatch.antt, specs/Linked.antt and specs/Scripts.antt.
+-- specs/Lists.antt, specs/Dispatch.antt, specs/Linked.antt and specs/Scripts.antt.
 use Prim.Native.Nat.{ℕ}
 use mathlib.Core.Path.{_≡_, refl, ap, sym, _∙_}
 use mathlib.Core.Logic.{_≢_, _⊎_}
@@ -10,6 +10,7 @@ use lib.Dec.{eqb}
 use Rattle.store.specs.Request as Request
 use Rattle.store.specs.State.{State, Outcome}
 use Rattle.store.specs.Causes.{cause}
+use Rattle.store.specs.Outcomes.{refused}
 use Rattle.store.specs.Format.{formatCall}
 use Rattle.store.specs.Power.{powerCall}
 use Rattle.store.specs.Put.{putCall}
@@ -18,6 +19,7 @@ use Rattle.store.specs.Abandon.{abandonCall}
 use Rattle.store.specs.Saves.{syncCall, applyCall, recoverCall}
 use Rattle.store.specs.Cut.{cutCall}
 use Rattle.journal.specs.Geometry.{Geometry}
+use Rattle.store.proofs.Listings.{listing-number}
 use Rattle.journal.proofs.Choices.{fallback-number}
 use Rattle.history.specs.Call.{Call, requestOf, recover, sync}
 use Rattle.history.specs.Plain.{Done, refusal, served}
@@ -29,13 +31,14 @@ use Rattle.history.specs.Refusals.{Refusals}
 use Rattle.history.specs.Cuts.{AllCuts, AllMixtures}
 use Rattle.history.specs.Formats.{AllFormats}
 use Rattle.history.specs.Costs.{Costs}
+use Rattle.history.specs.Lists.{AllLists}
 use Rattle.history.specs.Linked.{Linked}
 use Rattle.history.specs.Scripts.{ScriptsAreHistories}
 use Rattle.history.proofs.Relation.CauseLaws.{cause-one, cause-two, cause-passes}
-use Rattle.history.proofs.Relation.Forms.{get-called}
+use Rattle.history.proofs.Relation.Forms.{get-called, list-called}
 use Rattle.history.proofs.Relation.Sim.{Safe}
 use Rattle.history.proofs.Steps.Shown.{same-cause, dispatch-refused, plain-served}
-use Rattle.history.proofs.Steps.Local.{is-open}
+use Rattle.history.proofs.Steps.Local.{is-open, list-plain}
 use Rattle.history.proofs.Steps.Sync.{logged}
 use Rattle.history.proofs.Steps.ListInduction.{step, after-sim, after-safe, begun-sim, begun-safe}
 use Rattle.history.proofs.Relation.PlainAnswers.{Either, served-answer}
@@ -47,6 +50,7 @@ use Rattle.history.proofs.Boundary.FaceRefusals as FaceRefusals
 use Rattle.history.proofs.Boundary.Formats as FormatsProof
 use Rattle.history.proofs.Boundary.Guards as Guards
 use Rattle.history.proofs.Boundary.Costs as CostsProof
+use Rattle.history.proofs.Boundary.Lists as ListsProof
 use Rattle.history.proofs.Boundary.Links as Links
 use Rattle.history.proofs.Boundary.Scripts as ScriptsProof
 
@@ -115,7 +119,10 @@ module _ (geo : Geometry) where
   -- ---- Refinement
 
   pub refinement : Refinement geo
-  refinement st h cs c e = step geo c (after geo cs (begun geo st)) (after-sim geo cs (begun geo st) (begun-sim geo st h) e) .agrees
+  refinement st h cs c e =
+      let w = after geo cs (begun geo st) in
+      let m = after-sim geo cs (begun geo st) (begun-sim geo st h) e in
+      (step geo c w m .agrees, λ xs bs q. list-plain geo xs bs (w .store) (w .ledger) (w .plain) m)
 
   -- ---- Log read back
 
@@ -155,6 +162,7 @@ module _ (geo : Geometry) where
     reads = FaceRefusals.reads geo;
     faces = FaceRefusals.faces geo (RefusalsProof.calls geo);
     gets = FaceRefusals.gets geo;
+    lists = FaceRefusals.lists geo;
     asks = FaceRefusals.asks geo;
   }
 
@@ -181,6 +189,11 @@ module _ (geo : Geometry) where
   pub costs : Costs geo
   costs = record { inquiries = CostsProof.foretells geo; forms = CostsProof.forms geo }
 
+  -- ---- Lists of gets
+
+  pub all-lists : AllLists geo
+  all-lists = ListsProof.listed-gets geo
+
   -- ---- Through C
 
   pub cited : Cited geo
@@ -190,6 +203,7 @@ module _ (geo : Geometry) where
     powers = λ k. refl;
     puts = λ a b. refl;
     gets = get-called geo;
+    lists = λ xs bs st. list-called geo xs bs st ∙ ap (λ (n : ℕ). refused n st) (sym (listing-number geo xs bs st));
     commits = refl;
     abandons = refl;
     syncs = refl;

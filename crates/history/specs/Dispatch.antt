@@ -7,7 +7,7 @@ use Rattle.store.specs.Local as Local
 use Rattle.store.specs.Local.{Local}
 use Rattle.store.specs.Save as Save
 use Rattle.store.specs.Save.{Save}
-use Rattle.store.specs.Request.{Request, format, local, save, cut, power, put, get, commit, abandon, sync, apply, recover}
+use Rattle.store.specs.Request.{Request, format, local, save, cut, power, put, get, getList, commit, abandon, sync, apply, recover}
 use Rattle.store.specs.State.{State, Outcome}
 use Rattle.store.specs.Causes.{cause}
 use Rattle.store.specs.Outcomes.{completed, unless}
@@ -15,7 +15,7 @@ use Rattle.store.specs.Format.{formatted, formatCall}
 use Rattle.store.specs.Power.{powered, powerCall}
 use Rattle.store.specs.Put.{putting, putCall}
 use Rattle.store.specs.Abandon.{abandoned, abandonCall}
-use Rattle.store.specs.Get.{getPlace, bytesAt}
+use Rattle.store.specs.GetList.{listing}
 use Rattle.store.specs.Commit.{committed, commitCall}
 use Rattle.store.specs.Saves.{syncing, syncCall, applying, applyCall, recovering, recoverCall}
 use Rattle.store.specs.Cut.{cutting, cutCall}
@@ -24,11 +24,12 @@ use Rattle.journal.specs.Choice.{choose}
 use Rattle.history.specs.Call.{Call, requestOf}
 
 module _ (geo : Geometry) where
-  -- what a local call leaves where no cause refuses; a get leaves everything
+  -- what a local call leaves where no cause refuses; a get leaves everything, and so does a list of them
   abbrev pub servedLocal : Local → State → State
   servedLocal (Local.power k) st = powered k st
   servedLocal (Local.put a b) st = putting a b st
   servedLocal (Local.get a) st = st
+  servedLocal (Local.getList xs bs) st = st
   servedLocal Local.commit st = committed geo st
   servedLocal Local.abandon st = abandoned st
 
@@ -53,17 +54,14 @@ module _ (geo : Geometry) where
   abbrev pub dispatch : Call → State → Outcome
   dispatch c st = called (requestOf c) st
 
-  -- the block that a get hands out
-  abbrev pub blockOf : ℕ → State → List ℕ
-  blockOf a st = bytesAt (getPlace geo a st) st
-
   -- the definition on the right of each call's `ensures` is the call of this table. Get's contracts are of its number, `cause`, and of its
-  -- place: it answers that number and leaves everything
+  -- place, a list's of its number, slots and blocks: each answers that number and leaves everything
   pub record Cited : Type 0 where
     pub formats : formatCall geo ≡ called format
     pub powers : (k : ℕ) → powerCall geo k ≡ called (power k)
     pub puts : (a : ℕ) (b : List ℕ) → putCall geo a b ≡ called (put a b)
     pub gets : (a : ℕ) (st : State) → called (get a) st ≡ record { answer = cause geo (get a) st; orders = 0; state = st }
+    pub lists : (xs bs : List ℕ) (st : State) → called (getList xs bs) st ≡ record { answer = listing geo xs bs st .number; orders = 0; state = st }
     pub commits : commitCall geo ≡ called commit
     pub abandons : abandonCall geo ≡ called abandon
     pub syncs : syncCall geo ≡ called sync

@@ -1,22 +1,27 @@
 -- "The plain disk": a machine of its own, from its own section of document 01. Of the store it shares entries, the overlay, the
--- numbers of the causes, the data-block test, the largest save number, the names of the calls, and the tests of a cut's marks.
+-- numbers of the causes, the data-block test, the largest save number, the names of the calls, the tests of a cut's marks, and of a
+-- list of gets the test of its lengths and its addresses.
 use Prim.Native.Nat.{ℕ, _+_, _-_}
 use mathlib.Core.Bool.{Bool, true, false, cond, not, _&&_, _||_}
 use mathlib.Core.List.{List, [], _∷_}
 use lib.Dec.{eqb, leb, ltb}
 use lib.ListN.{length, replicate}
+use Rattle.cells.specs.Upto.{joined}
 use Rattle.cells.specs.Entry.{blockBytes, Entry}
 use Rattle.card.specs.Disk.{overlay}
 use Rattle.card.specs.Marks.{marksFor, wholeAt, keptAt}
 use Rattle.journal.specs.Geometry.{Geometry}
 use Rattle.journal.specs.Layout.{isData}
 use Rattle.journal.specs.Header.{mostSave}
+use Rattle.journal.specs.Wanted.{wantedCount, wantedAt}
 use Rattle.crash.specs.Laid.{Laid, layOver}
 use Rattle.store.specs.Local as Local
 use Rattle.store.specs.Local.{Local}
+use Rattle.store.specs.Causes.{some, wrongList}
+use Rattle.store.specs.GetList.{Listing, listingOf}
 use Rattle.store.specs.Save as Save
 use Rattle.store.specs.Save.{Save}
-use Rattle.history.specs.Call.{Call, local, save, cut}
+use Rattle.history.specs.Call.{Call, local, save, cut, getList}
 
 -- "the call cut short and its orders"
 pub data Short : Type 0 where
@@ -181,6 +186,8 @@ module _ (geo : Geometry) where
       cond (not (eqb (length b) blockBytes)) 1
       (whenOpen d (cond (not (isData geo (d .N) a)) 6 (cond (not (has a (d .T)) && leb (geo .slots) (length (d .T))) 7 0)))
   refusal (local (Local.get a)) d = whenOpen d (cond (not (isData geo (d .N) a)) 6 0)
+  refusal (local (Local.getList xs bs)) d =
+      cond (wrongList xs bs) 1 (whenOpen d (cond (some (λ i. not (isData geo (d .N) (wantedAt xs i))) (wantedCount xs)) 6 0))
   refusal (local Local.commit) d = whenOpen d (cond (ltb (geo .slots) (length (merge (d .T) (d .G)))) 7 0)
   refusal (local Local.abandon) d = whenOpen d 0
   refusal (save Save.sync) d = whenOpen d (cond (lastSave d) 12 0)
@@ -265,6 +272,7 @@ abbrev pub locally : Local → Plain → Plain
 locally (Local.power k) d = withPower k d
 locally (Local.put a b) d = withLists (d .G) (insert (record { address = a; block = b }) (d .T)) d
 locally (Local.get a) d = d
+locally (Local.getList xs bs) d = d
 locally Local.commit d = withLists (merge (d .T) (d .G)) [] d
 locally Local.abandon d = withLists (d .G) [] d
 
@@ -287,3 +295,13 @@ module _ (geo : Geometry) where
 -- "get reading T, then G, then S"
 unfoldable pub plainGet : ℕ → Plain → List ℕ
 plainGet a d = overlay (d .T) (overlay (d .G) (d .S .disk)) a
+
+-- W-207: a list of gets: the slots are "n for a list with any address, 0 for none", each block is "what a single get shows", "in the order
+-- listed". Refused, no slot is counted "and then nothing is copied"
+module _ (geo : Geometry) where
+  unfoldable pub plainListing : List ℕ → List ℕ → Plain → Listing
+  plainListing xs bs d =
+      let k = refusal geo (getList xs bs) d in
+      cond (eqb k 0)
+      (listingOf 0 (cond (eqb (length xs) 0) 0 (d .n)) (joined (λ i. plainGet (wantedAt xs i) d) (wantedCount xs)))
+      (listingOf k 0 bs)

@@ -1,4 +1,4 @@
--- Refusals (demand 1): over the ten calls, the script's lines, tally and alike, what C sees of them and of the inquiries (W-202), and any
+-- Refusals (demand 1): over the ten calls and lists of gets (W-207), the script's lines, tally and alike, what C sees of them and of the inquiries (W-202), and any
 -- inputs whatever.
 use Prim.Native.Nat.{ℕ, _+_, _≤_}
 use mathlib.Core.Path.{_≡_}
@@ -20,13 +20,14 @@ use Rattle.store.specs.State.{State, down, withMode, withRecord, cardIn}
 use Rattle.store.specs.CodeState.{stateOf}
 use Rattle.store.specs.Causes.{cause}
 use Rattle.store.specs.Outcomes.{refused}
-use Rattle.store.specs.Get.{getPlace, partAt}
+use Rattle.store.specs.Get.{getPlace, partAt, blockOf}
 use Rattle.store.specs.Saves.{saveOrders, applies}
+use Rattle.store.specs.GetList.{listingOf, listing}
 use Rattle.store.specs.Cost.{costOf}
 use Rattle.inspect.specs.Reading.{chosen, inspection}
 use Rattle.inspect.specs.Tally.{tallyOf}
-use Rattle.firmware.specs.Face.{recordBytes, decodeRecord, faceOf, faced, gotOf, got, asked, tallied, comparedOf, compared}
-use Rattle.history.specs.Dispatch.{called, blockOf}
+use Rattle.firmware.specs.Face.{recordBytes, decodeRecord, faceOf, faced, gotOf, got, listed, asked, tallied, comparedOf, compared}
+use Rattle.history.specs.Dispatch.{called}
 use Rattle.history.specs.Scripts.{ByCall}
 
 -- ---- the ten calls
@@ -116,6 +117,14 @@ module _ (geo : Geometry) where
         → got geo a r s w k ≡ gotOf (cause geo (Request.get a) (stateOf (decodeRecord r) s w k)) 0 0
     pub serves : length r ≡ recordBytes → cause geo (Request.get a) (stateOf (decodeRecord r) s w k) ≡ 0 → got geo a r s w k .number ≡ 0
 
+  -- W-207: a list that is refused copies nothing and counts no slot; else it is that of the state that the bytes stand for
+  pub record ListFaces (xs bs r s w k : List ℕ) : Type 0 where
+    pub size : length r ≢ recordBytes → listed geo xs bs r s w k ≡ listingOf 1 0 bs
+    pub refuses : length r ≡ recordBytes → cause geo (Request.getList xs bs) (stateOf (decodeRecord r) s w k) ≢ 0
+        → listed geo xs bs r s w k ≡ listingOf (cause geo (Request.getList xs bs) (stateOf (decodeRecord r) s w k)) 0 bs
+    pub serves : length r ≡ recordBytes → cause geo (Request.getList xs bs) (stateOf (decodeRecord r) s w k) ≡ 0
+        → listed geo xs bs r s w k ≡ listing geo xs bs (stateOf (decodeRecord r) s w k)
+
   -- W-202: an inquiry that is refused hands out no figures; else those of the state that the bytes stand for, 1 for yes
   pub record Asks (c : Save) (r s w k : List ℕ) : Type 0 where
     pub size : length r ≢ recordBytes → asked (costOf geo c) r s w k ≡ record { number = 1; orders = 0; applies = 0; peak = 0; reaches = 0 }
@@ -132,4 +141,5 @@ module _ (geo : Geometry) where
     pub reads : (a b : List ℕ) → Reads a b
     pub faces : (q : Request.Request) (r s w k : List ℕ) → Faces q r s w k
     pub gets : (a : ℕ) (r s w k : List ℕ) → Gets a r s w k
+    pub lists : (xs bs r s w k : List ℕ) → ListFaces xs bs r s w k
     pub asks : (c : Save) (r s w k : List ℕ) → Asks c r s w k

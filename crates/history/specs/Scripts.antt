@@ -20,7 +20,8 @@ use Rattle.script.specs.Replies.{marks}
 use Rattle.script.specs.Transcript.{linesOf, reply, printed, said, beginning, transcript}
 use Rattle.journal.specs.Geometry.{trap}
 use Rattle.history.specs.Call.{Call, local, save, cut, power, put, get, commit, abandon, sync, apply, recover, ofGet}
-use Rattle.history.specs.Dispatch.{called, dispatch, blockOf}
+use Rattle.store.specs.Get.{blockOf}
+use Rattle.history.specs.Dispatch.{called, dispatch}
 use Rattle.history.specs.History.{World, begun, next, after}
 
 -- ---- a line

@@ -15,7 +15,8 @@ use Rattle.script.specs.Replies.{marks}
 use Rattle.store.specs.Format.{formatCall}
 use Rattle.journal.specs.Geometry.{trap}
 use Rattle.history.specs.Call.{Call, power, put, get, commit, sync, apply, recover, cut}
-use Rattle.history.specs.Dispatch.{dispatch, blockOf}
+use Rattle.store.specs.Get.{blockOf}
+use Rattle.history.specs.Dispatch.{dispatch}
 use Rattle.history.specs.History.{World, begun, next, after, storeNext, foundWritten, acceptedCut, exception}
 use Rattle.history.specs.Linked.{AllPassable}
 use Rattle.history.specs.Statements.{EndsFinished, noneFinished, quiet, decided, known, fate, groupsLaid, numberFound, noCut}

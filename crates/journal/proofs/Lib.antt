@@ -2,6 +2,7 @@
 pub mod Headers
 pub mod Logs
 pub mod Lookups
+pub mod Chains
 pub mod Descriptors
 pub mod OrderLists
 pub mod Peaks

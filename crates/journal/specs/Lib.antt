@@ -5,6 +5,8 @@ pub mod Header
 pub mod Log
 pub mod Orders
 pub mod Lookup
+pub mod Wanted
+pub mod CodeWanted
 pub mod Choice
 pub mod Ours
 pub mod Cases

@@ -7,6 +7,7 @@ pub mod header;
 pub mod log;
 pub mod lookup;
 pub mod size;
+pub mod wanted;
 
 // The geometry of the trap, as `trap` of specs/Geometry.antt has it: slots, descriptor blocks, places of the queue.
 pub const SLOTS: u32 = 32;

@@ -4,5 +4,6 @@ pub mod Causes
 pub mod Commits
 pub mod Lookups
 pub mod Places
+pub mod Listings
 pub mod Saves
 pub mod Costs

@@ -7,6 +7,8 @@ use native.Mathlib.Omega.{arith}
 use borrow.Author.Tests.{eqb-true, ltb-true, not-false}
 use denote.Ref.{RefT}
 use lib.Dec.{eqb, leb, ltb}
+use lib.ListN.{length, length-take, length-drop}
+use Rattle.cells.specs.Entry.{blockBytes}
 use Rattle.journal.specs.Geometry.{Geometry}
 use Rattle.journal.specs.declared.lookup.Found.{Found}
 use Rattle.journal.specs.declared.lookup.Found.the-variants.{At, Absent}
@@ -22,7 +24,7 @@ use Rattle.store.specs.CodeState.{stateOf, HoldsBlock}
 use Rattle.store.specs.Lists.{openFrom, groupFrom, find}
 use Rattle.store.specs.Request.{get}
 use Rattle.store.specs.Causes.{cause}
-use Rattle.store.specs.Get.{logPlace, groupPlace, openPlace, newest, getPlace, bytesAt, partAt}
+use Rattle.store.specs.Get.{logPlace, groupPlace, openPlace, newest, getPlace, bytesAt, blockOf, partAt}
 use Rattle.store.proofs.Causes.{Checked, cause-passes, passes-sound}
 use Rattle.store.proofs.Lookups.{last-at, find-at}
 
@@ -58,6 +60,33 @@ module _ (geo : Geometry) where
           let z : cause geo (get a) st ≡ 0 = eqb-true _ _ e in
           newest-within a st (passes-sound geo (get a) st 0 refl (sym z) refl) (not-false _ (cause-passes geo (get a) st 0 (sym z) refl .own .0))
       go false e = tt
+
+-- ---- the block of a get that is served has 512 bytes
+
+abbrev Somewhere : Place → Type 0
+Somewhere (Settled o) = Unit {0}
+Somewhere (Work o) = Unit {0}
+Somewhere Nowhere = ⊥
+
+held-length : (p : Place) (st : State) → HoldsBlock p (st .settled) (st .work) → Somewhere p → length (bytesAt p st) ≡ blockBytes
+held-length (Settled o) st h s = rw (length-take, length-drop) (omega arith)
+held-length (Work o) st h s = rw (length-take, length-drop) (omega arith)
+held-length Nowhere st h s = absurd s
+
+module _ (geo : Geometry) where
+  newest-somewhere : (a : ℕ) (st : State) → Somewhere (newest geo a st)
+  unfolding newest
+  newest-somewhere a st = in-open (find (st .work) openFrom (st .rec .opened) a) (find (st .work) (groupFrom geo) (st .rec .grouped) a) (lastSlot (st .settled) a (st .rec .logged))
+    where
+      in-open : (o g l : Found) → Somewhere (openPlace o (groupPlace geo g (logPlace geo a l)))
+      in-open (At i) g l = tt
+      in-open Absent (At i) l = tt
+      in-open Absent Absent (At i) = tt
+      in-open Absent Absent Absent = tt
+
+  pub block-length : (a : ℕ) (st : State) → cause geo (get a) st ≡ 0 → length (blockOf geo a st) ≡ blockBytes
+  unfolding getPlace
+  block-length a st z = held-length (getPlace geo a st) st (get-within geo a st) (rw (z) (newest-somewhere a st))
 
 pub part-bytes : (p : Place) (r : Record) (settled work : RefT (List ℕ)) (w : List ℕ) → partAt p settled work .bytes ≡ bytesAt p (stateOf r (settled .now) w (work .now))
 part-bytes (Settled o) r s k w = refl

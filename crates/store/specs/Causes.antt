@@ -1,6 +1,6 @@
 -- The table of causes: "The first cause in table order is given, and each is given whenever it applies." Its rows first, in table order;
 -- then which rows each call has.
-use Prim.Native.Nat.{ℕ, zero, suc, _+_, _*_, _<_}
+use Prim.Native.Nat.{ℕ, zero, suc, _+_, _*_, _%_, _<_}
 use mathlib.Core.Bool.{Bool, true, false, cond, not, _&&_, _||_}
 use mathlib.Core.List.{List, [], _∷_}
 use lib.Dec.{eqb, leb, ltb}
@@ -14,6 +14,7 @@ use Rattle.journal.specs.declared.lookup.Found.the-variants.{At, Absent}
 use Rattle.journal.specs.Layout.{isData, wrongSize}
 use Rattle.journal.specs.Header.{mostSave}
 use Rattle.journal.specs.Log.{entries, allData}
+use Rattle.journal.specs.Wanted.{wantedBytes, wantedCount, wantedAt}
 use Rattle.journal.specs.Choice.{choose, inUse, choiceNumber}
 use Rattle.store.specs.State.{State, closed, openMode, down, cardIn}
 use Rattle.store.specs.Lists.{openFrom, groupFrom, listed, find}
@@ -44,6 +45,16 @@ module _ (geo : Geometry) where
   -- the lent buffers, and what the call's own arguments have wrong: "a put block not 512 bytes"; else as the rest says
   abbrev pub sizeRow : Bool → State → ℕ → ℕ
   sizeRow own st rest = cond (wrongSizes st || own) 1 rest
+
+-- W-207: "More than 32 addresses or a buffer of another length is refused as 1"
+abbrev pub mostWanted : ℕ
+mostWanted = 32
+
+unfoldable pub wrongList : List ℕ → List ℕ → Bool
+wrongList xs bs =
+    not (eqb (length xs % wantedBytes) 0)
+    || ltb mostWanted (wantedCount xs)
+    || not (eqb (length bs) (blockBytes * wantedCount xs))
 
 -- ---- 2
 
@@ -124,6 +135,10 @@ module _ (geo : Geometry) where
   abbrev pub addressRow : ℕ → Row
   addressRow a = record { number = 6; behind = lib.Dec.lit< tt; test = λ st. not (isData geo (st .rec .blocks) a) }
 
+  -- W-207: "a wrong address as 6": any of the list
+  abbrev pub addressesRow : List ℕ → Row
+  addressesRow xs = record { number = 6; behind = lib.Dec.lit< tt; test = λ st. some (λ i. not (isData geo (st .rec .blocks) (wantedAt xs i))) (wantedCount xs) }
+
   -- ---- 7: "put of a new address with 32 open"
 
   abbrev pub openFullRow : ℕ → Row
@@ -181,6 +196,7 @@ module _ (geo : Geometry) where
   rules (local (Local.power k)) = ofRecord false []
   rules (local (Local.put a b)) = ofOpen (not (eqb (length b) blockBytes)) (addressRow geo a ∷ openFullRow geo a ∷ [])
   rules (local (Local.get a)) = ofOpen false (addressRow geo a ∷ [])
+  rules (local (Local.getList xs bs)) = ofOpen (wrongList xs bs) (addressesRow geo xs ∷ [])
   rules (local Local.commit) = ofOpen false (groupFullRow geo ∷ [])
   rules (local Local.abandon) = ofOpen false []
   rules (save Save.sync) = ofOpen false (lastSaveRow ∷ [])
@@ -188,7 +204,7 @@ module _ (geo : Geometry) where
   rules (save Save.recover) = ofRecord false (downRow ∷ openRow ∷ foreignRow geo ∷ unsoundRow geo ∷ [])
   rules (cut ms) = ofRecord false (marksRow ms ∷ [])
 
--- the call's own arguments have a wrong size: "a put block not 512 bytes"
+-- the call's own arguments have a wrong size: "a put block not 512 bytes"; W-207: a list of addresses or its buffer
 abbrev pub ownSize : Rules → Bool
 ownSize (ofBytes own rest) = own
 ownSize (ofRecord own rest) = own

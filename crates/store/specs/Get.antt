@@ -55,6 +55,11 @@ bytesAt (Settled o) st = take blockBytes (drop o (st .settled))
 bytesAt (Work o) st = take blockBytes (drop o (st .work))
 bytesAt Nowhere st = []
 
+module _ (geo : Geometry) where
+  -- the block that a get hands out
+  abbrev pub blockOf : ℕ → State → List ℕ
+  blockOf a st = bytesAt (getPlace geo a st) st
+
 -- the part handed out: of the settled bytes, of work memory, or no bytes at the start of the settled ones
 abbrev pub partAt : Place → RefT (List ℕ) → RefT (List ℕ) → View
 partAt (Settled o) settled work = partOf settled o blockBytes

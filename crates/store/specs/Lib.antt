@@ -12,6 +12,7 @@ pub mod Power
 pub mod Put
 pub mod Abandon
 pub mod Get
+pub mod GetList
 pub mod Commit
 pub mod Saves
 pub mod Cost

@@ -23,6 +23,10 @@ listed work from i = entryAt work (from + i)
 abbrev pub listOf : List ℕ → ℕ → ℕ → List Entry
 listOf work from n = upTo (listed work from) n
 
+-- their addresses
+abbrev pub addressesOf : List ℕ → ℕ → ℕ → List ℕ
+addressesOf work from n = upTo (λ i. listed work from i .address) n
+
 -- its entry with an address
 abbrev pub find : List ℕ → ℕ → ℕ → ℕ → Found
 find work from n a = lastOf (λ i. listed work from i .address) a n

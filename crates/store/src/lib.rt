@@ -7,6 +7,7 @@ pub mod cost;
 pub mod cut;
 pub mod format;
 pub mod get;
+pub mod get_list;
 mod lists;
 pub mod place;
 pub mod power;

@@ -6,13 +6,17 @@ use cells::bytes::copy;
 use cells::entry;
 use journal::SLOTS;
 use journal::lookup::Found;
+use journal::wanted::mark;
 ghost use mathlib.Core.Path.{_≡_};
+ghost use mathlib.Core.List.{[]};
 ghost use Prim.Native.Nat.{_+_, _*_, _≤_, _<_};
 ghost use lib.ListN.{length};
 ghost use Rattle.cells.specs.Entry.{entryBytes, entryAt, setEntry};
 ghost use Rattle.journal.specs.Geometry.{trap};
 ghost use Rattle.store.specs.Lists as Lists;
-ghost use Rattle.store.specs.Lists.{listed};
+ghost use Rattle.journal.specs.Wanted.{wantedCount};
+ghost use Rattle.journal.specs.CodeWanted.{buckets, Chained, Met};
+ghost use Rattle.store.specs.Lists.{listed, addressesOf};
 ghost use Rattle.store.specs.Causes.{isFound};
 ghost use Rattle.store.specs.Get.{listedPlace};
 
@@ -61,6 +65,31 @@ pub(crate) fn holds(work: &[u8], from: usize, n: u32, a: u32) -> bool
         return false;
     };
     true
+}
+
+// Looks for wanted addresses among its first n, as the walk of the descriptor does in the log.
+pub(crate) fn look(
+    work: &[u8],
+    from: usize,
+    n: u32,
+    list: &[u8],
+    last: &[u8],
+    before: &[u8],
+    met: &mut [u32],
+)
+    requires { ⌜ entryBytes * (from + n) ≤ length (now work) ⌝ }
+    requires { ⌜ n ≤ trap .slots ⌝ }
+    requires { ⌜ length (now last) ≡ buckets ⌝ }
+    requires { ⌜ (wantedCount (now list) ≤ length (now before)) × (wantedCount (now list) ≤ length (now met)) ⌝ }
+    requires { ⌜ Chained (now list) (now last) (now before) (wantedCount (now list)) ⌝ }
+    requires { ⌜ Met (now list) [] (now met) ⌝ }
+    ensures { λ _. ⌜ Met (now (list .entry)) (addressesOf (now (work .entry)) from n) (now (met .exit)) ⌝ }
+{
+    let mut i = 0;
+    while i < n {
+        mark(list, last, before, i, address(work, from, i), met);
+        i += 1;
+    }
 }
 
 // Copies one entry of work memory over another.

@@ -23,7 +23,8 @@ use Rattle.store.specs.Causes.{cause}
 use Rattle.store.specs.Format.{formatted, formatCall}
 use Rattle.history.specs.Call.{Call, requestOf, local, save, cut, power, get, sync, apply, recover}
 use Rattle.history.specs.Plain.{Plain, Done, fresh, refusal, plainStep, plainRecover, plainGet}
-use Rattle.history.specs.Dispatch.{dispatch, blockOf}
+use Rattle.store.specs.Get.{blockOf}
+use Rattle.history.specs.Dispatch.{dispatch}
 use Rattle.history.specs.History.{World, begun, next, after, storeNext, ledgerNext, foundWritten}
 use Rattle.history.specs.Statements as S
 use Rattle.history.specs.Statements.{Fate, quiet, known, fate, outcome, WholeIsNew, shortSync, countShort, noneFinished, EndsFinished, groupsLaid, numberFound, CrashAtomicity}

@@ -18,15 +18,16 @@ use Rattle.store.specs.Get.{getPlace}
 use Rattle.store.specs.Save.{Save}
 use Rattle.store.specs.declared.cost.Cost.{Cost}
 use Rattle.store.specs.Cost.{costOf}
+use Rattle.store.proofs.Listings.{listing-refused}
 use Rattle.store.proofs.Costs.{cost-refused, cost-served}
 use Rattle.inspect.specs.Reading.{chosen, inspection}
 use Rattle.inspect.specs.Tally.{tallyOf}
 use Rattle.inspect.specs.Alike.{alikeOf}
 use Rattle.firmware.specs.Face.{decodeRecord, faceOf, handed, gotOf, gotIn, told, compared}
 use Rattle.firmware.proofs.Records.{encode-decode}
-use Rattle.firmware.proofs.Faces.{faced-length, faced-outcome, got-length, got-place, asked-length, asked-cost}
+use Rattle.firmware.proofs.Faces.{faced-length, faced-outcome, got-length, got-place, listed-length, listed-listing, asked-length, asked-cost}
 use Rattle.history.specs.Dispatch.{called}
-use Rattle.history.specs.Refusals.{NoPart, Inspects, Reads, Faces, Gets, Asks, Answers}
+use Rattle.history.specs.Refusals.{NoPart, Inspects, Reads, Faces, Gets, ListFaces, Asks, Answers}
 
 -- ---- tally and alike
 
@@ -91,6 +92,13 @@ module _ (geo : Geometry) where
 
       nowhere : cause geo (Request.get a) st ≢ 0 → gotIn geo a st ≡ gotOf (cause geo (Request.get a) st) 0 0
       nowhere h = rw (ne-eqb (cause geo (Request.get a) st) 0 h)
+
+  pub lists : (xs bs r s w k : List ℕ) → ListFaces geo xs bs r s w k
+  lists xs bs r s w k = record {
+    size = λ h. sym (listed-length geo xs bs r s w k h);
+    refuses = λ l h. sym (listed-listing geo xs bs r s w k l) ∙ listing-refused geo xs bs (stateOf (decodeRecord r) s w k) h;
+    serves = λ l e. sym (listed-listing geo xs bs r s w k l);
+  }
 
   pub asks : (c : Save) (r s w k : List ℕ) → Asks geo c r s w k
   asks c r s w k = record {

@@ -27,13 +27,15 @@ use Rattle.store.specs.Causes.{cause}
 use Rattle.store.specs.Outcomes.{refused}
 use Rattle.store.specs.Format.{formatted, formatCall}
 use Rattle.store.specs.Saves.{carried, applies, metByAppend, innerOrders, syncing}
+use Rattle.store.specs.GetList.{Listing, listing}
 use Rattle.store.specs.Cost.{costOf}
 use Rattle.store.proofs.Saves.{apply-carried}
+use Rattle.store.proofs.Listings.{listing-number}
 use Rattle.store.proofs.Causes.{sizes-facts}
-use Rattle.firmware.specs.Face.{recordBytes, decodeRecord, Face, faceOf, faced, handed, Got, gotIn, got, told, asked}
+use Rattle.firmware.specs.Face.{recordBytes, decodeRecord, Face, faceOf, faced, handed, Got, gotIn, got, listed, told, asked}
 use Rattle.firmware.proofs.Records.{length-encode, Fitting, decode-encode}
-use Rattle.firmware.proofs.Faces.{faced-length, faced-outcome, got-place, asked-cost}
-use Rattle.history.specs.Call.{Call, requestOf, local, save, cut, power, get, ofGet}
+use Rattle.firmware.proofs.Faces.{faced-length, faced-outcome, got-place, listed-listing, asked-cost}
+use Rattle.history.specs.Call.{Call, requestOf, local, save, cut, power, get, getList, ofGet, ofList}
 use Rattle.history.specs.Plain.{Plain, Done, refusal, locally, served, plainStep, plainCut}
 use Rattle.history.specs.Dispatch.{called, dispatch}
 use Rattle.history.specs.Ledger.{Ledger, entered}
@@ -41,7 +43,7 @@ use Rattle.history.specs.History.{World, begun, next, after, foundWritte
 use Rattle.history.specs.Linked.{faceNext, faceAfter, Passable, AllPassable, BytesOf, Links, Linked}
 use Rattle.store.proofs.Causes.{needsOpen}
 use Rattle.history.proofs.Relation.CauseLaws.{record-facts, cause-passes}
-use Rattle.history.proofs.Relation.Forms.{get-called}
+use Rattle.history.proofs.Relation.Forms.{get-called, list-called}
 use Rattle.history.proofs.Relation.Sim.{OpenSim, ClosedSim, DownSim, Safe}
 use Rattle.history.proofs.Steps.Shown.{same-cause, dispatch-refused, plain-refused, plain-served}
 use Rattle.history.proofs.Steps.Local.{is-open}
@@ -221,6 +223,9 @@ module _ (geo : Geometry) where
   got-next : (f : Face) (st : State) → BytesOf f st → Fitting (st .rec) → (a : ℕ) → got geo a (f .rec) (f .settled) (f .waiting) (f .work) ≡ gotIn geo a st
   got-next f st h t a = sym (got-place geo a (f .rec) (f .settled) (f .waiting) (f .work) (sized f st h)) ∙ ap (gotIn geo a) (held f st h t)
 
+  listed-next : (f : Face) (st : State) → BytesOf f st → Fitting (st .rec) → (xs bs : List ℕ) → listed geo xs bs (f .rec) (f .settled) (f .waiting) (f .work) ≡ listing geo xs bs st
+  listed-next f st h t xs bs = sym (listed-listing geo xs bs (f .rec) (f .settled) (f .waiting) (f .work) (sized f st h)) ∙ ap (listing geo xs bs) (held f st h t)
+
 -- an inquiry that is lent them
 asked-next : (cost : State → Cost) (f : Face) (st : State) → BytesOf f st → Fitting (st .rec) → asked cost (f .rec) (f .settled) (f .waiting) (f .work) ≡ told (cost st)
 asked-next cost f st h t = sym (asked-cost cost (f .rec) (f .settled) (f .waiting) (f .work) (sized f st h)) ∙ ap (λ (x : State). told (cost x)) (held f st h t)
@@ -234,13 +239,25 @@ of-get : {A : Type 0} (P : A → Type 0) (c : Call) (f : ℕ → A) (x : A) → 
 of-get P (local (Local.power k)) f x g h = h
 of-get P (local (Local.put a b)) f x g h = h
 of-get P (local (Local.get a)) f x g h = g a refl
+of-get P (local (Local.getList xs bs)) f x g h = h
 of-get P (local Local.commit) f x g h = h
 of-get P (local Local.abandon) f x g h = h
 of-get P (save c) f x g h = h
 of-get P (cut ms) f x g h = h
 
+-- likewise a list of gets
+of-list : {A : Type 0} (P : A → Type 0) (c : Call) (f : List ℕ → List ℕ → A) (x : A) → ((xs bs : List ℕ) → c ≡ getList xs bs → P (f xs bs)) → P x → P (ofList c f x)
+of-list P (local (Local.power k)) f x g h = h
+of-list P (local (Local.put a b)) f x g h = h
+of-list P (local (Local.get a)) f x g h = h
+of-list P (local (Local.getList xs bs)) f x g h = g xs bs refl
+of-list P (local Local.commit) f x g h = h
+of-list P (local Local.abandon) f x g h = h
+of-list P (save c) f x g h = h
+of-list P (cut ms) f x g h = h
+
 module _ (geo : Geometry) where
-  -- a call through C is the store's, but for a get's place
+  -- a call through C is the store's, but for a get's place and what a list hands out
   record Same (c : Call) (st : State) (f : Face) : Type 0 where
     number : f .number ≡ dispatch geo c st .answer
     orders : f .orders ≡ dispatch geo c st .orders
@@ -253,22 +270,30 @@ module _ (geo : Geometry) where
     left = handed-holds (dispatch geo c st) f e;
   }
 
-  same-got : (a : ℕ) (f : Face) (st : State) → BytesOf f st → Fitting (st .rec) → Same (get a) st (faceNext geo (get a) f)
-  same-got a f st h t = record {
-    number = ap (λ (x : Got). x .number) (got-next geo f st h t a) ∙ ap (λ (o : Outcome). o .answer) turned;
+  -- bytes that are as they were, and a number
+  same-left : (c : Call) (k : ℕ) (f : Face) (st : State) → BytesOf f st → refused k st ≡ dispatch geo c st → Same c st (faceOf k 0 (f .rec) (f .settled) (f .waiting) (f .work))
+  same-left c k f st h turned = record {
+    number = ap (λ (o : Outcome). o .answer) turned;
     orders = ap (λ (o : Outcome). o .orders) turned;
-    left = subst (λ (o : Outcome). BytesOf (faceNext geo (get a) f) (o .state)) turned (record { rec = h .rec; settled = h .settled; waiting = h .waiting; work = h .work });
+    left = subst (λ (o : Outcome). BytesOf (faceOf k 0 (f .rec) (f .settled) (f .waiting) (f .work)) (o .state)) turned (record { rec = h .rec; settled = h .settled; waiting = h .waiting; work = h .work });
   }
-    where
-      turned : refused (cause geo (Request.get a) st) st ≡ dispatch geo (get a) st
-      turned = sym (get-called geo a st)
+
+  same-got : (a : ℕ) (f : Face) (st : State) → BytesOf f st → Fitting (st .rec) → Same (get a) st (faceNext geo (get a) f)
+  same-got a f st h t =
+      same-left (get a) _ f st h (ap (λ (x : Got). refused (x .number) st) (got-next geo f st h t a) ∙ sym (get-called geo a st))
+
+  same-listed : (xs bs : List ℕ) (f : Face) (st : State) → BytesOf f st → Fitting (st .rec) → Same (getList xs bs) st (faceNext geo (getList xs bs) f)
+  same-listed xs bs f st h t =
+      same-left (getList xs bs) _ f st h
+      (ap (λ (x : Listing). refused (x .number) st) (listed-next geo f st h t xs bs) ∙ ap (λ (n : ℕ). refused n st) (listing-number geo xs bs st) ∙ sym (list-called geo xs bs st))
 
   links : (c : Call) (f : Face) (st : State) → BytesOf f st → Fitting (st .rec) → Links geo c f st
   links c f st h t =
       let s : Same c st (faceNext geo c f) =
       of-get (Same c st) c _ _ (λ a e. subst (λ (x : Call). Same x st (faceNext geo (get a) f)) (sym e) (same-got a f st h t))
-      (same-handed c st _ (faced-next (dispatch geo c) f st h t)) in
-      record { number = s .number; orders = s .orders; place = got-next geo f st h t; figures = λ q. asked-next (costOf geo q) f st h t; left = s .left }
+      (of-list (Same c st) c _ _ (λ xs bs e. subst (λ (x : Call). Same x st (faceNext geo (getList xs bs) f)) (sym e) (same-listed xs bs f st h t))
+      (same-handed c st _ (faced-next (dispatch geo c) f st h t))) in
+      record { number = s .number; orders = s .orders; place = got-next geo f st h t; list = listed-next geo f st h t; figures = λ q. asked-next (costOf geo q) f st h t; left = s .left }
 
   -- ---- a list of calls
 

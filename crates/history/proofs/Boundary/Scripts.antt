@@ -36,8 +36,9 @@ use Rattle.script.specs.Transcript.{reply, printed, said, beginning, transcript
 use Rattle.journal.specs.Geometry.{trap}
 use Rattle.journal.specs.Choice.{choose, choiceNumber}
 use Rattle.journal.specs.Ours.{OurHeader}
-use Rattle.history.specs.Call.{Call, requestOf, local, save, cut, power, put, get, commit, abandon, sync, apply, recover}
-use Rattle.history.specs.Dispatch.{called, dispatch, blockOf}
+use Rattle.history.specs.Call.{Call, requestOf, local, save, cut, power, put, get, getList, commit, abandon, sync, apply, recover}
+use Rattle.store.specs.Get.{blockOf}
+use Rattle.history.specs.Dispatch.{called, dispatch}
 use Rattle.history.specs.History.{World, begun, next, after}
 use Rattle.history.specs.Scripts.{Says, nothing, begins, asks, saysOf, says, lineOf, leftBy, ByCall, leftAfter, worldBy, told, worldAfter, ServedIn, askedBy, asked, ScriptsAreHistories}
 use Rattle.history.specs.Formats.{headerBlock, Exactly, Used, TurnedDownIf}
@@ -147,6 +148,7 @@ blank-call : (c : Call) (st : State) → Blank st → Blank (dispatch trap c st 
 blank-call (local (Local.power k)) st b = blank-power k st b
 blank-call (local (Local.put a x)) st b = blank-refused (put a x) st (blank-closed (Request.put a x) st refl b) b
 blank-call (local (Local.get a)) st b = blank-refused (get a) st (blank-closed (Request.get a) st refl b) b
+blank-call (local (Local.getList xs bs)) st b = blank-refused (getList xs bs) st (blank-closed (Request.getList xs bs) st refl b) b
 blank-call (local Local.commit) st b = blank-refused commit st (blank-closed Request.commit st refl b) b
 blank-call (local Local.abandon) st b = blank-refused abandon st (blank-closed Request.abandon st refl b) b
 blank-call (save Save.sync) st b = blank-refused sync st (blank-closed Request.sync st refl b) b

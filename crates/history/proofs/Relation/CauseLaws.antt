@@ -26,7 +26,7 @@ use Rattle.store.specs.Save as Save
 use Rattle.store.specs.Request as Request
 use Rattle.store.specs.Request.{Request}
 use Rattle.store.specs.Causes as Causes
-use Rattle.store.specs.Causes.{wrongSizes, wrongCounts, wrongWaiting, wrongLists, wrongRecord, Row, closedRow, downRow, addressRow, openFullRow, groupFullRow, lastSaveRow, Rules, ofBytes, ofRecord, ofOpen, rules, ownSize, wrongBlock, some, first, causeBy, cause}
+use Rattle.store.specs.Causes.{wrongSizes, wrongList, wrongCounts, wrongWaiting, wrongLists, wrongRecord, Row, closedRow, downRow, addressRow, addressesRow, openFullRow, groupFullRow, lastSaveRow, Rules, ofBytes, ofRecord, ofOpen, rules, ownSize, wrongBlock, some, first, causeBy, cause}
 use Rattle.store.proofs.Causes.{readsRecord, needsOpen, other, SizeFacts, sizes-facts, counts-facts, waiting-facts, Passes, cause-passes as Causes·cause-passes}
 use Rattle.history.specs.Call.{Call, requestOf, local, save, cut, recover}
 use Rattle.history.specs.Plain.{Plain, whenOpen, plainFit, refusal}
@@ -182,6 +182,7 @@ module _ (geo : Geometry) where
         open-refusal (not (eqb (length b) blockBytes)) (addressRow geo a ∷ openFullRow geo a ∷ []) _
         (λ o. rw (m .N, find-has (st .work) openFrom (st .rec .opened) a, m .T o, length-upTo (listed (st .work) openFrom) (st .rec .opened)))
     cause-refusal (local (Local.get a)) h f = open-refusal false (addressRow geo a ∷ []) _ (λ o. rw (m .N))
+    cause-refusal (local (Local.getList xs bs)) h f = open-refusal (wrongList xs bs) (addressesRow geo xs ∷ []) _ (λ o. rw (m .N))
     cause-refusal (local Local.commit) h f =
         open-refusal false (groupFullRow geo ∷ []) _
         (λ o. rw (newcomers-merge geo (st .work) (st .rec .grouped) (st .rec .opened) (record-facts geo st counts .lists o .open-distinct), m .T o, m .G o))

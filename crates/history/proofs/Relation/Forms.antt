@@ -27,7 +27,7 @@ use Rattle.journal.proofs.OrderLists.{length-checkpoint}
 use Rattle.store.specs.declared.record.Record.{Record}
 use Rattle.store.specs.Local as Local
 use Rattle.store.specs.Save as Save
-use Rattle.store.specs.Request.{Request, format, local, save, cut, get, sync, apply, recover}
+use Rattle.store.specs.Request.{Request, format, local, save, cut, get, getList, sync, apply, recover}
 use Rattle.store.specs.State.{State, Outcome, withLog, withGrouped, withSave, cardIn}
 use Rattle.store.specs.Lists.{openFrom, groupFrom, listed, find}
 use Rattle.store.specs.Causes.{cause}
@@ -134,6 +134,12 @@ module _ (geo : Geometry) where
   get-called a st =
       unless-either (λ o. o ≡ refused (cause geo (get a) st) st) (cause geo (get a) st) st (completed st) (λ e. ap (λ (n : ℕ). refused n st) (sym e)) refl
 
+  -- and so does a list of them
+  pub list-called : (xs bs : List ℕ) (st : State) → called geo (getList xs bs) st ≡ refused (cause geo (getList xs bs) st) st
+  unfolding called
+  list-called xs bs st =
+      unless-either (λ o. o ≡ refused (cause geo (getList xs bs) st) st) (cause geo (getList xs bs) st) st (completed st) (λ e. ap (λ (n : ℕ). refused n st) (sym e)) refl
+
   -- the record that a sync leaves when cut short: that before the call, or the same with an empty log
   sync-left : (st : State) → cond (leb (length (innerOrders geo st)) (st .rec .power)) (metByAppend geo st) (st .rec) ≡ left (innerDone geo st) st
   sync-left st = go (applies geo st)
@@ -171,6 +177,7 @@ module _ (geo : Geometry) where
   form (local (Local.power k)) st = quiet _ refl refl (record { settled = refl; waiting = refl; work = refl })
   form (local (Local.put a b)) st = quiet _ refl refl (put-sized (find (st .work) openFrom (st .rec .opened) a) (record { address = a; block = b }) st)
   form (local (Local.get a)) st = quiet _ refl refl (same-size st)
+  form (local (Local.getList xs bs)) st = quiet _ refl refl (same-size st)
   form (local Local.commit) st =
       quiet _ refl refl (record { settled = refl; waiting = refl; work = joined-sized geo (st .rec .opened) (record { work = st .work; count = st .rec .grouped }) })
   form (local Local.abandon) st = quiet _ refl refl (record { settled = refl; waiting = refl; work = refl })

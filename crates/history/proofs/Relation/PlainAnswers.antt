@@ -94,6 +94,7 @@ module _ (geo : Geometry) where
   local-kind (Local.power k) = powers k
   local-kind (Local.put a b) = opens _ refl (λ d. record { N = refl; S = refl; mode = refl; power = refl })
   local-kind (Local.get a) = opens _ refl (λ d. record { N = refl; S = refl; mode = refl; power = refl })
+  local-kind (Local.getList xs bs) = opens _ refl (λ d. record { N = refl; S = refl; mode = refl; power = refl })
   local-kind Local.commit = opens _ refl (λ d. record { N = refl; S = refl; mode = refl; power = refl })
   local-kind Local.abandon = opens _ refl (λ d. record { N = refl; S = refl; mode = refl; power = refl })
 

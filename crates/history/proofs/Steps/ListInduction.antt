@@ -37,7 +37,7 @@ use Rattle.history.proofs.Relation.CauseLaws.{facts-sizes, facts-record
 use Rattle.history.proofs.Relation.EvenLedgers.{even-refl, even-trans, entered-even}
 use Rattle.history.proofs.Relation.Sim.{Safe}
 use Rattle.history.proofs.Steps.Shown.{WorldSim, StepOK}
-use Rattle.history.proofs.Steps.Local.{power-step, put-step, get-step, commit-step, abandon-step}
+use Rattle.history.proofs.Steps.Local.{power-step, put-step, get-step, list-step, commit-step, abandon-step}
 use Rattle.history.proofs.Steps.Cut.{cut-step}
 use Rattle.history.proofs.Steps.Apply.{apply-step}
 use Rattle.history.proofs.Steps.Recover.{recover-step}
@@ -50,6 +50,7 @@ module _ (geo : Geometry) where
   step (local (Local.power k)) w m = power-step geo k w m
   step (local (Local.put a b)) w m = put-step geo a b w m
   step (local (Local.get a)) w m = get-step geo a w m
+  step (local (Local.getList xs bs)) w m = list-step geo xs bs w m
   step (local Local.commit) w m = commit-step geo w m
   step (local Local.abandon) w m = abandon-step geo w m
   step (save Save.sync) w m = sync-step geo w m

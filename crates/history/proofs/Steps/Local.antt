@@ -1,19 +1,23 @@
--- The steps of power, put, get, commit and abandon: they give no orders and leave the card and the ledger as they are.
+-- The steps of power, put, get, a list of gets, commit and abandon: they give no orders and leave the card and the ledger as they are.
 use Prim.Native.Nat.{ℕ, _<_, _≤_, _^_}
 use mathlib.Core.Path.{_≡_, refl, ap, ap₂, sym, _∙_}
 use mathlib.Core.Logic.{_⊎_}
-use mathlib.Core.Bool.{true, true≢false}
+use mathlib.Core.Bool.{true, true≢false, cond}
 use mathlib.Core.List.{List, []}
 use native.Mathlib.Omega.{arith}
 use native.Mathlib.Decide.{ℕ-discrete}
-use borrow.Author.Tests.{eq-eqb, eqb-true, ltb-false, leb-false, not-false}
+use borrow.Author.Tests.{eq-eqb, ne-eqb, eqb-true, ltb-false, leb-false, not-false}
+use lib.Dec.{eqb}
 use lib.ListN.{length}
 use Rattle.cells.specs.Entry.{Entry}
+use Rattle.cells.specs.Upto as Upto
+use Rattle.cells.specs.Upto.Laws.{ext-joined}
 use Rattle.card.specs.Card.{cut, queue}
 use Rattle.card.proofs.All.{All}
 use Rattle.card.proofs.Overlays.{overlay-agree}
 use Rattle.journal.specs.Geometry.{Geometry}
 use Rattle.journal.specs.Layout.{isData, mostBlocks}
+use Rattle.journal.specs.Wanted.{wantedCount, wantedAt}
 use Rattle.crash.proofs.Logs.{entries-disk}
 use Rattle.store.specs.State.{State, Outcome, openMode, withOpened, withGrouped, withQueue, withRecord, withWork}
 use Rattle.store.specs.Lists.{openFrom, groupFrom, listOf, find}
@@ -22,14 +26,15 @@ use Rattle.store.specs.Request.{Request}
 use Rattle.store.specs.Causes.{workBytes, wrongSizes, wrongCounts, wrongWaiting, wrongLists, cause}
 use Rattle.store.specs.Outcomes.{completed}
 use Rattle.store.specs.Put.{putAt}
-use Rattle.store.specs.declared.place.Place.{Place}
-use Rattle.store.specs.Get.{newest, getPlace, bytesAt}
+use Rattle.store.specs.Get.{newest, bytesAt, blockOf}
+use Rattle.store.specs.GetList.{listWalk, shown, listing}
 use Rattle.store.specs.Commit.{Group, joined}
 use Rattle.store.proofs.Causes.{sizes-facts, needsOpen, Passes}
 use Rattle.store.proofs.Places.{data-lt}
-use Rattle.history.specs.Call.{Call, requestOf, power, put, get, commit, abandon}
-use Rattle.history.specs.Plain.{Plain, Done, insert, merge, refusal, withLists, withPower, still, served, plainStep, plainGet}
-use Rattle.history.specs.Dispatch.{called, dispatch, blockOf}
+use Rattle.store.proofs.Listings.{list-facts, get-newest, listing-served, listing-refused, walk-length}
+use Rattle.history.specs.Call.{Call, requestOf, power, put, get, getList, commit, abandon}
+use Rattle.history.specs.Plain.{Plain, Done, insert, merge, refusal, withLists, withPower, still, served, plainStep, plainGet, plainListing}
+use Rattle.history.specs.Dispatch.{called, dispatch}
 use Rattle.history.specs.Ledger.{Ledger, entered}
 use Rattle.history.specs.History.{World, foundWritten}
 use Rattle.history.proofs.Relation.Lists.{Distinct, Data, distinct-insert, all-insert, distinct-merge, all-merge}
@@ -311,15 +316,19 @@ module _ (geo : Geometry) where
       ∙ rw (f .in-open .list, f .in-group .list, entries-disk geo (st .settled) (st .rec .logged))
       (overlay-agree (d .T) _ _ a (overlay-agree (d .G) _ _ a (sym (o .card .disk a h tt))))
 
+  -- so a get that is served shows the plain disk's block
+  get-plain : (a : ℕ) (st : State) (l : Ledger) (d : Plain) → Sim geo st l d → cause geo (Request.get a) st ≡ 0 → blockOf geo a st ≡ plainGet a d
+  get-plain a st l d m e =
+      let q = cause-passes geo (Request.get a) st e in
+      let o = is-open st l d m (Request.get a) refl q in
+      get-newest geo a st e ∙ newest-plain a st l d o (lists-in st l d m (o .mode)) (not-false _ (q .own .0))
+
   pub get-step : (a : ℕ) (w : World) → WorldSim geo w → StepOK geo (get a) w
-  unfolding called entered getPlace
+  unfolding called entered
   get-step a w m =
       quiet-step geo (get a) w d m refl refl
       (λ e.
-      let q = cause-passes geo (Request.get a) st e in
-      let o = is-open st l d m (Request.get a) refl q in
-      let place : getPlace geo a st ≡ newest geo a st = rw (eq-eqb _ 0 e) in
-      let b : blockOf geo a st ≡ plainGet a d = ap (λ (p : Place). bytesAt p st) place ∙ newest-plain a st l d o (lists-in st l d m (o .mode)) (not-false _ (q .own .0)) in
+      let b : blockOf geo a st ≡ plainGet a d = get-plain a st l d m e in
       record {
         now = st;
         call = rw (eq-eqb _ 0 e);
@@ -335,3 +344,27 @@ module _ (geo : Geometry) where
 
       d : Plain
       d = w .plain
+
+  -- ---- a list of gets
+
+  pub list-step : (xs bs : List ℕ) (w : World) → WorldSim geo w → StepOK geo (getList xs bs) w
+  unfolding called entered
+  list-step xs bs w m =
+      quiet-step geo (getList xs bs) w (w .plain) m refl refl
+      (λ e. record { now = w .store; call = rw (eq-eqb _ 0 e); block = λ a z. absurd (let n : _≡_ {A = ℕ} 0 1 = cc in omega arith); sim = m })
+
+  -- it hands out what the plain disk's does
+  pub list-plain : (xs bs : List ℕ) (st : State) (l : Ledger) (d : Plain) → Sim geo st l d → listing geo xs bs st ≡ plainListing geo xs bs d
+  unfolding plainListing
+  list-plain xs bs st l d m = go (ℕ-discrete (cause geo (Request.getList xs bs) st) 0)
+    where
+      same : cause geo (Request.getList xs bs) st ≡ refusal geo (getList xs bs) d
+      same = same-cause geo st l d m (getList xs bs)
+
+      go : Dec (cause geo (Request.getList xs bs) st ≡ 0) → listing geo xs bs st ≡ plainListing geo xs bs d
+      go (no h) = listing-refused geo xs bs st h ∙ rw (← same, ne-eqb _ 0 h)
+      go (yes h) =
+          let o = is-open st l d m (Request.getList xs bs) refl (cause-passes geo (Request.getList xs bs) st h) in
+          let slots : length (listWalk xs st) ≡ cond (eqb (length xs) 0) 0 (d .n) = walk-length geo xs bs st h ∙ rw (o .n) in
+          let blocks : shown geo xs st ≡ Upto.joined (λ i. plainGet (wantedAt xs i) d) (wantedCount xs) = ext-joined _ _ (wantedCount xs) (λ i p. get-plain (wantedAt xs i) st l d m (list-facts geo xs bs st h .gets i p)) in
+          sym (listing-served geo xs bs st 0 _ _ (sym h) refl refl refl) ∙ rw (← same, h, slots, blocks)

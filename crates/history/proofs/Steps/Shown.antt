@@ -32,7 +32,8 @@ use Rattle.store.specs.Outcomes.{refused}
 use Rattle.store.proofs.Causes.{sizes-facts}
 use Rattle.history.specs.Call.{Call, requestOf, local, save, cut, get}
 use Rattle.history.specs.Plain.{Plain, Short, none, headerWaits, plainFit, Done, refusal, served, plainStep, plainGet}
-use Rattle.history.specs.Dispatch.{dispatch, blockOf}
+use Rattle.store.specs.Get.{blockOf}
+use Rattle.history.specs.Dispatch.{dispatch}
 use Rattle.history.specs.Ledger.{Ledger, PlannedHeader, headersOf, noted, entered}
 use Rattle.history.specs.History.{World, storeNext, ledgerNext, foundWritten, exception}
 use Rattle.history.specs.Statements.{Agrees}

@@ -7,7 +7,7 @@ use Rattle.store.specs.Abandon.{abandonCall}
 use Rattle.store.specs.Saves.{syncCall, applyCall, recoverCall}
 use Rattle.store.specs.Cut.{cutCall}
 use Rattle.history.specs.Dispatch.{called}
-use Rattle.linkage.proofs.Steps.{no-place, get-place}
+use Rattle.linkage.proofs.Steps.{no-place, get-place, list-out}
 use Rattle.linkage.proofs.step.step.Statement.{statement}
 use Rattle.linkage.proofs.step.step.Tie as tie
 
@@ -27,45 +27,52 @@ returns-3 : tie.Need-returns-3
 returns-3 c = rw (c .before .before .before .before .before .before .before .before .code3 .given .1) (get-place (c .trapcard-get .ensures))
 
 returns-4 : tie.Need-returns-4
-unfolding called commitCall
 returns-4 c =
-    let m = c .before .before .before .before in
-    rw (m .before .before .before .before .before .enum-told .given .1) (no-place (m .trapcard-commit .ensures))
+    let m = c .before .before in
+    rw (m .before .before .before .before .before .before .before .enum-told .given .1) (list-out (m .trapcard-get-list .ensures))
 
 returns-5 : tie.Need-returns-5
-unfolding called abandonCall
+unfolding called commitCall
 returns-5 c =
-    let m = c .before .before in
-    rw (m .before .before .before .before .before .enum-told2 .given .1) (no-place (m .trapcard-abandon .ensures))
+    let m = c .before .before .before .before in
+    rw (m .before .before .before .before .before .enum-told2 .given .1) (no-place (m .trapcard-commit .ensures))
 
 returns-6 : tie.Need-returns-6
-unfolding called syncCall
+unfolding called abandonCall
 returns-6 c =
-    let m = c .before .before .before .before .before .before in
-    rw (m .before .before .before .before .before .before .enum-told3 .given .1) (no-place (m .trapcard-sync .ensures))
+    let m = c .before .before in
+    rw (m .before .before .before .before .before .enum-told3 .given .1) (no-place (m .trapcard-abandon .ensures))
 
 returns-7 : tie.Need-returns-7
-unfolding called applyCall
+unfolding called syncCall
 returns-7 c =
     let m = c .before .before .before .before .before .before in
-    rw (m .before .before .before .before .before .before .enum-told4 .given .1) (no-place (m .trapcard-apply .ensures))
+    rw (m .before .before .before .before .before .before .enum-told4 .given .1) (no-place (m .trapcard-sync .ensures))
 
 returns-8 : tie.Need-returns-8
-unfolding called recoverCall
+unfolding called applyCall
 returns-8 c =
     let m = c .before .before .before .before .before .before in
-    rw (m .before .before .before .before .before .before .enum-told5 .given .1) (no-place (m .trapcard-recover .ensures))
+    rw (m .before .before .before .before .before .before .enum-told5 .given .1) (no-place (m .trapcard-apply .ensures))
 
 returns-9 : tie.Need-returns-9
-unfolding called cutCall
+unfolding called recoverCall
 returns-9 c =
+    let m = c .before .before .before .before .before .before in
+    rw (m .before .before .before .before .before .before .enum-told6 .given .1) (no-place (m .trapcard-recover .ensures))
+
+returns-10 : tie.Need-returns-10
+unfolding called cutCall
+returns-10 c =
     let m = c .before .before .before .before in
-    rw (m .before .before .before .before .before .enum-told6 .given .1) (no-place (m .trapcard-cut .ensures))
+    rw (m .before .before .before .before .before .enum-told7 .given .1) (no-place (m .trapcard-cut .ensures))
 
 pub step-spec : {M : Type 1} → statement M
 step-spec =
     tie.close
     (tie.spec
+    (λ c. search needs)
+    (λ c κs. search needs)
     (λ c. search needs)
     (λ c κs. search needs)
     (λ c. search needs)
@@ -103,6 +110,7 @@ step-spec =
     (λ c. search needs)
     (λ c. search needs)
     (λ c. search needs)
+    (λ c. search needs)
     returns-4
     (λ c. search needs)
     (λ c. search needs)
@@ -128,4 +136,9 @@ step-spec =
     (λ c. search needs)
     (λ c. search needs)
     (λ c. search needs)
-    returns-9)
+    returns-9
+    (λ c. search needs)
+    (λ c. search needs)
+    (λ c. search needs)
+    (λ c. search needs)
+    returns-10)
