@@ -1,4 +1,4 @@
-/* The card store in plain C, written from document 01, with W-201, W-204 and W-205 of document 02, and not from the Rattle sources: what the
+/* The card store in plain C, written from document 01, with W-201, W-204, W-205 and W-207 of document 02, and not from the Rattle sources: what the
  * bench measures the store against. It makes the same checks (rows 1 to 10, 12 and 13 of the table of causes) and leaves the same bytes. */
 #include "plain.h"
 
@@ -364,6 +364,30 @@ uint32_t plain_get(const uint8_t *record, size_t record_len, const uint8_t *sett
     if (!is_data(r.blocks, address))
         return TRAPCARD_ERR_ADDRESS;
     *buffer = newest(&r, &l, address, offset);
+    return TRAPCARD_DONE;
+}
+
+uint32_t plain_get_list(const uint8_t *record, size_t record_len, const uint8_t *settled, size_t settled_len,
+                        const uint8_t *waiting, size_t waiting_len, const uint8_t *work, size_t work_len,
+                        const uint8_t *addresses, size_t addresses_len, uint8_t *blocks, size_t blocks_len, uint32_t *slots)
+{
+    const struct lent l = LENT;
+    size_t count = addresses_len / 4;
+    *slots = 0;
+    if (record_len != TRAPCARD_RECORD || addresses_len % 4 != 0 || count > TRAPCARD_LIST || blocks_len != BLOCK * count)
+        return TRAPCARD_ERR_SIZE;
+    struct record r = decode(record);
+    uint32_t number = not_open(&r, &l);
+    if (number != TRAPCARD_DONE)
+        return number;
+    if (strays(addresses, 4, (uint32_t)count, r.blocks))
+        return TRAPCARD_ERR_ADDRESS;
+    for (size_t i = 0; i < count; i++) {
+        uint64_t offset;
+        uint32_t buffer = newest(&r, &l, load32(addresses + 4 * i), &offset);
+        memcpy(blocks + BLOCK * i, trapcard_block(settled, work, buffer, offset), BLOCK);
+    }
+    *slots = count > 0 ? r.logged : 0;
     return TRAPCARD_DONE;
 }
 

@@ -5,12 +5,12 @@
 #include <stdlib.h>
 #include <string.h>
 
-const struct calls trapcard_calls = {trapcard_format, trapcard_power, trapcard_put,   trapcard_get,
-                                     trapcard_commit, trapcard_abandon, trapcard_sync, trapcard_apply,
-                                     trapcard_recover, trapcard_cut, trapcard_tally, trapcard_alike};
+const struct calls trapcard_calls = {trapcard_format,  trapcard_power,  trapcard_put,     trapcard_get,  trapcard_get_list,
+                                     trapcard_commit,  trapcard_abandon, trapcard_sync,   trapcard_apply,
+                                     trapcard_recover, trapcard_cut,    trapcard_tally,   trapcard_alike};
 
-const struct calls plain_calls = {plain_format, plain_power, plain_put,     plain_get, plain_commit, plain_abandon,
-                                  plain_sync,   plain_apply, plain_recover, plain_cut, plain_tally,  plain_alike};
+const struct calls plain_calls = {plain_format, plain_power, plain_put,     plain_get, plain_get_list, plain_commit, plain_abandon,
+                                  plain_sync,   plain_apply, plain_recover, plain_cut, plain_tally,    plain_alike};
 
 static uint8_t *lend(size_t size)
 {
@@ -28,15 +28,17 @@ struct side side_new(const struct calls *calls)
     s.other = lend(s.settled_len);
     s.waiting = lend(TRAPCARD_WAITING);
     s.work = lend(TRAPCARD_WORK);
+    s.screen = lend(SCREEN);
     return s;
 }
 
 void must_agree(const struct side *a, const struct side *b, const char *call)
 {
     if (a->number == b->number && a->orders == b->orders && a->buffer == b->buffer && a->yes == b->yes &&
-        a->offset == b->offset && a->sum == b->sum && memcmp(a->record, b->record, sizeof a->record) == 0 &&
-        memcmp(a->settled, b->settled, a->settled_len) == 0 && memcmp(a->waiting, b->waiting, TRAPCARD_WAITING) == 0 &&
-        memcmp(a->work, b->work, TRAPCARD_WORK) == 0)
+        a->slots == b->slots && a->offset == b->offset && a->sum == b->sum &&
+        memcmp(a->record, b->record, sizeof a->record) == 0 && memcmp(a->settled, b->settled, a->settled_len) == 0 &&
+        memcmp(a->waiting, b->waiting, TRAPCARD_WAITING) == 0 && memcmp(a->work, b->work, TRAPCARD_WORK) == 0 &&
+        memcmp(a->screen, b->screen, SCREEN) == 0)
         return;
     fprintf(stderr, "%s: store and plain C differ (answers %u and %u)\n", call, a->number, b->number);
     exit(1);
@@ -57,8 +59,8 @@ static uint32_t draw(uint32_t below)
 /* A call's kind and its arguments, drawn once and given to both. */
 struct drawn {
     uint32_t kind, address, value, power;
-    size_t marks_len;
-    uint8_t block[TRAPCARD_BLOCK], marks[TRAPCARD_PLACES * TRAPCARD_BLOCK];
+    size_t marks_len, list_len, screen_len;
+    uint8_t block[TRAPCARD_BLOCK], marks[TRAPCARD_PLACES * TRAPCARD_BLOCK], list[4 * (TRAPCARD_LIST + 1)];
 };
 
 /* The marks of a write: all kept or all lost, mostly so the last, which may be a header; up to a byte one way and behind it the other;
@@ -76,14 +78,25 @@ static void draw_marks(uint8_t *marks, bool last)
         marks[at] = 2;
 }
 
+/* Up to 33 addresses and a buffer for their blocks. One list in four has a wrong address, and one in eight another length. */
+static void draw_list(struct drawn *d)
+{
+    uint32_t count = draw(TRAPCARD_LIST + 2), wrong = draw(4) ? TRAPCARD_LIST + 1 : draw(count + 1);
+    for (uint32_t i = 0; i < count; i++)
+        d->list[4 * i] = (uint8_t)(i == wrong ? SMALL - draw(2) * (SMALL - 33) : 34 + draw(SMALL - 34));
+    d->list_len = 4 * count - (count > 0 && draw(16) == 0);
+    d->screen_len = TRAPCARD_BLOCK * count - (count > 0 && draw(16) == 0);
+}
+
 static struct drawn draw_call(uint32_t waiting)
 {
-    struct drawn d = {.kind = draw(24), .address = 33 + draw(SMALL - 32), .power = draw(draw(2) ? 40 : 6)};
+    struct drawn d = {.kind = draw(27), .address = 33 + draw(SMALL - 32), .power = draw(draw(2) ? 40 : 6)};
     memset(d.block, (int)draw(256), sizeof d.block);
     size_t writes = draw(8) ? waiting % (TRAPCARD_PLACES + 1) : draw(TRAPCARD_PLACES + 1);
     d.marks_len = TRAPCARD_BLOCK * writes - (writes > 0 && draw(16) == 0);
     for (size_t i = 0; i < writes; i++)
         draw_marks(d.marks + TRAPCARD_BLOCK * i, i + 1 == writes);
+    draw_list(&d);
     return d;
 }
 
@@ -101,6 +114,7 @@ static void give(struct side *s, const struct drawn *d)
     case 14: case 15: s->number = c->get(CARD(s), d->address, &s->buffer, &s->offset); break;
     case 16: s->number = c->tally(s->settled, s->settled_len, &s->sum); break;
     case 17: s->number = c->alike(s->settled, s->settled_len, s->other, s->settled_len, &s->yes); break;
+    case 18: case 19: case 20: s->number = c->get_list(CARD(s), d->list, d->list_len, s->screen, d->screen_len, &s->slots); break;
     default: s->number = c->put(CARD(s), d->address, d->block, sizeof d->block); break;
     }
 }

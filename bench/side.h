@@ -10,6 +10,7 @@ struct calls {
     __typeof__(trapcard_power) *power;
     __typeof__(trapcard_put) *put;
     __typeof__(trapcard_get) *get;
+    __typeof__(trapcard_get_list) *get_list;
     __typeof__(trapcard_commit) *commit;
     __typeof__(trapcard_abandon) *abandon;
     __typeof__(trapcard_sync) *sync;
@@ -25,13 +26,16 @@ extern const struct calls trapcard_calls, plain_calls;
 /* N of the measured card: 2 MiB. */
 enum { BLOCKS = 4096 };
 
+/* The most bytes that are lent for the blocks of a list; one block more than a list may have. */
+enum { SCREEN = (TRAPCARD_LIST + 1) * TRAPCARD_BLOCK };
+
 struct side {
     const struct calls *calls;
     size_t settled_len;
-    uint8_t *settled, *other, *waiting, *work;
+    uint8_t *settled, *other, *waiting, *work, *screen;
     uint8_t record[TRAPCARD_RECORD];
     /* What the last call handed back. */
-    uint32_t number, orders, buffer, yes;
+    uint32_t number, orders, buffer, yes, slots;
     uint64_t offset, sum;
     /* The record and the descriptor before the task's call. */
     uint8_t saved_record[TRAPCARD_RECORD], saved_descriptor[TRAPCARD_BLOCK];

@@ -5,8 +5,8 @@
 #include <string.h>
 
 /* The data blocks as a walk that meets each once and jumps about. Open, group and log have 32 of its steps each, from here on; the
- * last two are a block in none of them, and one to be put. */
-enum { OPEN_FROM = 0, GROUP_FROM = 100, LOG_FROM = 200, HOME = 300, NEW = 301 };
+ * last two are blocks in none of them, and one to be put. */
+enum { OPEN_FROM = 0, GROUP_FROM = 100, LOG_FROM = 200, HOME = 300, NEW = 400 };
 
 static uint32_t walk(uint32_t step)
 {
@@ -19,6 +19,21 @@ static const uint8_t block[TRAPCARD_BLOCK] = {1, 2, 3};
 enum { MARKS = TRAPCARD_PLACES * TRAPCARD_BLOCK };
 static const uint8_t all_kept[MARKS] = {[0 ... MARKS - 1] = 1};
 static uint8_t others_torn[MARKS];
+
+/* Lists of 32: from open, group, log, home, and from each in turn. */
+enum { MIXED = 4, LISTS = 5 };
+static uint8_t lists[LISTS][4 * TRAPCARD_LIST];
+
+static void fill_lists(void)
+{
+    static const uint32_t from[MIXED] = {OPEN_FROM, GROUP_FROM, LOG_FROM, HOME};
+    for (uint32_t k = 0; k < LISTS; k++)
+        for (uint32_t i = 0; i < TRAPCARD_LIST; i++) {
+            uint32_t address = walk(from[k == MIXED ? i % MIXED : k] + i);
+            for (uint32_t j = 0; j < 4; j++)
+                lists[k][4 * i + j] = (uint8_t)(address >> (8 * j));
+        }
+}
 
 static void must(uint32_t number, const char *call)
 {
@@ -55,6 +70,7 @@ static void fill_torn(void)
 void prepare(const struct task *t, struct side *s)
 {
     fill_torn();
+    fill_lists();
     /* The card of the task before is given up: it may be in use. */
     memset(s->settled, 0, TRAPCARD_BLOCK);
     must(s->calls->format(CARD(s)), "format");
@@ -131,6 +147,41 @@ static void get_home(struct side *s)
     get(s, walk(HOME));
 }
 
+static void get_list(struct side *s, uint32_t list, size_t count)
+{
+    s->number = s->calls->get_list(CARD(s), lists[list], 4 * count, s->screen, TRAPCARD_BLOCK * count, &s->slots);
+}
+
+static void list_open(struct side *s)
+{
+    get_list(s, 0, TRAPCARD_LIST);
+}
+
+static void list_group(struct side *s)
+{
+    get_list(s, 1, TRAPCARD_LIST);
+}
+
+static void list_log(struct side *s)
+{
+    get_list(s, 2, TRAPCARD_LIST);
+}
+
+static void list_home(struct side *s)
+{
+    get_list(s, 3, TRAPCARD_LIST);
+}
+
+static void list_mixed(struct side *s)
+{
+    get_list(s, MIXED, TRAPCARD_LIST);
+}
+
+static void list_one(struct side *s)
+{
+    get_list(s, 2, 1);
+}
+
 static void commit(struct side *s)
 {
     s->number = s->calls->commit(CARD(s));
@@ -194,6 +245,13 @@ const struct task tasks[] = {
     {"get from log, lists full", 32, 32, 32, 0, OPEN, get_log, NOTHING},
     {"get from home, lists empty", 0, 0, 0, 0, OPEN, get_home, NOTHING},
     {"get from home, lists full", 32, 32, 32, 0, OPEN, get_home, NOTHING},
+    {"list of 1 from log, lists full", 32, 32, 32, 0, OPEN, list_one, NOTHING},
+    {"list of 32 from open, lists full", 32, 32, 32, 0, OPEN, list_open, NOTHING},
+    {"list of 32 from group, lists full", 32, 32, 32, 0, OPEN, list_group, NOTHING},
+    {"list of 32 from log, lists full", 32, 32, 32, 0, OPEN, list_log, NOTHING},
+    {"list of 32 from home, lists full", 32, 32, 32, 0, OPEN, list_home, NOTHING},
+    {"list of 32 from everywhere, lists full", 32, 32, 32, 0, OPEN, list_mixed, NOTHING},
+    {"list of 32 from home, lists empty", 0, 0, 0, 0, OPEN, list_home, NOTHING},
     {"commit of 1", 1, 0, 0, 0, OPEN, commit, RECORD},
     {"commit of 32, joining", 32, 0, 0, 0, OPEN, commit, RECORD},
     {"commit of 32, replacing", 32, 32, 0, 32, OPEN, commit, RECORD},

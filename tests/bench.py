@@ -1,11 +1,13 @@
 """The library and the model side by side: one step, then everything that the call returned or was lent is compared."""
 import random
 from collections import Counter
+from dataclasses import replace
 from functools import lru_cache
 
 import costs
 import marks
 import model
+import wanted
 from cases import met
 from crash import Witness, must
 from guarded import FUNCTIONS, Guarded
@@ -47,16 +49,15 @@ def second_card(settled, kind, detail):
 
 
 def given(step):
-    """The numbers of a call, and put's block or cut's marks."""
+    """The numbers of a call, and the buffers behind them: put's block, cut's marks, a list and what its buffer holds before."""
     if step.call == "put":
-        return step.arguments[:1], content(*step.arguments[1])
+        return step.arguments[:1], (content(*step.arguments[1]),)
     if step.call == "cut":
-        return (), marks.spelled(step.arguments[0])
-    return (() if step.call == "alike" or step.call in COSTS else step.arguments), None
-
-
-def behind(numbers, last):
-    return (*numbers, *([] if last is None else [last]))
+        return (), (marks.spelled(step.arguments[0]),)
+    if step.call == "get_list":
+        addresses, tail, length, fill = step.arguments
+        return (), (wanted.spelled(addresses, tail), content(fill, length))
+    return (() if step.call == "alike" or step.call in COSTS else step.arguments), ()
 
 
 class Bench:
@@ -76,6 +77,12 @@ class Bench:
         """The addresses of the writes that wait, as far as the record says so; those beyond the buffer read as 0."""
         return model.entries(self.bytes_of("waiting"), 0, min(self.rec().waiting, 2 * PLACES))
 
+    def listed(self):
+        """The addresses of open, group and log, as far as there is room for what the record says."""
+        rec, most = self.rec(), model.SLOTS
+        rec = replace(rec, opened=min(rec.opened, most), grouped=min(rec.grouped, most), logged=min(rec.logged, most))
+        return model.lists(rec, self.bytes_of("settled"), self.bytes_of("work"))
+
     def close(self):
         for buffer in self.lent.values():
             buffer.close()
@@ -93,29 +100,30 @@ class Bench:
         if step.call == "make":
             return self.make(*step.arguments)
         self.calls += 1
-        views, (numbers, last) = self.views(step), given(step)
+        views, (numbers, more) = self.views(step), given(step)
         if not self.library:
-            return self.by_model(step, views, numbers, last)
-        before, lent, followed = self.met(step, views, numbers, last), self.guarded(step, views, last), self.followed(step)
+            return self.by_model(step, views, numbers, more)
+        before, lent, followed = self.met(step, views, numbers, more), self.guarded(step, views, more), self.followed(step)
         if followed:
             self.witness.before(step.call)
         outcome = self.library.call(step.call, lent, numbers)
-        self.compare(step, outcome, lent, views, numbers, last)
-        if step.call in COSTS:
-            self.hold(step, outcome, lent)
-        self.release(lent)
+        self.compare(step, outcome, lent, views, numbers, more)
+        self.hold(step, outcome, lent)
         if followed:
-            self.witness.after(step.call, behind(numbers, last), outcome)
+            self.witness.after(step.call, (*numbers, *more), outcome, lent)
             self.seen.update(("cases", event, "") for event in self.witness.events)
             self.witness.events.clear()
+        self.release(lent)
         self.seen.update(before.cells(outcome, self.rec()) if before else ())
         self.follow(step, outcome)
 
-    def met(self, step, views, numbers, last):
-        return met(step.call, views, self.rec(), numbers, last)
+    def met(self, step, views, numbers, more):
+        return met(step.call, views, self.rec(), numbers, more)
 
-    def by_model(self, step, views, numbers, last):
-        return model.c_call(step.call, list(views.values()), behind(numbers, last))
+    def by_model(self, step, views, numbers, more):
+        """What the model gives, and the buffers behind the numbers as it leaves them."""
+        left = [bytearray(data) for data in more]
+        return model.c_call(step.call, list(views.values()), (*numbers, *left)), left
 
     def views(self, step):
         """The buffers that the model is lent."""
@@ -127,27 +135,28 @@ class Bench:
         views.update((name, resized(views[name], length)) for name, length in step.odd)
         return {name: views[name] for name in FUNCTIONS[step.call][0]}
 
-    def guarded(self, step, views, last):
+    def guarded(self, step, views, more):
         """The same buffers for the library: its own where the call is lent those, else copies between guard pages."""
         lent = {}
         for name, view in views.items():
             own = next((self.lent[mine] for mine, data in self.model.items() if data is view), None)
             lent[name] = own or Guarded(view, self.at_end)
-        if last is not None:
-            lent[FUNCTIONS[step.call][3]] = Guarded(last, self.at_end)
+        lent.update((name, Guarded(data, self.at_end)) for name, data in zip(FUNCTIONS[step.call][3], more))
         return lent
 
-    def compare(self, step, outcome, lent, views, numbers, last):
+    def compare(self, step, outcome, lent, views, numbers, more):
         """Number, out-parameters and every lent byte, with the model's."""
-        expected = self.by_model(step, views, numbers, last)
+        expected, left = self.by_model(step, views, numbers, more)
         must(outcome == expected, "the library gives %s, the model %s", outcome, expected)
-        for name, view in views.items():
+        for name, view in (*views.items(), *zip(FUNCTIONS[step.call][3], left)):
             must(lent[name].same(view), "the %s bytes differ", name)
-        if last is not None:
-            must(lent[FUNCTIONS[step.call][3]].same(bytearray(last)), "put's block or cut's marks were written")
 
     def hold(self, step, outcome, lent):
-        """An inquiry, to the library's own call; some order by order."""
+        """A list of gets, to the library's own gets; an inquiry, to the library's own call, some order by order."""
+        if step.call == "get_list":
+            wanted.held(self.library, lent, outcome)
+        if step.call not in COSTS:
+            return
         walk = bool(step.arguments)
         costs.held(self.library, lent, self.at_end, step.call, walk, outcome)
         if walk and outcome[1]:

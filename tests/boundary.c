@@ -1,4 +1,4 @@
-/* Calls the fifteen functions through include/trapcard.h. The lent buffers have lengths of their own, odd addresses and guard
+/* Calls the sixteen functions through include/trapcard.h. The lent buffers have lengths of their own, odd addresses and guard
  * bytes around them; out-parameters stand between guard words. After each call whatever it may not write is compared, and a
  * refused call may write nothing. It is C99 and C++. */
 #include <stddef.h>
@@ -18,19 +18,20 @@
 struct card {
     uint8_t g0[GUARD - 1], record[TRAPCARD_RECORD], g1[GUARD], settled[N * TRAPCARD_BLOCK], g2[GUARD], waiting[TRAPCARD_WAITING];
     uint8_t g3[GUARD], work[TRAPCARD_WORK], g4[GUARD], block[TRAPCARD_BLOCK], g5[GUARD], marks[MARKS], g6[GUARD];
+    uint8_t addresses[4 * (TRAPCARD_LIST + 1)], g7[GUARD], blocks[(TRAPCARD_LIST + 1) * TRAPCARD_BLOCK], g8[GUARD];
 };
 
 /* What a call may write is a sum of these. */
-enum { RECORD = 1, SETTLED = 2, WAITING = 4, WORK = 8 };
-enum { LENT = 6 };
+enum { RECORD = 1, SETTLED = 2, WAITING = 4, WORK = 8, BLOCKS = 128 };
+enum { LENT = 8 };
 
 #define PART(member) {offsetof(struct card, member), sizeof(((struct card *)0)->member)}
 
 static const struct {
     size_t at, length;
-} parts[LENT] = {PART(record), PART(settled), PART(waiting), PART(work), PART(block), PART(marks)};
+} parts[LENT] = {PART(record), PART(settled), PART(waiting), PART(work), PART(block), PART(marks), PART(addresses), PART(blocks)};
 
-enum call { FORMAT, POWER, PUT, GET, COMMIT, ABANDON, SYNC, APPLY, RECOVER, CUT, SYNC_COST, APPLY_COST, RECOVER_COST, CALLS };
+enum call { FORMAT, POWER, PUT, GET, GET_LIST, COMMIT, ABANDON, SYNC, APPLY, RECOVER, CUT, SYNC_COST, APPLY_COST, RECOVER_COST, CALLS };
 
 /* The most 4-byte out-parameters of a call. */
 enum { OUTS = 4 };
@@ -43,6 +44,7 @@ static const struct {
     {"power", RECORD, 0},
     {"put", RECORD | WORK, 0},
     {"get", 0, 1},
+    {"get_list", BLOCKS, 1},
     {"commit", RECORD | WORK, 0},
     {"abandon", RECORD, 0},
     {"sync", RECORD | SETTLED | WAITING, 1},
@@ -123,6 +125,7 @@ static uint32_t perform(enum call call, uint32_t argument)
     case POWER: return trapcard_power(CARD, argument);
     case PUT: return trapcard_put(CARD, argument, c.block, length[4]);
     case GET: return trapcard_get(CARD, argument, &word[1], &wide[1]);
+    case GET_LIST: return trapcard_get_list(CARD, c.addresses, length[6], c.blocks, length[7], &word[1]);
     case COMMIT: return trapcard_commit(CARD);
     case ABANDON: return trapcard_abandon(CARD);
     case SYNC: return trapcard_sync(CARD, &word[1]);
@@ -183,6 +186,25 @@ static void got(uint32_t address, uint32_t buffer, uint64_t offset, uint8_t byte
         same("get", "found the byte", block[i], byte);
 }
 
+/* Lists addresses, with a buffer for their blocks. */
+static void list(const uint32_t *addresses, size_t count)
+{
+    for (size_t i = 0; i < 4 * count; i++)
+        c.addresses[i] = (uint8_t)(addresses[i / 4] >> (8 * (i % 4)));
+    length[6] = 4 * count;
+    length[7] = TRAPCARD_BLOCK * count;
+    memset(c.blocks, 0xee, sizeof c.blocks);
+}
+
+/* A list is served: the slots read, a byte that fills each block, and nothing written behind them. */
+static void listed(uint32_t slots, const uint8_t *bytes)
+{
+    expect(GET_LIST, 0, TRAPCARD_DONE, BLOCKS, &slots, 0);
+    for (size_t i = 0; i < length[7]; i++)
+        same("get_list", "copied the byte", c.blocks[i], bytes[i / TRAPCARD_BLOCK]);
+    must(memcmp(c.blocks + length[7], before.blocks + length[7], sizeof c.blocks - length[7]) == 0, "get_list", "wrote behind its blocks");
+}
+
 static void put(uint32_t address, uint8_t byte)
 {
     memset(c.block, byte, sizeof c.block);
@@ -224,7 +246,7 @@ static void start(void)
     memset(&c, 0x5a, sizeof c);
     for (unsigned p = 0; p < LENT; p++)
         length[p] = parts[p].length;
-    length[5] = 0;
+    length[5] = length[6] = length[7] = 0;
     done(FORMAT, 0, 0);
     holds(TRAPCARD_MODE_OPEN, 0, 0, 0, 0, 1000000);
     numbered(0);
@@ -625,6 +647,87 @@ static void unnumbered(void)
     formatted();
 }
 
+/* A list with repeats, whose blocks are in every place, one of them in two slots and one in open, group and log. None, and 32. */
+static void lists(void)
+{
+    const uint32_t addresses[] = {43, 41, 44, 42, 41, 40, 43, N - 1, TRAPCARD_FIRST};
+    const uint8_t bytes[] = {6, 3, 0, 4, 3, 7, 6, 0, 0};
+    uint32_t full[TRAPCARD_LIST];
+    uint8_t filled[TRAPCARD_LIST];
+    start();
+    put(40, 7);
+    put(41, 8);
+    done(COMMIT, 0, 0);
+    done(SYNC, 0, 5);
+    put(41, 3);
+    put(43, 2);
+    done(COMMIT, 0, 0);
+    done(SYNC, 0, 5);
+    put(42, 4);
+    put(43, 5);
+    done(COMMIT, 0, 0);
+    put(43, 6);
+    list(addresses, 9);
+    listed(4, bytes);
+    list(addresses, 0);
+    listed(0, bytes);
+    for (size_t i = 0; i < TRAPCARD_LIST; i++) {
+        full[i] = addresses[i % 9];
+        filled[i] = bytes[i % 9];
+    }
+    list(full, TRAPCARD_LIST);
+    listed(4, filled);
+}
+
+/* Any number of bytes for the addresses, with a buffer for any number of blocks: only those that fit each other are served, up to 32. */
+static void list_lengths(void)
+{
+    uint32_t full[TRAPCARD_LIST + 1];
+    const size_t right = TRAPCARD_LIST * TRAPCARD_BLOCK;
+    start();
+    for (size_t i = 0; i <= TRAPCARD_LIST; i++)
+        full[i] = TRAPCARD_FIRST + (uint32_t)i;
+    list(full, TRAPCARD_LIST + 1);
+    for (size_t count = 0; count <= TRAPCARD_LIST + 1; count++)
+        for (length[6] = 0; length[6] <= sizeof c.addresses; length[6]++) {
+            length[7] = TRAPCARD_BLOCK * count;
+            if (length[6] == 4 * count && count <= TRAPCARD_LIST)
+                done(GET_LIST, 0, 0);
+            else
+                refused(GET_LIST, 0, TRAPCARD_ERR_SIZE);
+        }
+    length[6] = 4 * TRAPCARD_LIST;
+    for (length[7] = right - 2; length[7] <= right + 2; length[7]++)
+        if (length[7] != right)
+            refused(GET_LIST, 0, TRAPCARD_ERR_SIZE);
+}
+
+/* A wrong address wherever it stands, and the other causes in their order; an empty list has them too. */
+static void list_causes(void)
+{
+    const uint32_t wrong[] = {0, TRAPCARD_FIRST - 1, N, UINT32_MAX};
+    uint32_t full[TRAPCARD_LIST];
+    stop_before_flush();
+    refused(GET_LIST, 0, TRAPCARD_ERR_POWER);
+    cut("011");
+    refused(GET_LIST, 0, TRAPCARD_ERR_CLOSED);
+    list(wrong, 1);
+    refused(GET_LIST, 0, TRAPCARD_ERR_CLOSED);
+    c.record[TRAPCARD_RECORD_BLOCKS]++;
+    refused(GET_LIST, 0, TRAPCARD_ERR_STATE);
+    length[7]--;
+    refused(GET_LIST, 0, TRAPCARD_ERR_SIZE);
+    start();
+    for (size_t i = 0; i < TRAPCARD_LIST; i++)
+        full[i] = 40;
+    for (size_t i = 0; i < TRAPCARD_LIST * sizeof wrong / sizeof *wrong; i++) {
+        full[i % TRAPCARD_LIST] = wrong[i / TRAPCARD_LIST];
+        list(full, TRAPCARD_LIST);
+        refused(GET_LIST, 0, TRAPCARD_ERR_ADDRESS);
+        full[i % TRAPCARD_LIST] = 40;
+    }
+}
+
 /* ---- tally and alike */
 
 static uint8_t large[(TRAPCARD_MOST + 1) * TRAPCARD_BLOCK];
@@ -688,6 +791,25 @@ static void corrections(void)
     same("tally", "set sum to", wide[1],
          (uint64_t)TRAPCARD_BLOCK * (255 * (uint64_t)(TRAPCARD_MOST - TRAPCARD_FIRST - HALF) + 3 * HALF));
     must(memcmp(held, large, sizeof large) == 0, "tally", "wrote a card");
+}
+
+/* The same card: a list of the addresses in its log, each beside another with the same low bits, up to the card's last block. */
+static void list_of_largest(void)
+{
+    uint32_t addresses[TRAPCARD_LIST];
+    for (uint32_t i = 0; i < HALF; i++) {
+        addresses[2 * i] = i + 1 < HALF ? TRAPCARD_FIRST + 3 * i + 128 * (i + 1) : TRAPCARD_MOST - 1;
+        addresses[2 * i + 1] = TRAPCARD_FIRST + 3 * i;
+    }
+    list(addresses, TRAPCARD_LIST);
+    arm();
+    same("get_list", "answered", trapcard_get_list(c.record, sizeof c.record, large, sizeof large - TRAPCARD_BLOCK, c.waiting, sizeof c.waiting,
+                                                   c.work, sizeof c.work, c.addresses, length[6], c.blocks, length[7], &word[1]), TRAPCARD_DONE);
+    check_guards("get_list");
+    check_bytes("get_list", BLOCKS);
+    same("get_list", "set slots to", word[1], TRAPCARD_SLOTS);
+    for (size_t i = 0; i < length[7]; i++)
+        same("get_list", "copied the byte", c.blocks[i], i / TRAPCARD_BLOCK % 2 == 0 ? 255 : 3);
 }
 
 #define KINDS 7
@@ -758,9 +880,13 @@ int main(void)
     given_up();
     foreign();
     unnumbered();
+    lists();
+    list_lengths();
+    list_causes();
     bounds();
     corrections();
+    list_of_largest();
     inspections();
-    printf("boundary: the fifteen functions answer through the header, and write nothing else\n");
+    printf("boundary: the sixteen functions answer through the header, and write nothing else\n");
     return 0;
 }

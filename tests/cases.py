@@ -1,7 +1,11 @@
 """What one call met, as cells of the coverage table. It is asked before the call, and told the outcome after it."""
-from coverage import IN_APPLY, IN_SYNC, NUMBER, TWO
-from model import (BLOCK, CLOSED, COSTS, DOWN, EMPTY_SUM, FIRST_DATA, LAST, LEAST, MOST, OPEN, PLACES, RECORD, SLOTS, WAITING, WORK, choice,
-                   chosen, data_sum, entries, foreign, in_use, is_data, lists, log, marks_of, read_header, torn, wrong_counts, wrong_lists, wrong_marks)
+from collections import Counter
+
+from coverage import BUFFER, IN_APPLY, IN_SYNC, NUMBER, TWO
+from model import (BLOCK, CLOSED, COSTS, DOWN, EMPTY_SUM, FIRST_DATA, LAST, LEAST, LIST, MOST, OPEN, PLACES, RECORD, SLOTS, WAITING, WORK, choice,
+                   chosen, data_sum, entries, foreign, in_use, is_data, lists, log, marks_of, read_header, torn, wanted, wrong_counts, wrong_list,
+                   wrong_lists, wrong_marks)
+from wanted import BUCKETS
 
 
 def settled_sizes(settled):
@@ -165,6 +169,78 @@ def refused(parts, writes, excess):
         yield from ["one of several headers torn"] if len(headers) > 1 else []
 
 
+# ---- a list of gets
+
+def standing(address, lists):
+    """Where an address stands, the newest first."""
+    return [name for name, listed in zip(("open", "group", "log"), lists) if address in listed] + ["home"]
+
+
+def found_places(addresses, lists):
+    """Where the blocks of a list are found, and over what."""
+    newest = set()
+    for address in set(addresses):
+        place, *older = standing(address, lists)
+        newest.add(place)
+        yield from ("%s over %s" % (place, other) for other in older if other != "home")
+        if addresses.count(address) > 1:
+            yield place + " repeated"
+        if place == "log" and lists[2].count(address) > 1:
+            yield "log, of two slots"
+    yield from newest
+    if len(newest) == 4:
+        yield "every place"
+
+
+def bucket_cases(addresses, lists):
+    """Addresses that agree in their low bits: of the list, and one of it with one of open, group or log that is not in it."""
+    last, unlike, lows = {}, set(addresses), [address % BUCKETS for address in addresses]
+    for i, (address, low) in enumerate(zip(addresses, lows)):
+        if any(addresses[k] != address and lows[k] == low for k in range(last.get(address, i), i)):
+            yield "a repeat, and another of its bucket between"
+        last[address] = i
+    fullest = max(Counter(address % BUCKETS for address in unlike).values(), default=0)
+    yield from ("%d unlike of one bucket" % least for least in (2, 8, 16) if fullest >= least)
+    for place, listed in zip(("open", "group", "log"), lists):
+        if any(address % BUCKETS in lows for address in set(listed) - unlike):
+            yield "a bucket's other address in " + place
+
+
+def served_list(addresses, lists, blocks):
+    """A list that is served."""
+    count, logged = len(addresses), len(lists[2])
+    for case, holds in (("no addresses", count == 0), ("1 address", count == 1), ("%d addresses" % count, count in (LIST - 1, LIST)),
+                        ("32 alike", count == LIST and len(set(addresses)) == 1), ("34", FIRST_DATA in addresses), ("N - 1", blocks - 1 in addresses),
+                        ("N - 1 of the largest card", blocks == MOST and blocks - 1 in addresses), ("no slots", count and not logged),
+                        ("32 slots", count and logged == SLOTS), ("no addresses, some log", count == 0 and logged)):
+        if holds:
+            yield case
+    yield from found_places(addresses, lists)
+    yield from bucket_cases(addresses, lists)
+
+
+def refused_size(data, blocks):
+    """A list that row 1 refuses by one part: its bytes, and the buffer."""
+    parts, count, excess = list(wrong_list(data, blocks)), len(data) // 4, len(blocks) - BLOCK * (len(data) // 4)
+    if parts == ["no whole addresses"]:
+        yield "%d byte%s over" % (len(data) % 4, "s" if len(data) % 4 > 1 else "")
+        yield from ["129 to 131 bytes"] if count == LIST else ["under 4 bytes"] if count == 0 else []
+    if parts == ["over 32"]:
+        yield "33 addresses" if count == LIST + 1 else "over 33 addresses"
+    if parts == ["buffer"]:
+        yield "buffer " + BUFFER[excess] if excess in BUFFER else "another buffer"
+        yield from ["no buffer"] if len(blocks) == 0 else ["a buffer for none"] if count == 0 else []
+
+
+def refused_addresses(addresses, blocks):
+    """A list with one wrong address: which it is, and where."""
+    wrong = [i for i, address in enumerate(addresses) if not is_data(blocks, address)]
+    if len(wrong) == 1:
+        at, last = wrong[0], len(addresses) - 1
+        yield "a wrong address, " + ("alone" if last == 0 else "first" if at == 0 else "last" if at == last else "between")
+        yield "a wrong address, " + {blocks: "N", 2**32 - 1: "2^32 - 1"}.get(addresses[at], str(addresses[at]))
+
+
 # ---- the save number
 
 NAMED = {0: "0", 1: "1", 2**32 - 1: "2^32 - 1", 2**32: "2^32", LAST - 1: "2^64 - 2", LAST: "2^64 - 1"}
@@ -198,15 +274,15 @@ def foreign_part(call, settled):
         yield "cause 8", parts[0], call
 
 
-SIX = ("put", "get", "commit", "abandon", "sync", "apply")
+SEVEN = ("put", "get", "get_list", "commit", "abandon", "sync", "apply")
 ORDERS = {"sync": sync_case, "apply": apply_case, "recover": recover_case}
 
 
 class Met:
     """A call with a record, or an inquiry."""
 
-    def __init__(self, call, views, rec, numbers, last):
-        self.call, self.views, self.rec, self.numbers, self.last = call, views, rec, numbers, last
+    def __init__(self, call, views, rec, numbers, more):
+        self.call, self.views, self.rec, self.numbers, self.more = call, views, rec, numbers, more
         self.rows = call.removesuffix("_cost")
         self.blocks, self.sizes, self.parts, self.lists = len(views["settled"]) // BLOCK, list(wrong_sizes(views)), [], None
         self.head = None if self.sizes else read_header(views["settled"])
@@ -239,9 +315,11 @@ class Met:
         """Rows that apply, be they the first or not, as far as the record and the arguments show it. An inquiry has its call's."""
         if any(self.parts) or any(wrong_counts(self.rec, self.views["settled"])):
             yield 2
-        if self.rows in SIX and self.rec.mode in (CLOSED, DOWN):
+        if self.rows in SEVEN and self.rec.mode in (CLOSED, DOWN):
             yield 3 if self.rec.mode == CLOSED else 4
         if self.rows in ("put", "get") and not is_data(self.blocks, self.numbers[0]):
+            yield 6
+        if self.rows == "get_list" and not all(is_data(self.blocks, address) for address in wanted(self.more[0])):
             yield 6
         if self.rows == "put" and self.rec.opened == SLOTS and not is_data(self.blocks, self.numbers[0]):
             yield 7
@@ -252,13 +330,13 @@ class Met:
             yield 0 if self.sizes else choice(self.blocks, self.views["settled"])[0]
         if self.rows == "format" and counts_entries(self.views["settled"]):
             yield 13
-        if self.rows == "cut" and any(wrong_marks(self.rec, self.views["waiting"], self.last)):
+        if self.rows == "cut" and any(wrong_marks(self.rec, self.views["waiting"], *self.more)):
             yield 10
 
     def cases(self, outcome, number, after):
         if self.call in ORDERS and number in ("0", "gone"):
             yield ORDERS[self.call](self.rec, *outcome)
-        elif self.call in ("format", "put", "get", "commit", "cut"):
+        elif self.call in ("format", "put", "get", "get_list", "commit", "cut"):
             yield from getattr(self, self.call)(outcome[0], after)
         elif self.call in COSTS and number == "0":
             yield from ("%s: %s" % (self.call, case) for case in cost_cases(self.call, self.rec, *outcome[1:3]))
@@ -293,7 +371,7 @@ class Met:
 
     def put(self, answer, after):
         if answer == 1 and not self.sizes:
-            yield "put: block " + ("short" if len(self.last) < BLOCK else "long")
+            yield "put: block " + ("short" if len(self.more[0]) < BLOCK else "long")
         yield from self.edge(answer)
         if answer == 0 and self.numbers[0] in self.lists[0]:
             yield "put: replaces" + (", 32 open" if after.opened == SLOTS else "")
@@ -307,6 +385,18 @@ class Met:
             yield "get: " + ("open" if address in opened else "group" if address in grouped else
                              "home" if address not in logged else "log" if logged.count(address) == 1 else "log, of two slots")
 
+    def get_list(self, answer, after):
+        data, buffer = self.more
+        if answer == 0:
+            yield from ("get_list: " + case for case in served_list(wanted(data), self.lists, self.blocks))
+            return
+        own = answer == 1 and not self.sizes
+        cases = refused_size(data, buffer) if own else refused_addresses(wanted(data), self.blocks) if answer == 6 else ()
+        yield from ("get_list refused: " + case for case in cases)
+        if own or answer > 1:
+            first = "1 of the list," if own else answer
+            yield from ("get_list refused: %s before %d" % (first, later) for later in self.later() if later > answer)
+
     def commit(self, answer, after):
         if answer == 0:
             opened, grouped, _ = self.lists
@@ -319,7 +409,7 @@ class Met:
     def cut(self, answer, after):
         if answer not in (0, 10):
             return
-        waiting, marks = self.views["waiting"], self.last
+        waiting, marks = self.views["waiting"], self.more[0]
         writes = [(address, marks_of(marks, i)) for i, address in enumerate(entries(waiting, 0, self.rec.waiting))]
         if answer == 10:
             excess = len(marks) - BLOCK * self.rec.waiting
@@ -375,5 +465,5 @@ class MetCards(Met):
             yield "save number, alike: unlike, yes"
 
 
-def met(call, views, rec, numbers, last):
-    return (MetCards if call in TWO else Met)(call, views, rec, numbers, last)
+def met(call, views, rec, numbers, more):
+    return (MetCards if call in TWO else Met)(call, views, rec, numbers, more)

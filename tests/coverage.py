@@ -1,13 +1,14 @@
 """The coverage table of the lockstep: each cause by each call that has it, and the cases that a run must meet. A hole fails."""
 from model import COSTS
 
-TEN = ("format", "power", "put", "get", "commit", "abandon", "sync", "apply", "recover", "cut")
+ELEVEN = ("format", "power", "put", "get", "get_list", "commit", "abandon", "sync", "apply", "recover", "cut")
 TWO = ("tally", "alike")
 NUMBERS = ("0", "1", "2", "3", "4", "gone", "5", "6", "7", "8", "9", "10", "12", "13")
 
 # The numbers that each call may give; 4 is a record that was down, gone is power gone in the call.
 CAUSES = {
-    "format": "0 1 13", "power": "0 1 2", "put": "0 1 2 3 4 6 7", "get": "0 1 2 3 4 6", "commit": "0 1 2 3 4 7", "abandon": "0 1 2 3 4",
+    "format": "0 1 13", "power": "0 1 2", "put": "0 1 2 3 4 6 7", "get": "0 1 2 3 4 6", "get_list": "0 1 2 3 4 6", "commit": "0 1 2 3 4 7",
+    "abandon": "0 1 2 3 4",
     "sync": "0 1 2 3 4 gone 12", "apply": "0 1 2 3 4 gone", "recover": "0 1 2 4 gone 5 8 9", "cut": "0 1 2 10",
     "sync_cost": "0 1 2 3 4 12", "apply_cost": "0 1 2 3 4", "recover_cost": "0 1 2 4 5 8 9", "tally": "0 1 8 9", "alike": "0 1 8 9",
 }
@@ -33,6 +34,10 @@ IN_SYNC = ("log blocks wait", "descriptor waits", "header waits")
 # The ways in which a write is torn; and by how many marks they are too many.
 TORN = ("one byte kept", "one byte lost", "half kept", "every other byte kept", "any bytes kept")
 NUMBER = {-1: "a mark too few", 1: "a mark too many", -512: "512 marks too few", 512: "512 marks too many"}
+
+# The places where a block of a list is found, and the lengths of its buffer by how many bytes they are too many.
+PLACES = ("open", "group", "log", "home")
+BUFFER = {-1: "a byte too short", 1: "a byte too long", -512: "a block too short", 512: "a block too long"}
 
 # How far the power reaches in an inquiry that is served.
 REACHES = ("no orders, power 0", "no orders, some power", "more than enough power", "exactly enough power", "one order short",
@@ -79,6 +84,20 @@ CASES = (
     + prefixed("format in a history: 13, ", ("right after a sync", "a log", "a fallback to come", "down"))
     + prefixed("format in a history: 0, ", ("as format left it", "after an apply", "down"))
     + prefixed("get: ", ("open", "group", "log", "log, of two slots", "home", "34", "N - 1", "33", "N", "2^32 - 1"))
+    + prefixed("get_list: ", ("no addresses", "1 address", "31 addresses", "32 addresses", "34", "N - 1", "N - 1 of the largest card", *PLACES,
+                              "every place", "log, of two slots", "open over group", "open over log", "group over log"))
+    + tuple("get_list: %s repeated" % place for place in PLACES)
+    + prefixed("get_list: ", ("32 alike", "a repeat, and another of its bucket between", "2 unlike of one bucket", "8 unlike of one bucket",
+                              "16 unlike of one bucket"))
+    + tuple("get_list: a bucket's other address in %s" % place for place in PLACES[:3])
+    + prefixed("get_list: ", ("no slots", "32 slots", "no addresses, some log"))
+    + prefixed("get_list refused: ", ("33 addresses", "over 33 addresses", "1 byte over", "2 bytes over", "3 bytes over", "129 to 131 bytes",
+                                      "under 4 bytes", "no buffer", "a buffer for none", "another buffer"))
+    + prefixed("get_list refused: buffer ", BUFFER.values())
+    + prefixed("get_list refused: a wrong address, ", ("alone", "first", "between", "last", "0", "33", "N", "2^32 - 1"))
+    + prefixed("get_list refused: ", ("1 of the list, before 2", "1 of the list, before 3", "1 of the list, before 4", "1 of the list, before 6",
+                                      "2 before 6", "3 before 6", "4 before 6"))
+    + prefixed("get_list in a history: ", ("some addresses", "no addresses", "1", "3", "4", "6"))
     + prefixed("put: ", ("34", "N - 1", "33", "N", "2^32 - 1", "adds", "adds the 32nd", "replaces", "replaces, 32 open", "block short",
                          "block long"))
     + prefixed("commit: ", ("empty", "joins", "replaces", "gives 32"))
@@ -106,11 +125,11 @@ def required():
     for call, numbers in CAUSES.items():
         yield from (("causes", call, number) for number in numbers.split())
     for size in SIZES:
-        yield from (("cause 1", size, call) for call in TEN + COSTS)
+        yield from (("cause 1", size, call) for call in ELEVEN + COSTS)
     for size in SIZES[1:4]:
         yield from (("cause 1", size, call) for call in TWO)
     for part in PARTS:
-        yield from (("cause 2", part, call) for call in TEN[1:] + COSTS)
+        yield from (("cause 2", part, call) for call in ELEVEN[1:] + COSTS)
     for part in FOREIGN:
         yield from (("cause 8", part, call) for call in FOUR)
     for name, first in (("first of two", FIRST), ("first of two, asked", FIRST_ASKED)):
@@ -131,8 +150,8 @@ def table(seen, name, rows, columns):
 def report(seen):
     """The lines of the table."""
     yield from table(seen, "causes", CAUSES, NUMBERS)
-    yield from table(seen, "cause 1", SIZES, TEN + COSTS + TWO)
-    yield from table(seen, "cause 2", PARTS, TEN[1:] + COSTS)
+    yield from table(seen, "cause 1", SIZES, ELEVEN + COSTS + TWO)
+    yield from table(seen, "cause 2", PARTS, ELEVEN[1:] + COSTS)
     yield from table(seen, "cause 8", FOREIGN, FOUR)
     yield from table(seen, "first of two", FIRST, NUMBERS)
     yield from table(seen, "first of two, asked", FIRST_ASKED, NUMBERS)

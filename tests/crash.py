@@ -66,7 +66,8 @@ class Witness:
         if call == "sync":
             self.stood, self.entries = self.log(self.n if self.mode == OPEN else 0), self.group() if self.mode == OPEN else []
 
-    def after(self, call, arguments, outcome):
+    def after(self, call, arguments, outcome, lent):
+        """Lent are also the buffers of this call alone, as it left them."""
         if call == "format":
             return self.formatted(outcome[0])
         same = True
@@ -82,11 +83,19 @@ class Witness:
             self.ledger(call, *outcome)
         if call == "get":
             must(self.block(outcome) == block, "the plain disk has another block")
+        if call == "get_list":
+            self.compare_list(arguments, outcome[1], lent["blocks"].read(), answer, orders, block)
         if call == "cut" and answer == 10 and self.waiting_header:
             self.refused(arguments[0])
         self.compare_record()
         self.judge(call, outcome)
         self.saved = call == "sync" and answer == 0 and len(self.entries) > 0
+
+    def compare_list(self, arguments, slots, left, answer, read, blocks):
+        """The slots and every block of a list; refused, the buffer as it was."""
+        must(slots == read, "the plain disk reads %d slots", read)
+        must(left == (arguments[1] if answer else blocks), "the plain disk has other blocks" if answer == 0 else "a refused list is copied")
+        self.events.append("get_list in a history: " + (str(answer) if answer else "some addresses" if arguments[0] else "no addresses"))
 
     def compare_record(self):
         for field in ("mode", "power", "waiting"):

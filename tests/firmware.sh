@@ -1,7 +1,7 @@
 #!/usr/bin/env bash
 # The C library: all its functions are called through the header; its example is built against the archive, run, held to its
 # output and run under valgrind; the stack frames of the archive are measured, its sum is looked through for products, and the
-# instructions of its tally are counted.
+# instructions of its tally and of its list of gets are counted.
 set -euo pipefail
 cd "$(dirname "$0")/.."
 
@@ -36,15 +36,22 @@ echo "firmware: the sum is there, and nothing in it multiplies or calls"
 # What a full log adds to a tally is the same on a card with ten times as many data blocks. A search of the log for each data block would
 # add to it, unless it took as long in an empty log.
 gcc -O2 "${strict[@]}" bench/passes.c bench/pass.c "$archive" -o "$out/passes"
-counted() { # N COUNT: the instructions of a tally, whose sum has to be right
-  valgrind -q --tool=callgrind --toggle-collect=trapcard_tally --callgrind-out-file="$out/dump" "$out/passes" "$1" "$2" &&
+counted() { # CALL PROGRAM N COUNT: the instructions of a call, whose answer has to be right
+  valgrind -q --tool=callgrind --toggle-collect="trapcard_$1" --callgrind-out-file="$out/dump" "$out/$2" "$3" "$4" &&
     sed -n 's/^totals: *//p' "$out/dump"
 }
-added() { # N: the instructions that a full log adds
+added() { # CALL PROGRAM N: the instructions that a full log adds
   local full empty
-  full=$(counted "$1" 32) && empty=$(counted "$1" 0) && echo $((full - empty))
+  full=$(counted "$@" 32) && empty=$(counted "$@" 0) && echo $((full - empty))
 }
-small=$(added 134)
-large=$(added 1034)
+small=$(added tally passes 134)
+large=$(added tally passes 1034)
 echo "firmware: a full log adds $small instructions to a tally of 100 data blocks, and $large to one of 1,000"
 ((small > 0 && small == large))
+
+# What a full log adds to a list is the same for 32 addresses as for one, where the log has none with their low bits: it is walked once.
+gcc -O2 "${strict[@]}" bench/screens.c "$archive" -o "$out/screens"
+one=$(added get_list screens 1)
+all=$(added get_list screens 32)
+echo "firmware: a full log adds $one instructions to a list of one block at home, and $all to a list of 32"
+((one > 0 && one == all))

@@ -52,38 +52,39 @@ class Guarded:
         libc.munmap(self.base, self.inner + 2 * PAGE)
 
 
-# For each function: what it is lent, which of that it may write, how many numbers come next, the buffer behind them, and the
+# For each function: what it is lent, which of its buffers it may write, how many numbers come next, the buffers behind them, and the
 # sizes of its out-parameters.
 CARD = ("record", "settled", "waiting", "work")
 FUNCTIONS = {
-    "format": (CARD, CARD, 0, None, ()),
-    "power": (CARD, ("record",), 1, None, ()),
-    "put": (CARD, ("record", "work"), 1, "block", ()),
-    "get": (CARD, (), 1, None, (4, 8)),
-    "commit": (CARD, ("record", "work"), 0, None, ()),
-    "abandon": (CARD, ("record",), 0, None, ()),
-    "sync": (CARD, ("record", "settled", "waiting"), 0, None, (4,)),
-    "apply": (CARD, ("record", "settled", "waiting"), 0, None, (4,)),
-    "recover": (CARD, ("record", "settled", "waiting"), 0, None, (4,)),
-    "cut": (CARD, ("record", "settled"), 0, "marks", ()),
-    "sync_cost": (CARD, (), 0, None, (4, 4, 4, 4)),
-    "apply_cost": (CARD, (), 0, None, (4, 4, 4, 4)),
-    "recover_cost": (CARD, (), 0, None, (4, 4, 4, 4)),
-    "tally": (("settled",), (), 0, None, (8,)),
-    "alike": (("settled", "other"), (), 0, None, (4,)),
+    "format": (CARD, CARD, 0, (), ()),
+    "power": (CARD, ("record",), 1, (), ()),
+    "put": (CARD, ("record", "work"), 1, ("block",), ()),
+    "get": (CARD, (), 1, (), (4, 8)),
+    "get_list": (CARD, ("blocks",), 0, ("addresses", "blocks"), (4,)),
+    "commit": (CARD, ("record", "work"), 0, (), ()),
+    "abandon": (CARD, ("record",), 0, (), ()),
+    "sync": (CARD, ("record", "settled", "waiting"), 0, (), (4,)),
+    "apply": (CARD, ("record", "settled", "waiting"), 0, (), (4,)),
+    "recover": (CARD, ("record", "settled", "waiting"), 0, (), (4,)),
+    "cut": (CARD, ("record", "settled"), 0, ("marks",), ()),
+    "sync_cost": (CARD, (), 0, (), (4, 4, 4, 4)),
+    "apply_cost": (CARD, (), 0, (), (4, 4, 4, 4)),
+    "recover_cost": (CARD, (), 0, (), (4, 4, 4, 4)),
+    "tally": (("settled",), (), 0, (), (8,)),
+    "alike": (("settled", "other"), (), 0, (), (4,)),
 }
 
 
 class Library:
-    """The fifteen functions of an archive, or of a shared object made of one."""
+    """The sixteen functions of an archive, or of a shared object made of one."""
 
     def __init__(self, shared):
         linked = ctypes.CDLL(str(shared))
         self.functions, self.outs = {}, {}
-        for call, (lent, _, numbers, last, outs) in FUNCTIONS.items():
+        for call, (lent, _, numbers, more, outs) in FUNCTIONS.items():
             function = getattr(linked, "trapcard_" + call)
             buffer = [ctypes.c_void_p, ctypes.c_size_t]
-            function.argtypes = (buffer * len(lent) + [ctypes.c_uint32] * numbers + (buffer if last else [])
+            function.argtypes = (buffer * len(lent) + [ctypes.c_uint32] * numbers + buffer * len(more)
                                  + [ctypes.c_void_p] * len(outs))
             function.restype = ctypes.c_uint32
             self.functions[call] = function
@@ -91,15 +92,11 @@ class Library:
 
     def call(self, call, lent, numbers=()):
         """Lends the buffers (a dictionary by name) for one call. Its number, then its out-parameters."""
-        first, written, _, last, _ = FUNCTIONS[call]
-        words = []
-        for name in first:
+        first, written, _, more, _ = FUNCTIONS[call]
+        pair = lambda name: (lent[name].address, lent[name].length)
+        for name in first + more:
             lent[name].allow(WRITE if name in written else READ)
-            words += (lent[name].address, lent[name].length)
-        words += numbers
-        if last:
-            lent[last].allow(READ)
-            words += (lent[last].address, lent[last].length)
+        words = [word for name in first for word in pair(name)] + list(numbers) + [word for name in more for word in pair(name)]
         for out in self.outs[call]:
             out.fill(bytes([UNSET]) * out.length)
             words.append(out.address)

@@ -3,13 +3,14 @@ stands, and holds all that its call needs, so that a list of steps can be made a
 from collections import namedtuple
 
 import marks
+import wanted
 from madeup import CARD_FAULTS, RECORD_FAULTS, TOP, UNUSED
 from model import BLOCK, CLOSED, COSTS, DOWN, FIRST_DATA, OPEN, RECORD, SLOTS, WAITING, WORK, fresh
 
 # odd: pairs of a lent buffer's name and another length for it.
 Step = namedtuple("Step", "call arguments odd", defaults=((), ()))
-NINE = ("power", "put", "get", "commit", "abandon", "sync", "apply", "recover", "cut")
-SIZES = (35, 36, 37, 40, 48, 66, 67, 70, 80, 100)
+TEN = ("power", "put", "get", "get_list", "commit", "abandon", "sync", "apply", "recover", "cut")
+SIZES = (35, 36, 37, 40, 48, 66, 67, 70, 80, 100, 300)
 LARGE_SIZES = (65535, 65536)
 
 
@@ -23,11 +24,13 @@ def size(chance, large):
 # ---- arguments
 
 def address(chance, blocks):
-    """Mostly a data block, of few, so that some come again."""
+    """Mostly a data block, of few, so that some come again; on a card that is large enough also others in the buckets of those."""
     if chance.random() < 0.04:
         return chance.choice((0, FIRST_DATA - 1, blocks, TOP))
     edge = chance.choice((FIRST_DATA, blocks - 1))
-    return edge if chance.random() < 0.2 else FIRST_DATA + chance.randrange(min(blocks - FIRST_DATA, 40))
+    if chance.random() < 0.2:
+        return edge
+    return chance.choice(wanted.same_bucket(FIRST_DATA + chance.randrange(min(blocks - FIRST_DATA, 40)), blocks)[:3])
 
 
 def block(chance):
@@ -59,6 +62,8 @@ def arguments(chance, call, bench, blocks):
         return address(chance, blocks), block(chance)
     if call == "get":
         return (address(chance, blocks),)
+    if call == "get_list":
+        return wanted.drawn(chance, blocks, bench.listed())
     if call == "cut":
         return (marks.drawn(chance, bench.queue()),)
     if call in COSTS:
@@ -93,7 +98,7 @@ class History:
         return Step(call, arguments(self.chance, call, self.bench, self.blocks))
 
     def any(self):
-        call = self.chance.choice(NINE + COSTS + ("format", "tally", "alike"))
+        call = self.chance.choice(TEN + COSTS + ("format", "tally", "alike"))
         if call == "alike":
             return [Step(call, other_card(self.chance, self.blocks, self.blocks in LARGE_SIZES))]
         return [self.step(call)]
@@ -102,9 +107,9 @@ class History:
         kind, chance = self.chance.random(), self.chance
         if kind < 0.12:
             return [self.step("put")]
-        if kind < 0.2:
-            return [self.step("get")]
-        if kind < 0.32:
+        if kind < 0.22:
+            return [self.step("get" if kind < 0.17 else "get_list")]
+        if kind < 0.33:
             return self.any()
         if kind < 0.9 and (self.bench.rec().grouped == 0 or chance.random() < 0.15):
             return self.many() if chance.random() < 0.2 else self.few()
@@ -154,6 +159,8 @@ def lived(chance, bench, large):
     yield Step("format")
     if bench.rec() != fresh(blocks):
         return  # refused, by a planted fault
+    if large:
+        yield Step("get_list", ((blocks - 1, FIRST_DATA, blocks - 1), 0, 3 * BLOCK, 256))
     for _ in range(8 if large else 60):
         yield from history.steps()
     if large:
@@ -194,12 +201,23 @@ def odd_lengths(chance, call, blocks):
     return tuple(dict(odd_length(chance, call, blocks, large) for _ in range(1 if large or kind < 0.95 else 2)).items())
 
 
+def screens(chance, bench):
+    """Lists of gets on a card that is large enough for buckets of several, and a record that has few of these."""
+    blocks = chance.choice((300, 1200, 3000))
+    yield Step("make", (blocks, chance.randrange(1 << 32), ("few_buckets",)))
+    for _ in range(8):
+        yield Step("get_list", arguments(chance, "get_list", bench, blocks))
+
+
 def made_up(chance, bench, large):
-    """A record and a card with nought to three faults, and calls on them."""
+    """A record and a card with nought to three faults, and calls on them; now and then lists of gets alone."""
+    if not large and chance.random() < 0.08:
+        yield from screens(chance, bench)
+        return
     blocks, count = size(chance, large), chance.choice((0, 0, 1, 1, 1, 1, 2, 3))
     pool = chance.choice((RECORD_FAULTS, RECORD_FAULTS, CARD_FAULTS, RECORD_FAULTS + CARD_FAULTS))
     yield Step("make", (blocks, chance.randrange(1 << 32), tuple(fault.__name__ for fault in chance.sample(pool, count))))
-    calls = chance.choices(NINE + COSTS + ("sync", "tally", "alike"), k=chance.randint(2, 12))
+    calls = chance.choices(TEN + COSTS + ("get_list", "get_list", "sync", "tally", "alike"), k=chance.randint(2, 12))
     calls += ["cut", "cut", "recover_cost", "recover"]
     for _ in range(chance.choice((0, 0, 1, 2))):
         calls.insert(chance.randint(len(calls) // 2, len(calls)), "format")

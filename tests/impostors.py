@@ -1,6 +1,7 @@
 """Faults for the model, to see that the lockstep bites: those of document 01's "Faults to keep out", two of the save number, three of
 the inquiries, those of a torn cut, two of which are faults of the plain disk and of the witness that feeds it, those of a format that
-meets a card in use, one of which is a fault of the bench, and those of a tally that corrects the home blocks' sum for the log."""
+meets a card in use, one of which is a fault of the bench, those of a tally that corrects the home blocks' sum for the log, and those of a
+list of gets, one of which is a fault of the plain disk."""
 from contextlib import contextmanager
 from dataclasses import replace
 
@@ -237,11 +238,121 @@ def last_block_out(settled, listed):
     return sum(model.laid(settled, listed)[:-BLOCK])
 
 
+# ---- a list of gets
+
+def own_list(rec, settled, work, addresses, blocks, find):
+    """Copies the block of each address from where it is found, up to one that is found nowhere."""
+    for i, address in enumerate(model.wanted(addresses)):
+        place = find(i, address, *model.lists(rec, settled, work))
+        if place:
+            buffer, at = place
+            blocks[BLOCK * i:BLOCK * (i + 1)] = (settled if buffer == 1 else work)[at:at + BLOCK]
+
+
+def served(find):
+    """A list of gets that finds its blocks otherwise."""
+    def get_list(rec, settled, waiting, work, addresses, blocks):
+        answer = model.cause("get_list", rec, settled, waiting, work, listed=(addresses, blocks))
+        if answer == 0:
+            own_list(rec, settled, work, addresses, blocks, lambda *where: find(model.wanted(addresses), *where))
+        return answer, rec.logged if answer == 0 and addresses else 0
+    get_list.__doc__ = find.__doc__
+    return get_list
+
+
+@served
+def once(wanted, i, address, *lists):
+    """the repeats of a list are served once"""
+    return None if address in wanted[:i] else model.newest(address, *lists)
+
+
+@served
+def first_slots(wanted, i, address, opened, grouped, logged):
+    """a list takes the first slot"""
+    buffer, at = model.newest(address, opened, grouped, logged)
+    return (1, BLOCK * (2 + logged.index(address))) if buffer == 1 and address in logged else (buffer, at)
+
+
+@served
+def group_first(wanted, i, address, opened, grouped, logged):
+    """a list takes the group over open"""
+    return model.newest(address, [] if address in grouped else opened, grouped, logged)
+
+
+@served
+def log_first(wanted, i, address, opened, grouped, logged):
+    """a list takes the log over open and group"""
+    return model.newest(address, *([], []) if address in logged else (opened, grouped), logged)
+
+
+@served
+def sorted_out(wanted, i, address, *lists):
+    """a list is copied out in the order of its addresses"""
+    return model.newest(sorted(wanted)[i], *lists)
+
+
+@served
+def one_of_bucket(wanted, i, address, *lists):
+    """of a list's addresses with the same low bits the last one is looked for, the others are read at home"""
+    last = max(k for k, other in enumerate(wanted) if other % 128 == address % 128)
+    return model.newest(address, *lists) if wanted[last] == address else (1, BLOCK * address)
+
+
+def copied_first(rec, settled, waiting, work, addresses, blocks):
+    """a list is copied up to the address that is refused"""
+    answer, slots = real_get_list(rec, settled, waiting, work, addresses, blocks)
+    if answer == 6:
+        wanted = model.wanted(addresses)
+        bad = next(i for i, address in enumerate(wanted) if not model.is_data(rec.blocks, address))
+        own_list(rec, settled, work, addresses[:4 * bad], blocks, lambda _, *where: model.newest(*where))
+    return answer, slots
+
+
+def one_more(addresses, blocks):
+    """a list of 33 addresses is served"""
+    return () if len(addresses) == 132 and len(blocks) == 33 * BLOCK else real_wrong_list(addresses, blocks)
+
+
+def half_addresses(addresses, blocks):
+    """bytes behind the last whole address are passed over"""
+    return real_wrong_list(addresses[:len(addresses) // 4 * 4], blocks)
+
+
+def longer_buffer(addresses, blocks):
+    """a list takes a longer buffer"""
+    return real_wrong_list(addresses, blocks[:BLOCK * (len(addresses) // 4)])
+
+
+def empty_walk(*lent):
+    """slots are counted for an empty list"""
+    answer, slots = real_get_list(*lent)
+    return answer, lent[0].logged if answer == 0 else slots
+
+
+def walk_for_each(*lent):
+    """the log is walked for each address of a list, and each walk counted"""
+    answer, slots = real_get_list(*lent)
+    return answer, slots * (len(lent[4]) // 4)
+
+
+def first_address(call, rec, *more, **named):
+    """a list is refused by its first address alone"""
+    answer = real_cause(call, rec, *more, **named)
+    first = model.wanted(named["listed"][0])[:1] if call == "get_list" else ()
+    return 0 if answer == 6 and any(model.is_data(rec.blocks, address) for address in first) else answer
+
+
+def counted_by_list(self, addresses, blocks):
+    """the plain disk counts a slot for each address"""
+    return len(addresses) // 4, real_plain_list(self, addresses, blocks)[1]
+
+
 real_get, real_recover, real_unnumbered = model.get, model.recover, model.unnumbered
 real_sync_cost, real_apply_cost, real_recover_cost = model.sync_cost, model.apply_cost, model.recover_cost
 real_tear, real_wrong_marks, real_cut = model.tear, model.wrong_marks, Witness.cut
 real_c_call, real_in_use, real_cause, real_format, real_follow = model.c_call, model.in_use, model.cause, model.format, Bench.follow
 real_data_sum = model.data_sum
+real_get_list, real_wrong_list, real_plain_list = model.get_list, model.wrong_list, Plain.get_list
 
 # What each replaces: the function of its name in the model, unless a pair says otherwise.
 TORN = {oldest_wins: (model, "tear"), newest_alone: (model, "tear"), next_write: (model, "tear"), oldest_write: (model, "tear"),
@@ -252,13 +363,17 @@ USED = {before_lengths: (model, "c_call"), any_card: (model, "in_use"), by_previ
         without_save: (model, "in_use"), with_good_list: (model, "in_use"), with_found_list: (model, "in_use"),
         records_blocks: (model, "cause"), clears_waiting: (model, "format"), begins_again: (Bench, "follow")}
 SUMMED = dict.fromkeys((every_slot, first_slot, own_for_home, first_block_out, last_block_out), (model, "data_sum"))
-IMPOSTORS = (checkpoint, log_sum, choice, get, recover, unnumbered, sync_cost, apply_cost, recover_cost, *TORN, *USED, *SUMMED)
+LISTED = {**dict.fromkeys((once, first_slots, group_first, log_first, sorted_out, one_of_bucket, copied_first, empty_walk, walk_for_each),
+                          (model, "get_list")),
+          **dict.fromkeys((one_more, half_addresses, longer_buffer), (model, "wrong_list")), first_address: (model, "cause"),
+          counted_by_list: (Plain, "get_list")}
+IMPOSTORS = (checkpoint, log_sum, choice, get, recover, unnumbered, sync_cost, apply_cost, recover_cost, *TORN, *USED, *SUMMED, *LISTED)
 
 
 @contextmanager
 def planted(impostor):
     """The model, the plain disk, the witness or the bench with one of its functions replaced."""
-    owner, name = {**TORN, **USED, **SUMMED}.get(impostor, (model, impostor.__name__))
+    owner, name = {**TORN, **USED, **SUMMED, **LISTED}.get(impostor, (model, impostor.__name__))
     real = getattr(owner, name)
     setattr(owner, name, impostor)
     try:

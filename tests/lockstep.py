@@ -185,10 +185,11 @@ def lockstep(run):
     for hole in holes:
         print("lockstep: a hole: %s" % " / ".join(word for word in hole if word))
     disks = sum(result.seen["cases", "demand 3, the %s disk found" % which, ""] for which in ("old", "new"))
-    asked = sum(result.seen["causes", call, number] for call in model.COSTS for number in coverage.NUMBERS)
-    print("lockstep: %d calls in %d histories compared with the model, %d inquiries with the library's own call, %d disks after a "
-          "recovery read back, 0 differences, %d of %d cells covered (seed %d, %d s)"
-          % (result.calls, result.histories, asked, disks, cells - len(holes), cells, run.seed, time.monotonic() - start))
+    made = lambda *calls: sum(result.seen["causes", call, number] for call in calls for number in coverage.NUMBERS)
+    print("lockstep: %d calls in %d histories compared with the model, %d inquiries with the library's own call, %d lists with its own gets, "
+          "%d disks after a recovery read back, 0 differences, %d of %d cells covered (seed %d, %d s)"
+          % (result.calls, result.histories, made(*model.COSTS), made("get_list"), disks, cells - len(holes), cells, run.seed,
+             time.monotonic() - start))
     return 1 if holes else 0
 
 

@@ -174,6 +174,19 @@ def twice_in_group(made):
     made.grouped = twice(made, SLOTS, made.grouped)
 
 
+def few_buckets(made):
+    """No fault by itself: the addresses of open, group and log agree in their low 7 bits with few, and often with each other."""
+    data, chance = range(FIRST_DATA, made.blocks), made.chance
+    lows = chance.sample(data[:128], min(len(data), chance.choice((1, 3, 9))))
+    pool = [address for low in lows for address in data[low - FIRST_DATA::128][:9]]
+    made.mode, made.queued, made.opened, made.grouped = OPEN, 0, min(made.opened, len(pool)), min(made.grouped, len(pool))
+    for first in (0, SLOTS):
+        for i, address in enumerate(chance.sample(pool, min(len(pool), SLOTS))):
+            made.list_at(first + i, address)
+    for i in range(SLOTS):
+        made.log_at(i, chance.choice(pool))
+
+
 def few_blocks(made):
     """No fault by itself: many writes wait for few blocks, block 0 among them."""
     made.mode, made.queued, blocks = DOWN, made.chance.randint(2, PLACES), (0, 0, 1, made.data(), made.data())
@@ -257,7 +270,7 @@ def empty_unsound(made):
 
 RECORD_FAULTS = (mode, open_count, group_count, log_count, waiting_count, waiting_unless_down, other_blocks, open_address, group_address,
                  log_address, waiting_address, twice_in_open, twice_in_group, few_blocks, few_blocks, few_blocks,
-                 last_save)
+                 few_buckets, few_buckets, last_save)
 CARD_FAULTS = (card_format, card_blocks, card_count, card_previous, sum_of_count, sum_of_count, sum_of_previous, neither_sum, stray_in_list,
                no_save_counts, no_save_sums)
 UNUSED = (zeros, any_bytes, empty_log, empty_unsound, card_format, card_blocks, card_count, card_previous, no_save_counts, no_save_sums)

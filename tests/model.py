@@ -1,9 +1,9 @@
-"""Document 01's twelve calls, with W-201, the three inquiries of W-202, the torn cut of W-204 and the refusal of W-205 of document 02, on
-plain Python values, written from the papers and not from the code of the crates.
+"""Document 01's twelve calls, with W-201, the three inquiries of W-202, the torn cut of W-204, the refusal of W-205 and the list of gets of
+W-207 of document 02, on plain Python values, written from the papers and not from the code of the crates.
 
 Buffers are bytearrays. A call of the ten returns its number and the record that it leaves; sync, apply and recover their orders
-between. An inquiry returns its number and its four figures, tally and alike their number and what they found. `c_call` is any of the
-fifteen as C sees it.
+between. An inquiry returns its number and its four figures, tally and alike their number and what they found, a list of gets its number and
+the slots read. `c_call` is any of the sixteen as C sees it.
 """
 import struct
 from dataclasses import dataclass, replace
@@ -15,6 +15,7 @@ WAITING, WORK = PLACES * ENTRY, 2 * SLOTS * ENTRY
 CLOSED, OPEN, DOWN = 0, 1, 2
 EMPTY_SUM = 14695981039346656037
 FORMAT, LAST, ENOUGH = 2, 2**64 - 1, 2**32 - 1
+LIST = 32
 KEPT = bytes([1]) * BLOCK
 
 
@@ -165,15 +166,30 @@ def wrong_marks(rec, waiting, marks):
         yield "torn header"
 
 
+def wanted(addresses):
+    """The addresses of a list, those that are whole."""
+    return [number(addresses, 4 * i) for i in range(len(addresses) // 4)]
+
+
+def wrong_list(addresses, blocks):
+    """What row 1 finds in a list of addresses and the buffer lent for their blocks, by name."""
+    count = len(addresses) // 4
+    for name, wrong in (("no whole addresses", len(addresses) % 4), ("over 32", count > LIST), ("buffer", len(blocks) != BLOCK * count)):
+        if wrong:
+            yield name
+
+
 def wrong_size(settled):
     return len(settled) % BLOCK != 0 or not LEAST <= len(settled) // BLOCK <= MOST
 
 
-def cause(call, rec, settled, waiting, work, address=None, block=None, marks=None):
-    """The first row of the table that applies, or 0."""
+def cause(call, rec, settled, waiting, work, address=None, block=None, marks=None, listed=None):
+    """The first row of the table that applies, or 0. `listed` are the addresses of a list and the buffer for its blocks."""
     if wrong_size(settled):
         return 1
     if len(waiting) != WAITING or len(work) != WORK or (call == "put" and len(block) != BLOCK):
+        return 1
+    if call == "get_list" and any(wrong_list(*listed)):
         return 1
     if call == "format":
         return 13 if in_use(settled) else 0
@@ -189,6 +205,8 @@ def cause(call, rec, settled, waiting, work, address=None, block=None, marks=Non
         return 3 if rec.mode == CLOSED else 4
     if call in ("put", "get") and not is_data(rec.blocks, address):
         return 6
+    if call == "get_list":
+        return 0 if all(is_data(rec.blocks, a) for a in wanted(listed[0])) else 6
     opened, grouped, _ = lists(rec, settled, work)
     if call == "put" and address not in opened and rec.opened == SLOTS:
         return 7
@@ -246,19 +264,33 @@ def abandon(rec, settled, waiting, work):
     return answer, rec if answer else replace(rec, opened=0)
 
 
-def get(rec, settled, waiting, work, address):
-    """The number, then the buffer (1 settled, 2 work) and the byte at which the block starts in it."""
-    answer = cause("get", rec, settled, waiting, work, address)
-    if answer:
-        return answer, 0, 0
-    opened, grouped, logged = lists(rec, settled, work)
+def newest(address, opened, grouped, logged):
+    """The buffer (1 settled, 2 work) with the newest block at an address, and the byte at which it starts there."""
     if address in opened:
-        return 0, 2, ENTRY * opened.index(address) + 4
+        return 2, ENTRY * opened.index(address) + 4
     if address in grouped:
-        return 0, 2, ENTRY * (SLOTS + grouped.index(address)) + 4
+        return 2, ENTRY * (SLOTS + grouped.index(address)) + 4
     if address in logged:
-        return 0, 1, BLOCK * (2 + max(i for i, a in enumerate(logged) if a == address))
-    return 0, 1, BLOCK * address
+        return 1, BLOCK * (2 + max(i for i, a in enumerate(logged) if a == address))
+    return 1, BLOCK * address
+
+
+def get(rec, settled, waiting, work, address):
+    """The number, then the buffer and the byte at which the block starts in it."""
+    answer = cause("get", rec, settled, waiting, work, address)
+    return (answer, 0, 0) if answer else (0, *newest(address, *lists(rec, settled, work)))
+
+
+def get_list(rec, settled, waiting, work, addresses, blocks):
+    """The number and the slots read; the blocks are copied out in the order listed."""
+    answer = cause("get_list", rec, settled, waiting, work, listed=(addresses, blocks))
+    if answer:
+        return answer, 0
+    held = lists(rec, settled, work)
+    for i, address in enumerate(wanted(addresses)):
+        buffer, at = newest(address, *held)
+        blocks[BLOCK * i:BLOCK * (i + 1)] = (settled if buffer == 1 else work)[at:at + BLOCK]
+    return 0, rec.logged if addresses else 0
 
 
 class Orders:
@@ -452,7 +484,7 @@ def encode(rec):
 
 
 COSTS = ("sync_cost", "apply_cost", "recover_cost")
-OUTS = {"get": 2, "sync": 1, "apply": 1, "recover": 1, "tally": 1, "alike": 1, **dict.fromkeys(COSTS, 4)}
+OUTS = {"get": 2, "get_list": 1, "sync": 1, "apply": 1, "recover": 1, "tally": 1, "alike": 1, **dict.fromkeys(COSTS, 4)}
 
 
 def c_call(call, lent, arguments=()):
@@ -464,7 +496,7 @@ def c_call(call, lent, arguments=()):
     if len(record) != RECORD:
         return (1,) + (0,) * OUTS.get(call, 0)
     outcome = made(decode(record), *card, *arguments)
-    if call == "get" or call in COSTS:
+    if call in ("get", "get_list") or call in COSTS:
         return outcome
     record[:] = encode(outcome[-1])
     return outcome[:-1]

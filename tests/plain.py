@@ -1,9 +1,9 @@
 """The plain disk, from its own section of document 01: fed N, a call's arguments and, at a cut, whether the log found is the log
-written. By W-201 it counts the nonempty groups laid into S, by W-204 a cut has 512 marks for each waiting write. It knows no bytes of a
-card."""
+written. By W-201 it counts the nonempty groups laid into S, by W-204 a cut has 512 marks for each waiting write, by W-207 there are lists of gets.
+It knows no bytes of a card."""
 
 CLOSED, OPEN, DOWN = 0, 1, 2
-BLOCK, SLOTS, FIRST_DATA = 512, 32, 34
+BLOCK, SLOTS, FIRST_DATA, LIST = 512, 32, 34, 32
 LAST = 2**64 - 1
 ZERO = bytes(BLOCK)
 
@@ -32,6 +32,11 @@ class Short:
         return orders - self.applied
 
 
+def wanted(addresses):
+    """The addresses of a list, 4 bytes each."""
+    return [int.from_bytes(addresses[at:at + 4], "little") for at in range(0, len(addresses) // 4 * 4, 4)]
+
+
 class Plain:
     def __init__(self, blocks):
         """As a format answering 0 leaves it."""
@@ -40,7 +45,7 @@ class Plain:
         self.laid = 0
 
     def refusal(self, call, arguments):
-        if call == "put" and len(arguments[1]) != BLOCK:
+        if call == "put" and len(arguments[1]) != BLOCK or call == "get_list" and self.wrong_list(*arguments):
             return 1
         if call == "power":
             return 0
@@ -50,7 +55,8 @@ class Plain:
             return {CLOSED: 0, OPEN: 5, DOWN: 4}[self.mode]
         if self.mode != OPEN:
             return 3 if self.mode == CLOSED else 4
-        if call in ("put", "get") and not FIRST_DATA <= arguments[0] < self.blocks:
+        asked = arguments[:1] if call in ("put", "get") else wanted(arguments[0]) if call == "get_list" else ()
+        if not all(FIRST_DATA <= address < self.blocks for address in asked):
             return 6
         if call == "put" and arguments[0] not in self.T and len(self.T) == SLOTS:
             return 7
@@ -63,8 +69,12 @@ class Plain:
         torn = self.short is not None and self.short.header() and len(set(marks[-BLOCK:])) > 1
         return len(marks) != BLOCK * self.waiting or max(marks, default=0) > 1 or torn
 
+    def wrong_list(self, addresses, blocks):
+        """Not 4 bytes for each address, too many of them, or a buffer that is not 512 bytes for each."""
+        return len(addresses) % 4 != 0 or len(addresses) > 4 * LIST or len(blocks) != BLOCK * len(wanted(addresses))
+
     def step(self, call, arguments=(), found=True):
-        """The answer, the orders handed back, and the block of a get."""
+        """The answer, the orders handed back or the slots of a list, and the block of a get or those of a list."""
         answer = self.refusal(call, arguments)
         if answer:
             return answer, 0, None
@@ -74,6 +84,8 @@ class Plain:
         outcome = getattr(self, call)(*arguments, *([found] if call == "cut" else []))
         if call == "get":
             return 0, 0, outcome
+        if call == "get_list":
+            return 0, *outcome
         return outcome + (None,) if outcome else (0, 0, None)
 
     def put(self, address, block):
@@ -81,6 +93,10 @@ class Plain:
 
     def get(self, address):
         return next((listed[address] for listed in (self.T, self.G, self.S) if address in listed), ZERO)
+
+    def get_list(self, addresses, blocks):
+        """The slots, which are n for a list with any address, and each block as a get reads it."""
+        return self.n if addresses else 0, b"".join(map(self.get, wanted(addresses)))
 
     def commit(self):
         self.G.update(self.T)

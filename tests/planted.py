@@ -1,9 +1,9 @@
 """Plants faults in a copy of the archive's source, one at a time, and shows that the lockstep finds each.
 
 The copy is compiled without proof: Rattle's code is Rust's but for the clauses of contracts, which are left out, and rustc builds the
-shared object. First the copy without a fault must run like the archive. Those that break demand 2 or 3, what W-202 says of an inquiry or
-what W-205 says of a format in a history are also to be found by the plain disk, the log written, the old and new disks and the library's
-own calls alone, with nothing compared to the model. Not a part of the gate, since it needs rustc."""
+shared object. First the copy without a fault must run like the archive. Those that break demand 2 or 3, what W-202 says of an inquiry,
+what W-205 says of a format in a history or what W-207 says of a list of gets are also to be found by the plain disk, the log written, the old
+and new disks and the library's own calls alone, with nothing compared to the model. Not a part of the gate, since it needs rustc."""
 import re
 import shutil
 import subprocess
@@ -91,6 +91,34 @@ FAULTS = (
     Fault("a tally leaves out the last data block", "inspect/tally", "while a < blocks {", "while a + 1 < blocks {"),
     Fault("a tally leaves out the last chunk of a block", "inspect/tally", "while i < BLOCK / CHUNK {", "while i + 1 < BLOCK / CHUNK {"),
     Fault("a tally leaves out the log's last slot", "inspect/tally", "while i < n {", "while i + 1 < n {"),
+    Fault("the repeats of a list are served once", "journal/wanted", "i = before[i] as usize;", "i = 0;", True),
+    Fault("an address of a list is taken for another of its bucket", "journal/wanted", "a == wanted(list, i)", "a % 128 == wanted(list, i) % 128",
+          True),
+    Fault("a list takes the first slot", "journal/wanted", "a == wanted(list, i)", "a == wanted(list, i) && met[i] == 0", True),
+    Fault("a list's walk leaves out the last slot", "journal/wanted", "while read < n {", "while read + 1 < n {", True),
+    Fault("a list of 33 addresses is served", "journal/wanted", "MOST_WANTED: usize = 32;", "MOST_WANTED: usize = 33;", True),
+    Fault("a list leaves out the last entry of open and group", "store/lists", "while i < n {", "while i + 1 < n {", True),
+    Fault("a list takes the group over open", "store/get_list", "if opened != 0 {", "if opened != 0 && grouped == 0 {", True),
+    Fault("a list takes the log over the group", "store/get_list", "if grouped != 0 {", "if grouped != 0 && logged == 0 {", True),
+    Fault("a list is copied out backwards", "store/get_list", "let at = BLOCK * i;", "let at = BLOCK * (n - 1 - i);", True),
+    Fault("a list is copied up to the address that is refused", "store/get_list",
+          "self.list_number(settled, waiting, work, list, blocks);", "self.list_number(settled, waiting, work, list, blocks);\nif refusal == 6 {\n"
+          "let mut k = 0;\nwhile is_data(self.blocks, wanted(list, k)) {\nk += 1;\n}\n"
+          "self.show(settled, work, &list[..4 * k], &mut blocks[..512 * k]);\n}", True),
+    Fault("slots are counted for an empty list", "store/get_list", "if count(list) == 0 {", "if false {", True),
+    Fault("the log's slots are counted for each address of a list", "store/get_list", "Listed { number: 0, slots }",
+          "Listed { number: 0, slots: slots * (count(list) as u32) }", True),
+    Fault("a list is refused by its first address alone", "store/get_list", "if !is_data(", "if i == 0 && !is_data(", True),
+    Fault("bytes behind the last whole address of a list are passed over", "store/get_list", "list.len() % ADDRESS != 0", "false", True),
+    Fault("a list takes a longer buffer", "store/get_list", "blocks.len() != BLOCK * n", "blocks.len() < BLOCK * n", True),
+    Fault("a wrong list comes after the record's causes", "store/get_list", "if wrong_list(list, blocks) {",
+          "if wrong_list(list, blocks) && self.not_open(settled, waiting, work) == 0 {", True),
+    Fault("a wrong address of a list comes before the record's causes", "store/get_list", "let number = self.not_open(",
+          "if stray(list, self.blocks) {\nreturn 6;\n}\nlet number = self.not_open(", True),
+    Fault("a list reads a byte behind its addresses", "firmware/reads", "let listed = decode(rec)",
+          "unsafe { std::ptr::read_volatile(addresses.as_ptr().add(addresses.len())) };\nlet listed = decode(rec)"),
+    Fault("a list writes a const byte with itself", "firmware/reads", "let listed = decode(rec)",
+          "unsafe { std::ptr::write_volatile(work.as_ptr() as *mut u8, work[0]) };\nlet listed = decode(rec)"),
     Fault("put reads a byte behind its block", "firmware/calls", "let placed = decode(rec)",
           "unsafe { std::ptr::read_volatile(block.as_ptr().add(block.len())) };\nlet placed = decode(rec)"),
     Fault("commit writes a const byte with itself", "firmware/calls", "let committed = decode(rec)",

@@ -2,8 +2,8 @@
  * loses power in that sync at every order with every set of kept writes, and behind its last write with each write but the header torn at
  * each of its bytes; recovers, and checks that the three are found together, all old or all new, under the number of their save; and
  * saves them once the battery reaches. Prints a line for each inquiry, one for each order and two for each write that is torn, with how
- * often each save was found, and two with the totals. Last the card is at the service counter: a format turns it down and leaves it, until
- * it is given up. */
+ * often each save was found, and two with the totals. Then it draws a screen of five blocks by one list of gets. Last the card is at the
+ * service counter: a format turns it down and leaves it, until it is given up. */
 #include <stdio.h>
 #include <stdlib.h>
 #include <string.h>
@@ -175,6 +175,20 @@ static uint32_t ask_and_save(struct card *c, uint32_t battery)
     return orders;
 }
 
+/* The three blocks, one that was never saved, and the picture index again: each copied out as a get finds it. */
+static void draw_screen(const struct card *c)
+{
+    const uint32_t shown[5] = {addresses[0], addresses[1], addresses[2], 50, addresses[1]};
+    uint8_t list[4 * 5], blocks[5 * TRAPCARD_BLOCK];
+    uint32_t slots;
+    for (int i = 0; i < 4 * 5; i++)
+        list[i] = (uint8_t)(shown[i / 4] >> (8 * (i % 4)));
+    must(trapcard_get_list(CARD(c), list, sizeof list, blocks, sizeof blocks, &slots), "get_list");
+    printf("screen, %u slots of the log read:", slots);
+    for (int i = 0; i < 5; i++)
+        printf(" block %u of value %u%s", shown[i], blocks[TRAPCARD_BLOCK * i], i < 4 ? "," : "\n");
+}
+
 /* A format by habit: whether it turns the card down, and leaves the record and every lent byte. */
 static int turned_down(struct card *c)
 {
@@ -208,6 +222,7 @@ int main(void)
     if (!all_whole(&c, orders) || !all_whole_torn(&c, orders - 1))
         return 1;
     ask_and_save(&c, orders);
+    draw_screen(&c);
     if (!turned_down(&c))
         return 1;
     give_up(&c);

@@ -139,9 +139,12 @@ module _ (geo : Geometry) where
       }
 
   -- what a get shows is the newest
-  pub get-newest : (a : ℕ) (st : State) → cause geo (get a) st ≡ 0 → blockOf geo a st ≡ bytesAt (newest geo a st) st
+  get-place : (a : ℕ) (st : State) → cause geo (get a) st ≡ 0 → getPlace geo a st ≡ newest geo a st
   unfolding getPlace
-  get-newest a st z = rw (z)
+  get-place a st z = rw (z)
+
+  pub get-newest : (a : ℕ) (st : State) → cause geo (get a) st ≡ 0 → blockOf geo a st ≡ bytesAt (newest geo a st) st
+  get-newest a st z = ap (λ (p : Place). bytesAt p st) (get-place a st z)
 
   pub shown-newest : (xs bs : List ℕ) (st : State) → cause geo (getList xs bs) st ≡ 0
       → shown geo xs st ≡ joined (λ i. bytesAt (newest geo (wantedAt xs i) st) st) (wantedCount xs)

@@ -44,7 +44,8 @@ loop-again c =
     let l = c .before .before .before .before .before .before .loop in
     let m = c .before .before .mark in
     let size : length (walked (a .settled .now) (l .read)) ≡ l .read = length-upTo (slotAddress (a .settled .now)) (l .read) in
-    (omega arith, m .kept .1 .1 .1 .1 .1 .0 ∙ l .inv .1, rw (add-one, ← c .before .before .before .before .slot-address .ensures) (m .ensures (walked (a .settled .now) (l .read)) size (l .inv .2)))
+    let next : c .before .before .before .before .slot-address .result ≡ slotAddress (a .settled .now) (l .read) = c .before .before .before .before .slot-address .ensures in
+    (omega arith, m .kept .1 .1 .1 .1 .1 .0 ∙ l .inv .1, rw (add-one, ← next) (m .ensures (walked (a .settled .now) (l .read)) size (l .inv .2)))
 
 same-length : tie.Need-same-length Inv-loop μ-loop
 same-length c = c .before .loop .inv .1

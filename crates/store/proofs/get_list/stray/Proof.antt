@@ -38,8 +38,9 @@ returns : tie.Need-returns Inv-loop μ-loop
 returns c =
     let l = c .before .before .before .before .loop in
     let a = c .before .before .before .before .before .before .before .args in
+    let next : c .before .before .wanted .result ≡ wantedAt (a .list .now) (l .i) = c .before .before .wanted .ensures in
     climb-hit (wrong (a .list .now) (a .blocks)) (l .i) (wantedCount (a .list .now)) (omega arith)
-    (rw (← c .before .before .wanted .ensures, ← c .before .is-data .ensures) (c .if1 .taken))
+    (rw (← next, ← c .before .is-data .ensures) (c .if1 .taken))
 
 add-i : tie.Need-add-i Inv-loop μ-loop
 add-i c = omega arith
@@ -51,7 +52,8 @@ loop-again : tie.Need-loop-again Inv-loop μ-loop
 loop-again c =
     let l = c .before .before .before .before .loop in
     let a = c .before .before .before .before .before .before .before .args in
-    (omega arith, l .inv .1, climb-on (wrong (a .list .now) (a .blocks)) (l .i) (l .inv .2) (rw (← c .before .before .wanted .ensures, ← c .before .is-data .ensures) (c .if1 .left)))
+    let next : c .before .before .wanted .result ≡ wantedAt (a .list .now) (l .i) = c .before .before .wanted .ensures in
+    (omega arith, l .inv .1, climb-on (wrong (a .list .now) (a .blocks)) (l .i) (l .inv .2) (rw (← next, ← c .before .is-data .ensures) (c .if1 .left)))
 
 returns-2 : tie.Need-returns-2 Inv-loop μ-loop
 returns-2 c =

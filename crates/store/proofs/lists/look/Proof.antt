@@ -43,7 +43,8 @@ loop-again c =
     let l = c .before .before .before .before .before .before .loop in
     let m = c .before .before .mark in
     let size : length (addressesOf (a .work .now) (a .from) (l .i)) ≡ l .i = length-upTo (λ j. listed (a .work .now) (a .from) j .address) (l .i) in
-    (omega arith, m .kept .1 .1 .1 .1 .1 .0 ∙ l .inv .1, rw (add-one, ← c .before .before .before .before .address .ensures) (m .ensures (addressesOf (a .work .now) (a .from) (l .i)) size (l .inv .2)))
+    let next : c .before .before .before .before .address .result ≡ listed (a .work .now) (a .from) (l .i) .address = c .before .before .before .before .address .ensures in
+    (omega arith, m .kept .1 .1 .1 .1 .1 .0 ∙ l .inv .1, rw (add-one, ← next) (m .ensures (addressesOf (a .work .now) (a .from) (l .i)) size (l .inv .2)))
 
 same-length : tie.Need-same-length Inv-loop μ-loop
 same-length c = c .before .loop .inv .1
