@@ -9,11 +9,11 @@
 #include <stdio.h>
 #include <stdlib.h>
 #include <string.h>
-#include <time.h>
 
 #include "plain.h"
 #include "side.h"
 #include "tasks.h"
+#include "timing.h"
 
 #ifdef COUNT
 #include <valgrind/callgrind.h>
@@ -23,13 +23,6 @@ enum { MOST_ROUNDS = 2001 };
 
 /* How long a batch of plain C takes at least: long against the clock's own time. */
 static const double BATCH = 100e-6;
-
-static double seconds(void)
-{
-    struct timespec t;
-    clock_gettime(CLOCK_MONOTONIC, &t);
-    return (double)t.tv_sec + (double)t.tv_nsec * 1e-9;
-}
 
 /* A refusal is not what is to be measured. */
 static void must_be_done(const struct task *t, const struct side *s)
@@ -57,18 +50,6 @@ static long calibrate(const struct task *t, struct side *s)
     for (long times = 1;; times *= 2)
         if (batch(t, s, times) > BATCH)
             return times;
-}
-
-static int ascending(const void *a, const void *b)
-{
-    double x = *(const double *)a, y = *(const double *)b;
-    return (x > y) - (x < y);
-}
-
-static double median(double *samples, int n)
-{
-    qsort(samples, (size_t)n, sizeof *samples, ascending);
-    return samples[n / 2];
 }
 
 static void measure(const struct task *t, struct side *ours, struct side *plain, int rounds)

@@ -3,9 +3,9 @@
 #define _POSIX_C_SOURCE 199309L
 #include <stdio.h>
 #include <stdlib.h>
-#include <time.h>
 
 #include "sums.h"
+#include "timing.h"
 
 #define START 14695981039346656037u
 #define SIZE ((size_t)64 << 20)
@@ -22,13 +22,6 @@ static const struct {
     {"crates/fnv", bench_sum},
 };
 enum { WAYS = sizeof ways / sizeof *ways };
-
-static double seconds(void)
-{
-    struct timespec t;
-    clock_gettime(CLOCK_MONOTONIC, &t);
-    return t.tv_sec + t.tv_nsec * 1e-9;
-}
 
 int main(void)
 {

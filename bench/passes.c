@@ -9,9 +9,9 @@
 #include <stdio.h>
 #include <stdlib.h>
 #include <string.h>
-#include <time.h>
 
 #include "pass.h"
+#include "timing.h"
 #include "trapcard.h"
 
 enum { MOST_ROUNDS = 2001, STEP = 1571, DATA = TRAPCARD_FIRST * TRAPCARD_BLOCK };
@@ -62,19 +62,6 @@ static uint64_t tally(const uint8_t *data, size_t n)
 static uint64_t (*const ways[])(const uint8_t *, size_t) = {tally, pass_row, pass_blocks, pass_narrow};
 enum { WAYS = sizeof ways / sizeof *ways };
 
-static double seconds(void)
-{
-    struct timespec t;
-    clock_gettime(CLOCK_MONOTONIC, &t);
-    return (double)t.tv_sec + (double)t.tv_nsec * 1e-9;
-}
-
-static int ascending(const void *a, const void *b)
-{
-    double x = *(const double *)a, y = *(const double *)b;
-    return (x > y) - (x < y);
-}
-
 static void measure(uint32_t blocks, uint32_t n, int rounds)
 {
     static double took[WAYS][MOST_ROUNDS];
@@ -89,11 +76,12 @@ static void measure(uint32_t blocks, uint32_t n, int rounds)
                 exit(1);
             }
         }
-    for (int w = 0; w < WAYS; w++)
-        qsort(took[w], (size_t)rounds, sizeof *took[w], ascending);
-    printf("| N = %u, %u in the log | %.0f |", blocks, n, took[0][rounds / 2] * 1e6);
-    for (int w = 1; w < WAYS; w++)
-        printf(" %.0f | %.2f |", took[w][rounds / 2] * 1e6, took[0][rounds / 2] / took[w][rounds / 2]);
+    double ours = median(took[0], rounds);
+    printf("| N = %u, %u in the log | %.0f |", blocks, n, ours * 1e6);
+    for (int w = 1; w < WAYS; w++) {
+        double pass = median(took[w], rounds);
+        printf(" %.0f | %.2f |", pass * 1e6, ours / pass);
+    }
     printf("\n");
 }
 

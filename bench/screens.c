@@ -9,8 +9,8 @@
 #include <stdio.h>
 #include <stdlib.h>
 #include <string.h>
-#include <time.h>
 
+#include "timing.h"
 #include "trapcard.h"
 
 enum { N = 4096, MOST_ROUNDS = 2001, TIMES = 20, WAYS = 3 };
@@ -107,23 +107,10 @@ static void must_agree(void)
     }
 }
 
-static double seconds(void)
-{
-    struct timespec t;
-    clock_gettime(CLOCK_MONOTONIC, &t);
-    return (double)t.tv_sec + (double)t.tv_nsec * 1e-9;
-}
-
-static int ascending(const void *a, const void *b)
-{
-    double x = *(const double *)a, y = *(const double *)b;
-    return (x > y) - (x < y);
-}
-
 static void measure(const char *name, uint32_t first, int rounds)
 {
     static double took[WAYS][MOST_ROUNDS];
-    double median[WAYS];
+    double middle[WAYS];
     want(first);
     must_agree();
     for (int k = 0; k < rounds; k++)
@@ -133,11 +120,9 @@ static void measure(const char *name, uint32_t first, int rounds)
                 ways[w]();
             took[w][k] = seconds() - start;
         }
-    for (int w = 0; w < WAYS; w++) {
-        qsort(took[w], (size_t)rounds, sizeof *took[w], ascending);
-        median[w] = took[w][rounds / 2] / TIMES * 1e6;
-    }
-    printf("| %s | %.2f | %.2f | %.3f | %.2f | %.3f |\n", name, median[0], median[1], median[0] / median[1], median[2], median[0] / median[2]);
+    for (int w = 0; w < WAYS; w++)
+        middle[w] = median(took[w], rounds) / TIMES * 1e6;
+    printf("| %s | %.2f | %.2f | %.3f | %.2f | %.3f |\n", name, middle[0], middle[1], middle[0] / middle[1], middle[2], middle[0] / middle[2]);
 }
 
 int main(int argc, char **argv)

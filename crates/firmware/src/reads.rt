@@ -4,7 +4,7 @@ use crate::record::SIZE;
 use crate::record::decode;
 use store::place::Place;
 ghost use mathlib.Core.Path.{_≡_};
-ghost use Rattle.store.specs.GetList.{listingOf};
+ghost use Rattle.store.specs.GetList.{Listing};
 ghost use Rattle.inspect.specs.Tally.{tallyOf};
 ghost use Rattle.journal.specs.Geometry.{trap};
 ghost use Rattle.firmware.specs.Face.{bufferNumber, bufferOffset, gotOf, got, listed, tallied, comparedOf, compared};
@@ -73,7 +73,7 @@ pub extern "C" fn trapcard_get_list(
     blocks: &mut [u8],
     slots: &mut u32,
 ) -> u32
-    ensures { λ r. ⌜ listingOf r (now (slots .exit)) (now (blocks .exit)) ≡ listed trap (now (addresses .entry)) (now (blocks .entry)) (now (rec .entry)) (now (settled .entry)) (now (waiting .entry)) (now (work .entry)) ⌝ }
+    ensures { λ r. ⌜ _≡_ {A = Listing} (record { number = r; slots = now (slots .exit); blocks = now (blocks .exit) }) (listed trap (now (addresses .entry)) (now (blocks .entry)) (now (rec .entry)) (now (settled .entry)) (now (waiting .entry)) (now (work .entry))) ⌝ }
 {
     if rec.len() != RECORD {
         *slots = 0;

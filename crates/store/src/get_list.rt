@@ -36,7 +36,7 @@ ghost use Rattle.store.specs.Lists.{openFrom, groupFrom, addressesOf};
 ghost use Rattle.store.specs.Request as Request;
 ghost use Rattle.store.specs.Causes.{cause, some, workBytes, mostWanted, wrongList};
 ghost use Rattle.store.specs.Get.{logPlace, groupPlace, openPlace, newest, bytesAt};
-ghost use Rattle.store.specs.GetList.{listingOf, listing};
+ghost use Rattle.store.specs.GetList.{Listing, listing};
 
 // What a list is answered: the number, and the slots read.
 pub struct Listed {
@@ -210,7 +210,7 @@ impl Record {
         list: &[u8],
         blocks: &mut [u8],
     ) -> Listed
-        ensures { λ r. ⌜ listingOf (r .number) (r .slots) (now (blocks .exit)) ≡ listing trap (now (list .entry)) (now (blocks .entry)) (stateOf self (now (settled .entry)) (now (waiting .entry)) (now (work .entry))) ⌝ }
+        ensures { λ r. ⌜ _≡_ {A = Listing} (record { number = r .number; slots = r .slots; blocks = now (blocks .exit) }) (listing trap (now (list .entry)) (now (blocks .entry)) (stateOf self (now (settled .entry)) (now (waiting .entry)) (now (work .entry)))) ⌝ }
     {
         let refusal = self.list_number(settled, waiting, work, list, blocks);
         if refusal != 0 {
