@@ -122,7 +122,7 @@ module _ (geo : Geometry) where
   refinement st h cs c e =
       let w = after geo cs (begun geo st) in
       let m = after-sim geo cs (begun geo st) (begun-sim geo st h) e in
-      (step geo c w m .agrees, λ xs bs q. list-plain geo xs bs (w .store) (w .ledger) (w .plain) m)
+      (step geo c w m .agrees, λ xs bs. list-plain geo xs bs (w .store) (w .ledger) (w .plain) m)
 
   -- ---- Log read back
 

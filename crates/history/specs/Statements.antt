@@ -26,7 +26,7 @@ use Rattle.store.specs.Format.{formatCall}
 use Rattle.store.specs.Get.{blockOf}
 use Rattle.store.specs.GetList.{listing}
 use Rattle.store.specs.Saves.{groupOf}
-use Rattle.history.specs.Call.{Call, requestOf, local, save, cut, get, getList, sync, recover}
+use Rattle.history.specs.Call.{Call, requestOf, local, save, cut, get, sync, recover}
 use Rattle.history.specs.Plain.{plainStep, plainGet, plainListing}
 use Rattle.history.specs.Dispatch.{dispatch}
 use Rattle.history.specs.Ledger.{standing, inner, logFound, sameLog}
@@ -66,13 +66,13 @@ module _ (geo : Geometry) where
     pub save : storeNext geo c w .rec .mode ≡ openMode → storeNext geo c w .rec .save ≡ plainStep geo c (foundWritten geo c w) (w .plain) .plain .S .groups
     pub no-save : storeNext geo c w .rec .mode ≡ closed → storeNext geo c w .rec .save ≡ 0
 
-  -- W-207: and from a list of gets the slots counted and the blocks
-  abbrev pub ListAgrees : Call → World → Type 0
-  ListAgrees c w = (xs bs : List ℕ) → c ≡ getList xs bs → listing geo xs bs (w .store) ≡ plainListing geo xs bs (w .plain)
+  -- W-207: and a list of gets that is made there, whatever it lists, the plain disk's number, slots counted and blocks
+  abbrev pub ListAgrees : World → Type 0
+  ListAgrees w = (xs bs : List ℕ) → listing geo xs bs (w .store) ≡ plainListing geo xs bs (w .plain)
 
   -- "the exception of demand 3 apart": at every call with no exception at a cut before it
   abbrev pub Refinement : Type 0
-  Refinement = (st : State) → formatCall geo st .answer ≡ 0 → (cs : List Call) (c : Call) → after geo cs (begun geo st) .excepted ≡ false → Agrees c (after geo cs (begun geo st)) × ListAgrees c (after geo cs (begun geo st))
+  Refinement = (st : State) → formatCall geo st .answer ≡ 0 → (cs : List Call) (c : Call) → after geo cs (begun geo st) .excepted ≡ false → Agrees c (after geo cs (begun geo st)) × ListAgrees (after geo cs (begun geo st))
 
   -- ---- Log read back (demand 2)
 

@@ -121,7 +121,7 @@ module _ (geo : Geometry) (st : State) where
     none = λ e. ap (λ (l : Listing). l .slots) is ∙ walk-length geo xs bs st z ∙ rw (e);
     size = ap (λ (l : Listing). length (l .blocks)) is ∙ length-joined _ blockBytes (wantedCount xs) sizes ∙ sym (f .room);
     served = λ i h. rw (same-at xs i) (f .gets i (place i h));
-    block = λ i h. ap (λ (l : Listing). take 512 (drop (512 * i) (l .blocks))) is ∙ rw (same-at xs i) (joined-part _ blockBytes (wantedCount xs) i sizes (place i h));
+    block = λ i h. ap (λ (l : Listing). take 512 (drop (512 * i) (l .blocks))) is ∙ joined-part _ blockBytes (wantedCount xs) i sizes (place i h) ∙ ap (λ (a : ℕ). blockOf geo a st) (sym (same-at xs i));
   }
     where
       f : ListFacts geo xs bs st
