@@ -33,7 +33,7 @@ use Rattle.store.specs.Lists.{openFrom, groupFrom, listed, addressesOf}
 use Rattle.store.specs.Request.{get, getList}
 use Rattle.store.specs.Causes.{cause, mostWanted, wrongList}
 use Rattle.store.specs.Get.{logPlace, groupPlace, openPlace, newest, getPlace, bytesAt, blockOf}
-use Rattle.store.specs.GetList.{listingOf, listWalk, shown, listing}
+use Rattle.store.specs.GetList.{listingOf, listWalk, newestBlocks, shown, listing}
 use Rattle.store.proofs.Causes.{some-none, Checked, cause-passes, passes-sound}
 
 -- of a state, bytes at a place are those of the settled bytes and of work memory
@@ -147,7 +147,7 @@ module _ (geo : Geometry) where
   get-newest a st z = ap (λ (p : Place). bytesAt p st) (get-place a st z)
 
   pub shown-newest : (xs bs : List ℕ) (st : State) → cause geo (getList xs bs) st ≡ 0
-      → shown geo xs st ≡ joined (λ i. bytesAt (newest geo (wantedAt xs i) st) st) (wantedCount xs)
+      → shown geo xs st ≡ newestBlocks geo xs st
   shown-newest xs bs st z = ext-joined _ _ (wantedCount xs) (λ i h. get-newest (wantedAt xs i) st (list-facts xs bs st z .gets i h))
 
   -- n being the number that was computed

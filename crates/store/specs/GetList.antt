@@ -11,7 +11,7 @@ use Rattle.journal.specs.Wanted.{wantedCount, wantedAt, walked}
 use Rattle.store.specs.State.{State}
 use Rattle.store.specs.Request.{getList}
 use Rattle.store.specs.Causes.{cause}
-use Rattle.store.specs.Get.{blockOf}
+use Rattle.store.specs.Get.{newest, bytesAt, blockOf}
 
 -- the number, the slots read, and the buffer's bytes after the call
 pub record Listing : Type 0 where
@@ -37,3 +37,7 @@ module _ (geo : Geometry) where
       cond (eqb (cause geo (getList xs bs) st) 0)
       (listingOf 0 (length (listWalk xs st)) (shown xs st))
       (listingOf (cause geo (getList xs bs) st) 0 bs)
+
+  -- the newest block of each address, which is what `shown` is where no get is refused: contracts of private functions cite it
+  abbrev pub newestBlocks : List ℕ → State → List ℕ
+  newestBlocks xs st = joined (λ i. bytesAt (newest geo (wantedAt xs i) st) st) (wantedCount xs)

@@ -20,10 +20,9 @@ use journal::wanted::wanted;
 ghost use mathlib.Core.Path.{_≡_};
 ghost use mathlib.Core.Bool.{not};
 ghost use mathlib.Core.List.{List};
-ghost use Prim.Native.Nat.{ℕ, _+_, _*_, _≤_, _<_};
+ghost use Prim.Native.Nat.{ℕ, _*_, _≤_, _<_};
 ghost use lib.ListN.{length};
 ghost use Rattle.cells.specs.Entry.{blockBytes};
-ghost use Rattle.cells.specs.Upto.{joined};
 ghost use Rattle.card.specs.Card.{blocksIn};
 ghost use Rattle.journal.specs.Geometry.{trap};
 ghost use Rattle.journal.specs.declared.lookup.Found as Declared;
@@ -35,8 +34,8 @@ ghost use Rattle.store.specs.CodeState.{stateOf};
 ghost use Rattle.store.specs.Lists.{openFrom, groupFrom, addressesOf};
 ghost use Rattle.store.specs.Request as Request;
 ghost use Rattle.store.specs.Causes.{cause, some, workBytes, mostWanted, wrongList};
-ghost use Rattle.store.specs.Get.{logPlace, groupPlace, openPlace, newest, bytesAt};
-ghost use Rattle.store.specs.GetList.{Listing, listing};
+ghost use Rattle.store.specs.Get.{logPlace, groupPlace, openPlace, bytesAt};
+ghost use Rattle.store.specs.GetList.{Listing, newestBlocks, listing};
 
 // What a list is answered: the number, and the slots read.
 pub struct Listed {
@@ -126,7 +125,7 @@ impl Record {
         requires { ⌜ Met (now list) (walked (now settled) (self .logged)) (now logged) ⌝ }
         requires { ⌜ length (now blocks) ≡ blockBytes * wantedCount (now list) ⌝ }
         requires { ⌜ ((i : ℕ) → i < wantedCount (now list) → wantedAt (now list) i < blocksIn (now settled)) ⌝ }
-        ensures { λ _. ⌜ ((w : List ℕ) → now (blocks .exit) ≡ joined (λ i. bytesAt (newest trap (wantedAt (now (list .entry)) i) (stateOf self (now (settled .entry)) w (now (work .entry)))) (stateOf self (now (settled .entry)) w (now (work .entry)))) (wantedCount (now (list .entry)))) ⌝ }
+        ensures { λ _. ⌜ ((w : List ℕ) → now (blocks .exit) ≡ newestBlocks trap (now (list .entry)) (stateOf self (now (settled .entry)) w (now (work .entry)))) ⌝ }
     {
         let n = count(list);
         let mut i = 0;
@@ -153,7 +152,7 @@ impl Record {
         requires { ⌜ wantedCount (now list) ≤ mostWanted ⌝ }
         requires { ⌜ length (now blocks) ≡ blockBytes * wantedCount (now list) ⌝ }
         requires { ⌜ ((i : ℕ) → i < wantedCount (now list) → wantedAt (now list) i < blocksIn (now settled)) ⌝ }
-        ensures { λ _. ⌜ ((w : List ℕ) → now (blocks .exit) ≡ joined (λ i. bytesAt (newest trap (wantedAt (now (list .entry)) i) (stateOf self (now (settled .entry)) w (now (work .entry)))) (stateOf self (now (settled .entry)) w (now (work .entry)))) (wantedCount (now (list .entry)))) ⌝ }
+        ensures { λ _. ⌜ ((w : List ℕ) → now (blocks .exit) ≡ newestBlocks trap (now (list .entry)) (stateOf self (now (settled .entry)) w (now (work .entry)))) ⌝ }
         ensures { λ r. ⌜ r ≡ length (walked (now (settled .entry)) (self .logged)) ⌝ }
     {
         let mut last = [0u8; BUCKETS];
