@@ -143,8 +143,8 @@ uint32_t trapcard_get(const uint8_t *record, size_t record_len, const uint8_t *s
 /* A list of gets: the newest block at each address, copied out in the order listed. `addresses` are 4 bytes each, little-endian, 0 to
  * TRAPCARD_LIST of them, repeats allowed; `blocks` is TRAPCARD_BLOCK bytes for each. Every block is what trapcard_get finds. Returns 0,
  * 1 to 4 or 6: 1 also if addresses_len is no multiple of 4 or over 4 * TRAPCARD_LIST, or if blocks_len is not TRAPCARD_BLOCK for each
- * address; 6 if any address is not a data block. Refused, nothing is copied. *slots: the slots of the log that were read for it, which
- * are all of them for a list with any address and 0 for none. Changes `blocks` and nothing else. `blocks` may be read as long as the
+ * address; 6 if any address is not a data block. Refused, nothing is copied. *slots: the slots of the log that were read for it: all of them for a
+ * list with any address that is served, else 0. Changes `blocks` and nothing else. `blocks` may be read as long as the
  * caller likes: it is a copy. */
 uint32_t trapcard_get_list(const uint8_t *record, size_t record_len, const uint8_t *settled, size_t settled_len,
                            const uint8_t *waiting, size_t waiting_len, const uint8_t *work, size_t work_len,

@@ -49,7 +49,7 @@ large=$(added tally passes 1034)
 echo "firmware: a full log adds $small instructions to a tally of 100 data blocks, and $large to one of 1,000"
 ((small > 0 && small == large))
 
-# What a full log adds to a list is the same for 32 addresses as for one, where the log has none with their low bits: it is walked once.
+# What a full log adds to a list is the same for 32 addresses as for one, where the log has none with their low bits: it is not walked for each.
 gcc -O2 "${strict[@]}" bench/screens.c "$archive" -o "$out/screens"
 one=$(added get_list screens 1)
 all=$(added get_list screens 32)

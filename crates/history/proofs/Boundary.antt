@@ -5,6 +5,6 @@ pub mod Costs
 pub mod FaceRefusals
 pub mod Formats
 pub mod Guards
-pub mod Lists
+pub mod GetLists
 pub mod Links
 pub mod Scripts

@@ -1,5 +1,5 @@
 -- The theorems about histories. Their types stand in specs/Statements.antt, specs/Refusals.antt, specs/Cuts.antt, specs/Formats.antt, specs/Costs.antt,
--- specs/Lists.antt, specs/Dispatch.antt, specs/Linked.antt and specs/Scripts.antt.
+-- specs/GetLists.antt, specs/Dispatch.antt, specs/Linked.antt and specs/Scripts.antt.
 use Prim.Native.Nat.{ℕ}
 use mathlib.Core.Path.{_≡_, refl, ap, sym, _∙_}
 use mathlib.Core.Logic.{_≢_, _⊎_}
@@ -31,7 +31,7 @@ use Rattle.history.specs.Refusals.{Refusals}
 use Rattle.history.specs.Cuts.{AllCuts, AllMixtures}
 use Rattle.history.specs.Formats.{AllFormats}
 use Rattle.history.specs.Costs.{Costs}
-use Rattle.history.specs.Lists.{AllLists}
+use Rattle.history.specs.GetLists.{AllLists}
 use Rattle.history.specs.Linked.{Linked}
 use Rattle.history.specs.Scripts.{ScriptsAreHistories}
 use Rattle.history.proofs.Relation.CauseLaws.{cause-one, cause-two, cause-passes}
@@ -50,7 +50,7 @@ use Rattle.history.proofs.Boundary.FaceRefusals as FaceRefusals
 use Rattle.history.proofs.Boundary.Formats as FormatsProof
 use Rattle.history.proofs.Boundary.Guards as Guards
 use Rattle.history.proofs.Boundary.Costs as CostsProof
-use Rattle.history.proofs.Boundary.Lists as ListsProof
+use Rattle.history.proofs.Boundary.GetLists as GetListsProof
 use Rattle.history.proofs.Boundary.Links as Links
 use Rattle.history.proofs.Boundary.Scripts as ScriptsProof
 
@@ -192,7 +192,7 @@ module _ (geo : Geometry) where
   -- ---- Lists of gets
 
   pub all-lists : AllLists geo
-  all-lists = ListsProof.listed-gets geo
+  all-lists = GetListsProof.listed-gets geo
 
   -- ---- Through C
 

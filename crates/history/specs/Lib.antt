@@ -10,6 +10,6 @@ pub mod Formats
 pub mod Scripts
 pub mod Refusals
 pub mod Costs
-pub mod Lists
+pub mod GetLists
 pub mod Linked
 pub mod Worked

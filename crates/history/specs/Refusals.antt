@@ -1,5 +1,5 @@
--- Refusals (demand 1): over the ten calls and lists of gets (W-207), the script's lines, tally and alike, what C sees of them and of the inquiries (W-202), and any
--- inputs whatever.
+-- Refusals (demand 1): over the ten calls and lists of gets (W-207), the script's lines, tally and alike, what C sees of them and of the
+-- inquiries (W-202), and any inputs whatever.
 use Prim.Native.Nat.{ℕ, _+_, _≤_}
 use mathlib.Core.Path.{_≡_}
 use mathlib.Core.Logic.{_≢_, _⊎_}
@@ -30,7 +30,7 @@ use Rattle.firmware.specs.Face.{recordBytes, decodeRecord, faceOf, faced, gotOf
 use Rattle.history.specs.Dispatch.{called}
 use Rattle.history.specs.Scripts.{ByCall}
 
--- ---- the ten calls
+-- ---- the calls
 
 module _ (geo : Geometry) where
   -- the orders of a call
@@ -117,13 +117,10 @@ module _ (geo : Geometry) where
         → got geo a r s w k ≡ gotOf (cause geo (Request.get a) (stateOf (decodeRecord r) s w k)) 0 0
     pub serves : length r ≡ recordBytes → cause geo (Request.get a) (stateOf (decodeRecord r) s w k) ≡ 0 → got geo a r s w k .number ≡ 0
 
-  -- W-207: a list that is refused copies nothing and counts no slot; else it is that of the state that the bytes stand for
+  -- W-207: a list is that of the state that the bytes stand for (`GetLists.antt`); of another record length it copies nothing, counts no slot
   pub record ListFaces (xs bs r s w k : List ℕ) : Type 0 where
     pub size : length r ≢ recordBytes → listed geo xs bs r s w k ≡ listingOf 1 0 bs
-    pub refuses : length r ≡ recordBytes → cause geo (Request.getList xs bs) (stateOf (decodeRecord r) s w k) ≢ 0
-        → listed geo xs bs r s w k ≡ listingOf (cause geo (Request.getList xs bs) (stateOf (decodeRecord r) s w k)) 0 bs
-    pub serves : length r ≡ recordBytes → cause geo (Request.getList xs bs) (stateOf (decodeRecord r) s w k) ≡ 0
-        → listed geo xs bs r s w k ≡ listing geo xs bs (stateOf (decodeRecord r) s w k)
+    pub answers : length r ≡ recordBytes → listed geo xs bs r s w k ≡ listing geo xs bs (stateOf (decodeRecord r) s w k)
 
   -- W-202: an inquiry that is refused hands out no figures; else those of the state that the bytes stand for, 1 for yes
   pub record Asks (c : Save) (r s w k : List ℕ) : Type 0 where

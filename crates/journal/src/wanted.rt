@@ -14,9 +14,7 @@ ghost use Rattle.journal.specs.Layout.{firstData};
 ghost use Rattle.journal.specs.Wanted.{wantedCount, wantedAt, walked};
 ghost use Rattle.journal.specs.CodeWanted.{buckets, Chained, Met};
 
-// The most addresses of a list, and the buckets that they fall into.
-pub const MOST_WANTED: usize = 32;
-
+// The buckets that they fall into.
 pub const BUCKETS: usize = 128;
 
 // How many there are.
@@ -50,11 +48,11 @@ pub fn chain(list: &[u8], last: &mut [u8], before: &mut [u8])
     }
 }
 
-// The newer place where the address was met, else the older one.
-fn newest(met: bool, newer: u32, older: u32) -> u32
-    ensures { λ r. ⌜ r ≡ cond met newer older ⌝ }
+// The newer place if the address was met there, else the older one.
+fn latest(hit: bool, newer: u32, older: u32) -> u32
+    ensures { λ r. ⌜ r ≡ cond hit newer older ⌝ }
 {
-    if met {
+    if hit {
         return newer;
     }
     older
@@ -72,7 +70,7 @@ pub fn mark(list: &[u8], last: &[u8], before: &[u8], k: u32, a: u32, met: &mut [
     let mut i = last[a as usize % BUCKETS] as usize;
     while 0 < i {
         i -= 1;
-        met[i] = newest(a == wanted(list, i), place, met[i]);
+        met[i] = latest(a == wanted(list, i), place, met[i]);
         i = before[i] as usize;
     }
 }

@@ -16,7 +16,6 @@ use Rattle.cells.specs.Entry.{blockBytes}
 use Rattle.cells.specs.Upto.{upTo, joined}
 use Rattle.cells.specs.Upto.Laws.{length-upTo, ext-joined, length-joined, joined-more}
 use Rattle.journal.specs.Geometry.{Geometry, trap}
-use Rattle.journal.specs.declared.lookup.Found.{Found}
 use Rattle.journal.specs.Layout.{isData}
 use Rattle.journal.specs.Log.{slotAddress}
 use Rattle.journal.specs.Lookup.{lastOf}
@@ -49,10 +48,9 @@ copied settled work list opened grouped logged i =
     (stateOf (fresh 0) settled [] work)
 
 -- what was met is what a lookup finds
-pub met-last : (list l met : List ℕ) (f : ℕ → ℕ) (n i : ℕ) → l ≡ upTo f n → Met list l met → i < wantedCount list
-    → foundAs (getD met i 0) ≡ lastOf f (wantedAt list i) n
-met-last list l met f n i e m h =
-    ap foundAs (m i h) ∙ found-numbered (lastIn l (wantedAt list i)) ∙ rw e (last-in f n (wantedAt list i))
+pub met-last : (list met : List ℕ) (f : ℕ → ℕ) (n i : ℕ) → Met list (upTo f n) met → i < wantedCount list → foundAs (getD met i 0) ≡ lastOf f (wantedAt list i) n
+met-last list met f n i m h =
+    ap foundAs (m i h) ∙ found-numbered (lastIn (upTo f n) (wantedAt list i)) ∙ last-in f n (wantedAt list i)
 
 -- and no more than there are
 pub met-le : (list met : List ℕ) (f : ℕ → ℕ) (n i : ℕ) → Met list (upTo f n) met → i < wantedCount list → getD met i 0 ≤ n
@@ -69,9 +67,9 @@ pub copied-newest : (r : Record) (settled work list opened grouped logged w : Li
     → copied settled work list opened grouped logged i ≡ bytesAt (newest trap (wantedAt list i) (stateOf r settled w work)) (stateOf r settled w work)
 unfolding newest
 copied-newest r settled work list opened grouped logged w i mo mg ml h =
-    let o = met-last list _ opened (λ j. listed work openFrom j .address) (r .opened) i refl mo h in
-    let g = met-last list _ grouped (λ j. listed work (groupFrom trap) j .address) (r .grouped) i refl mg h in
-    let l = met-last list _ logged (slotAddress settled) (r .logged) i refl ml h in
+    let o = met-last list opened (λ j. listed work openFrom j .address) (r .opened) i mo h in
+    let g = met-last list grouped (λ j. listed work (groupFrom trap) j .address) (r .grouped) i mg h in
+    let l = met-last list logged (slotAddress settled) (r .logged) i ml h in
     rw (o, g, l) (bytes-any (newest trap (wantedAt list i) (stateOf r settled w work)) (fresh 0) r settled [] w work)
 
 -- ---- copying out: i blocks are, the rest of the buffer is as it was
@@ -106,6 +104,14 @@ all-out f old blocks n c e =
 
 -- ---- a list that no cause refuses
 
+pub right-list : (xs bs : List ℕ) → wrongList xs bs ≡ false → (length xs ≡ wantedBytes * wantedCount xs) × (wantedCount xs ≤ mostWanted) × (length bs ≡ blockBytes * wantedCount xs)
+unfolding wrongList
+right-list xs bs e =
+    let a = neither _ _ e in
+    let b = neither _ _ (a .0) in
+    let z : length xs % wantedBytes ≡ 0 = eqb-true _ _ (not-false _ (b .0)) in
+    (omega arith, ltb-false _ _ (b .1), eqb-true _ _ (not-false _ (a .1)))
+
 module _ (geo : Geometry) where
   pub record ListFacts (xs bs : List ℕ) (st : State) : Type 0 where
     pub sound : Checked geo st
@@ -115,14 +121,6 @@ module _ (geo : Geometry) where
     pub data-blocks : (i : ℕ) → i < wantedCount xs → isData geo (st .rec .blocks) (wantedAt xs i) ≡ true
     -- each get of it is served
     pub gets : (i : ℕ) → i < wantedCount xs → cause geo (get (wantedAt xs i)) st ≡ 0
-
-  pub right-list : (xs bs : List ℕ) → wrongList xs bs ≡ false → (length xs ≡ wantedBytes * wantedCount xs) × (wantedCount xs ≤ mostWanted) × (length bs ≡ blockBytes * wantedCount xs)
-  unfolding wrongList
-  right-list xs bs e =
-      let a = neither _ _ e in
-      let b = neither _ _ (a .0) in
-      let z : length xs % wantedBytes ≡ 0 = eqb-true _ _ (not-false _ (b .0)) in
-      (omega arith, ltb-false _ _ (b .1), eqb-true _ _ (not-false _ (a .1)))
 
   pub list-facts : (xs bs : List ℕ) (st : State) → cause geo (getList xs bs) st ≡ 0 → ListFacts xs bs st
   list-facts xs bs st z =
@@ -150,11 +148,10 @@ module _ (geo : Geometry) where
       → shown geo xs st ≡ newestBlocks geo xs st
   shown-newest xs bs st z = ext-joined _ _ (wantedCount xs) (λ i h. get-newest (wantedAt xs i) st (list-facts xs bs st z .gets i h))
 
-  -- n being the number that was computed
-  pub listing-served : (xs bs : List ℕ) (st : State) (n k : ℕ) (b : List ℕ) → n ≡ cause geo (getList xs bs) st → n ≡ 0 → k ≡ length (listWalk xs st) → b ≡ shown geo xs st
-      → listingOf n k b ≡ listing geo xs bs st
+  pub listing-served : (xs bs : List ℕ) (st : State) (k : ℕ) (b : List ℕ) → cause geo (getList xs bs) st ≡ 0 → k ≡ length (listWalk xs st) → b ≡ shown geo xs st
+      → listingOf 0 k b ≡ listing geo xs bs st
   unfolding listing
-  listing-served xs bs st n k b e z ek eb = rw (← e, z, ek, eb)
+  listing-served xs bs st k b z ek eb = rw (z, ek, eb)
 
   pub listing-refused : (xs bs : List ℕ) (st : State) → cause geo (getList xs bs) st ≢ 0 → listing geo xs bs st ≡ listingOf (cause geo (getList xs bs) st) 0 bs
   unfolding listing

@@ -1,5 +1,5 @@
-// get_list: the blocks of a list of addresses, each as a get finds it, copied out in the order listed. Log, group and open are each gone
-// through once.
+// get_list: the blocks of a list of addresses, each as a get finds it, copied out in the order listed. Behind the checks log, group and
+// open are each gone through once.
 use crate::lists::GROUP;
 use crate::lists::OPEN;
 use crate::lists::look;
@@ -12,7 +12,6 @@ use cells::entry;
 use journal::log::is_data;
 use journal::log::slot_block;
 use journal::wanted::BUCKETS;
-use journal::wanted::MOST_WANTED;
 use journal::wanted::chain;
 use journal::wanted::count;
 use journal::wanted::walk;
@@ -37,6 +36,9 @@ ghost use Rattle.store.specs.Causes.{cause, some, workBytes, mostWanted,
 ghost use Rattle.store.specs.Get.{logPlace, groupPlace, openPlace, bytesAt};
 ghost use Rattle.store.specs.GetList.{Listing, newestBlocks, listing};
 
+// The most addresses of a list.
+const MOST_WANTED: usize = 32;
+
 // What a list is answered: the number, and the slots read.
 pub struct Listed {
     pub number: u32,
@@ -57,14 +59,14 @@ fn wrong_list(list: &[u8], blocks: &[u8]) -> bool
     blocks.len() != BLOCK * n
 }
 
-// Row 6: any address that is not that of a data block.
-fn stray(list: &[u8], blocks: u32) -> bool
-    ensures { λ r. ⌜ r ≡ some (λ i. not (isData trap blocks (wantedAt (now (list .entry)) i))) (wantedCount (now (list .entry))) ⌝ }
+// Row 6: any address that is not that of a data block, on a card of so many blocks.
+fn stray(list: &[u8], size: u32) -> bool
+    ensures { λ r. ⌜ r ≡ some (λ i. not (isData trap size (wantedAt (now (list .entry)) i))) (wantedCount (now (list .entry))) ⌝ }
 {
     let n = count(list);
     let mut i = 0;
     while i < n {
-        if !is_data(blocks, wanted(list, i)) {
+        if !is_data(size, wanted(list, i)) {
             return true;
         }
         i += 1;

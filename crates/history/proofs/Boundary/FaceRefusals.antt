@@ -18,7 +18,6 @@ use Rattle.store.specs.Get.{getPlace}
 use Rattle.store.specs.Save.{Save}
 use Rattle.store.specs.declared.cost.Cost.{Cost}
 use Rattle.store.specs.Cost.{costOf}
-use Rattle.store.proofs.Listings.{listing-refused}
 use Rattle.store.proofs.Costs.{cost-refused, cost-served}
 use Rattle.inspect.specs.Reading.{chosen, inspection}
 use Rattle.inspect.specs.Tally.{tallyOf}
@@ -96,8 +95,7 @@ module _ (geo : Geometry) where
   pub lists : (xs bs r s w k : List ℕ) → ListFaces geo xs bs r s w k
   lists xs bs r s w k = record {
     size = λ h. sym (listed-length geo xs bs r s w k h);
-    refuses = λ l h. sym (listed-listing geo xs bs r s w k l) ∙ listing-refused geo xs bs (stateOf (decodeRecord r) s w k) h;
-    serves = λ l e. sym (listed-listing geo xs bs r s w k l);
+    answers = λ l. sym (listed-listing geo xs bs r s w k l);
   }
 
   pub asks : (c : Save) (r s w k : List ℕ) → Asks geo c r s w k

@@ -367,4 +367,4 @@ module _ (geo : Geometry) where
           let o = is-open st l d m (Request.getList xs bs) refl (cause-passes geo (Request.getList xs bs) st h) in
           let slots : length (listWalk xs st) ≡ cond (eqb (length xs) 0) 0 (d .n) = walk-length geo xs bs st h ∙ rw (o .n) in
           let blocks : shown geo xs st ≡ Upto.joined (λ i. plainGet (wantedAt xs i) d) (wantedCount xs) = ext-joined _ _ (wantedCount xs) (λ i p. get-plain (wantedAt xs i) st l d m (list-facts geo xs bs st h .gets i p)) in
-          sym (listing-served geo xs bs st 0 _ _ (sym h) refl refl refl) ∙ rw (← same, h, slots, blocks)
+          sym (listing-served geo xs bs st _ _ h refl refl) ∙ rw (← same, h, slots, blocks)

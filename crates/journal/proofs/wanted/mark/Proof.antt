@@ -1,14 +1,12 @@
 -- `journal::wanted::mark` meets its contract: from place i on all were compared with the address.
-use Prim.Native.Nat.{ℕ, _+_, _-_, _%_, _≤_, _<_}
-use mathlib.Core.Path.{_≡_, refl, ap, _∙_}
+use Prim.Native.Nat.{_+_, _-_, _%_, _≤_}
+use mathlib.Core.Path.{_≡_, refl, _∙_}
 use mathlib.Core.Bool.{cond}
 use native.Mathlib.Omega.{arith}
 use borrow.Author.Needs.{needs}
 use lib.Dec.{eqb}
-use lib.ListN.{length, getD}
+use lib.ListN.{getD}
 use Rattle.journal.specs.Geometry.{trap}
-use Rattle.journal.specs.Wanted.{wantedCount}
-use Rattle.journal.specs.CodeWanted.{Chained}
 use Rattle.journal.proofs.Chains.{before-le, compared, Compared, compared-last, compared-on, compared-met}
 use Rattle.journal.proofs.wanted.mark.Statement.{statement}
 use Rattle.journal.proofs.wanted.mark.Tie as tie
@@ -38,14 +36,14 @@ sub-i c = omega arith
 wanted-requires : tie.Need-wanted-requires Inv-loop μ-loop
 wanted-requires c κs = omega (arith, c .before .loop .inv .inside)
 
-mul-newest : tie.Need-mul-newest Inv-loop μ-loop
-mul-newest c = search needs
+mul-latest : tie.Need-mul-latest Inv-loop μ-loop
+mul-latest c = search needs
 
-slice-read-newest : tie.Need-slice-read-newest Inv-loop μ-loop
-slice-read-newest c = omega (arith, c .before .before .before .loop .inv .inside, c .before .before .before .loop .inv .size)
+slice-read-latest : tie.Need-slice-read-latest Inv-loop μ-loop
+slice-read-latest c = omega (arith, c .before .before .before .loop .inv .inside, c .before .before .before .loop .inv .size)
 
-newest-requires : tie.Need-newest-requires Inv-loop μ-loop
-newest-requires c κs = search needs
+latest-requires : tie.Need-latest-requires Inv-loop μ-loop
+latest-requires c κs = search needs
 
 mul-met : tie.Need-mul-met Inv-loop μ-loop
 mul-met c = search needs
@@ -64,7 +62,7 @@ loop-again c =
     let a = c .before .before .before .before .before .before .before .before .before .before .before .args in
     let l = c .before .before .before .before .before .loop in
     let tested : cond (eqb (a .a) (c .before .before .before .wanted .result)) (a .k + 1) (getD (l .met) (l .i - 1) 0) ≡ compared (a .list .now) (a .a) (a .k + 1) (l .met) (l .i - 1) = rw (c .before .before .before .wanted .ensures) in
-    compared-on (a .list .now) (a .last .now) (a .before .now) (a .a) (a .k + 1) (a .met .now) (c .before .before .before .before .before .before .before .before .before .before .before .pre .1 .1 .0) (l .met) (l .i) _ _ (omega arith) (omega arith) (l .inv) (c .before .newest .ensures ∙ tested) refl
+    compared-on (a .list .now) (a .last .now) (a .before .now) (a .a) (a .k + 1) (a .met .now) (c .before .before .before .before .before .before .before .before .before .before .before .pre .1 .1 .0) (l .met) (l .i) _ _ (omega arith) (omega arith) (l .inv) (c .before .latest .ensures ∙ tested) refl
 
 loop-less : tie.Need-loop-less Inv-loop μ-loop
 loop-less c =
@@ -95,9 +93,9 @@ mark-spec =
     loop-holds
     sub-i
     wanted-requires
-    mul-newest
-    slice-read-newest
-    newest-requires
+    mul-latest
+    slice-read-latest
+    latest-requires
     mul-met
     slice-write-met
     shared-slice-read-i-2

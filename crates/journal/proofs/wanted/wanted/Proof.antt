@@ -1,11 +1,8 @@
 -- `journal::wanted::wanted` meets its contract.
 use mathlib.Core.Path.{sym, _∙_, ap}
-use mathlib.Core.List.{List}
-use Prim.Native.Nat.{ℕ}
 use native.Mathlib.Omega.{arith}
 use Rattle.cells.specs.Cell.Laws.{cell-part}
 use Rattle.cells.specs.Little.{num}
-use borrow.Author.Needs.{needs}
 use Rattle.journal.proofs.wanted.wanted.Statement.{statement}
 use Rattle.journal.proofs.wanted.wanted.Tie as tie
 

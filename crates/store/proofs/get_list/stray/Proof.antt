@@ -1,6 +1,6 @@
 -- `store::get_list::stray` meets its contract. The invariant: none of the first i strays.
 use Prim.Native.Nat.{ℕ, _-_, _≤_}
-use mathlib.Core.Path.{_≡_, sym, _∙_}
+use mathlib.Core.Path.{_≡_, sym}
 use mathlib.Core.Bool.{Bool, false, not}
 use mathlib.Core.List.{List}
 use native.Mathlib.Omega.{arith}
@@ -17,16 +17,16 @@ abbrev wrong : List ℕ → ℕ → ℕ → Bool
 wrong list N i = not (isData trap N (wantedAt list i))
 
 abbrev Inv-loop : tie.InvT-loop
-Inv-loop list blocks n i₀ i = (i ≤ n) × (n ≡ wantedCount list) × (some (wrong list blocks) i ≡ false)
+Inv-loop list size n i₀ i = (i ≤ n) × (n ≡ wantedCount list) × (some (wrong list size) i ≡ false)
 
 abbrev μ-loop : tie.MeasureT-loop
-μ-loop list blocks n i₀ i = n - i
+μ-loop list size n i₀ i = n - i
 
 count-requires : tie.Need-count-requires Inv-loop μ-loop
 count-requires c κs = search needs
 
 loop-holds : tie.Need-loop-holds Inv-loop μ-loop
-loop-holds c = (omega arith, c .count .ensures, climb-none (wrong (c .before .before .args .list .now) (c .before .before .args .blocks)))
+loop-holds c = (omega arith, c .count .ensures, climb-none (wrong (c .before .before .args .list .now) (c .before .before .args .size)))
 
 wanted-requires : tie.Need-wanted-requires Inv-loop μ-loop
 wanted-requires c κs = omega arith
@@ -39,7 +39,7 @@ returns c =
     let l = c .before .before .before .before .loop in
     let a = c .before .before .before .before .before .before .before .args in
     let next : c .before .before .wanted .result ≡ wantedAt (a .list .now) (l .i) = c .before .before .wanted .ensures in
-    climb-hit (wrong (a .list .now) (a .blocks)) (l .i) (wantedCount (a .list .now)) (omega arith)
+    climb-hit (wrong (a .list .now) (a .size)) (l .i) (wantedCount (a .list .now)) (omega arith)
     (rw (← next, ← c .before .is-data .ensures) (c .if1 .taken))
 
 add-i : tie.Need-add-i Inv-loop μ-loop
@@ -53,7 +53,7 @@ loop-again c =
     let l = c .before .before .before .before .loop in
     let a = c .before .before .before .before .before .before .before .args in
     let next : c .before .before .wanted .result ≡ wantedAt (a .list .now) (l .i) = c .before .before .wanted .ensures in
-    (omega arith, l .inv .1, climb-on (wrong (a .list .now) (a .blocks)) (l .i) (l .inv .2) (rw (← next, ← c .before .is-data .ensures) (c .if1 .left)))
+    (omega arith, l .inv .1, climb-on (wrong (a .list .now) (a .size)) (l .i) (l .inv .2) (rw (← next, ← c .before .is-data .ensures) (c .if1 .left)))
 
 returns-2 : tie.Need-returns-2 Inv-loop μ-loop
 returns-2 c =

@@ -1,6 +1,6 @@
 -- `store::record::Record::copy_out` meets its contract: i blocks are copied out.
-use Prim.Native.Nat.{ℕ, _+_, _*_, _-_, _≤_, _<_}
-use mathlib.Core.Path.{_≡_, refl, ap, sym, _∙_}
+use Prim.Native.Nat.{_+_, _*_, _-_, _≤_, _<_}
+use mathlib.Core.Path.{_≡_, _∙_}
 use mathlib.Core.List.{[]}
 use native.Mathlib.Omega.{arith}
 use borrow.Author.Needs.{needs}
@@ -9,7 +9,7 @@ use Rattle.cells.specs.Upto.Laws.{ext-joined}
 use Rattle.journal.specs.Geometry.{trap}
 use Rattle.card.specs.Card.{blocksIn}
 use Rattle.journal.specs.Log.{slotAddress}
-use Rattle.journal.specs.Wanted.{wantedCount, wantedAt}
+use Rattle.journal.specs.Wanted.{wantedCount}
 use Rattle.journal.proofs.Chains.{foundAs, numbered-found}
 use Rattle.store.specs.CodeState.{fresh}
 use Rattle.store.specs.Lists.{openFrom, groupFrom, listed}

@@ -1,13 +1,13 @@
 -- `store::record::Record::get_list` meets its contract.
 use Prim.Native.Nat.{ℕ, _*_, _<_}
-use mathlib.Core.Path.{_≡_, refl, ap, sym, _∙_}
+use mathlib.Core.Path.{_≡_, refl, sym, _∙_}
 use mathlib.Core.Bool.{false}
-use mathlib.Core.List.{List, [], _∷_}
+use mathlib.Core.List.{[]}
 use native.Mathlib.Omega.{arith}
-use borrow.Author.Tests.{eq-eqb, ne-eqb}
+use borrow.Author.Tests.{ne-eqb}
 use borrow.Author.Needs.{needs}
 use lib.Dec.{eqb}
-use lib.ListN.{length}
+use lib.ListN.{length, drop-of-length-le}
 use Rattle.card.specs.Card.{blocksIn}
 use Rattle.journal.specs.Geometry.{trap}
 use Rattle.journal.specs.Wanted.{wantedCount, wantedAt}
@@ -29,10 +29,6 @@ served : (c : tie.Else1) → let a = c .before .before .before .before .before .
 served c =
     let a = c .before .before .before .before .before .before .before .before .args in
     list-facts trap (a .list .now) (a .blocks .now) (given (c .before .before .before .before .before .before .before .before)) (sym (c .before .list-number .ensures) ∙ c .if1 .left)
-
-no-bytes : (l : List ℕ) → length l ≡ 0 → l ≡ []
-no-bytes [] e = refl
-no-bytes (x ∷ l) e = absurd (omega arith)
 
 list-number-requires : tie.Need-list-number-requires
 list-number-requires c κs = search needs
@@ -56,8 +52,8 @@ returns-2 c =
     let f = served (c .before .before) in
     let none : wantedCount (start .args .list .now) ≡ 0 = sym (c .before .count .ensures) ∙ c .if2 .taken in
     let room : length (start .args .blocks .now) ≡ 512 * wantedCount (start .args .list .now) = f .room in
-    let empty : start .args .blocks .now ≡ [] = no-bytes (start .args .blocks .now) (omega arith) in
-    listing-served trap (start .args .list .now) (start .args .blocks .now) (given start) 0 0 _ (sym (c .before .before .if1 .left) ∙ c .before .before .before .list-number .ensures) refl (rw (none)) (rw (none) empty)
+    let empty : start .args .blocks .now ≡ [] = drop-of-length-le (start .args .blocks .now) {i = 0} (omega arith) in
+    listing-served trap (start .args .list .now) (start .args .blocks .now) (given start) 0 _ (sym (c .before .before .before .list-number .ensures) ∙ c .before .before .if1 .left) (rw (none)) (rw (none) empty)
 
 show-requires : tie.Need-show-requires
 show-requires c κs =
@@ -77,7 +73,7 @@ returns-3 c =
     let k = c .before .before .show in
     let many : eqb (wantedCount (start .args .list .now)) 0 ≡ false = rw (← c .before .before .before .before .before .count .ensures) (ne-eqb _ 0 (c .before .before .before .before .if2 .left)) in
     let zero : cause trap (getList (start .args .list .now) (start .args .blocks .now)) (given start) ≡ 0 = sym (c .before .before .before .before .before .before .before .list-number .ensures) ∙ c .before .before .before .before .before .before .if1 .left in
-    listing-served trap (start .args .list .now) (start .args .blocks .now) (given start) 0 _ _ (sym zero) refl (rw (many) (k .ensures .1))
+    listing-served trap (start .args .list .now) (start .args .blocks .now) (given start) _ _ zero (rw (many) (k .ensures .1))
     (k .ensures .0 (start .args .waiting .now) ∙ sym (shown-newest trap (start .args .list .now) (start .args .blocks .now) (given start) zero))
 
 pub get-list-spec : {M : Type 1} → statement M

@@ -3,15 +3,16 @@ use Prim.Native.Nat.{ℕ, _*_, _≤_, _<_}
 use mathlib.Core.Path.{_≡_}
 use mathlib.Core.Logic.{_≢_}
 use mathlib.Core.List.{List, []}
-use lib.ListN.{length, take, drop}
+use lib.ListN.{length, getD, take, drop}
 use Rattle.cells.specs.Little.{num}
 use Rattle.journal.specs.Geometry.{Geometry}
+use Rattle.journal.specs.Log.{slotAddress}
 use Rattle.store.specs.State.{State}
-use Rattle.store.specs.Request.{get, getList}
+use Rattle.store.specs.Request.{get, getList, abandon}
 use Rattle.store.specs.Causes.{cause}
 use Rattle.store.specs.Outcomes.{refused}
 use Rattle.store.specs.Get.{blockOf}
-use Rattle.store.specs.GetList.{listingOf, listing}
+use Rattle.store.specs.GetList.{listingOf, listWalk, listing}
 use Rattle.history.specs.Dispatch.{called}
 
 -- "a lent list of 0 to 32 addresses, 4 bytes each, repeats allowed, and a lent buffer of 512 bytes for each"
@@ -29,8 +30,11 @@ module _ (geo : Geometry) where
     -- "n for a list with any address, 0 for none"
     pub any : xs ≢ [] → listing geo xs bs st .slots ≡ st .rec .logged
     pub none : xs ≡ [] → listing geo xs bs st .slots ≡ 0
-    -- "in the order listed": at each place, repeats or not, "Every block is what a single get shows", and that get is served
+    -- "the slots read there are counted": as many as the walk has, and the walk has the address of each slot of the log, ascending
+    pub counted : listing geo xs bs st .slots ≡ length (listWalk xs st)
+    pub walks : xs ≢ [] → (i : ℕ) → i < st .rec .logged → getD (listWalk xs st) i 0 ≡ slotAddress (st .settled) i
     pub size : length (listing geo xs bs st .blocks) ≡ length bs
+    -- "in the order listed": at each place, repeats or not, "Every block is what a single get shows", and that get is served
     pub served : (i : ℕ) → 4 * i < length xs → cause geo (get (addressAt xs i)) st ≡ 0
     pub block : (i : ℕ) → 4 * i < length xs → take 512 (drop (512 * i) (listing geo xs bs st .blocks)) ≡ blockOf geo (addressAt xs i) st
 
@@ -39,8 +43,8 @@ module _ (geo : Geometry) where
     pub lengths : (RightList xs bs → ⊥) → cause geo (getList xs bs) st ≡ 1
     pub as-get : RightList xs bs → (a : ℕ) → cause geo (get a) st ≢ 0 → cause geo (get a) st ≢ 6 → cause geo (getList xs bs) st ≡ cause geo (get a) st
     pub address : RightList xs bs → (i : ℕ) → 4 * i < length xs → cause geo (get (addressAt xs i)) st ≡ 6 → cause geo (getList xs bs) st ≡ 6
-    -- else it is served, an empty one too where the record passes as for a get
-    pub right : RightList xs bs → (a : ℕ) → cause geo (get a) st ≡ 0 → ((i : ℕ) → 4 * i < length xs → cause geo (get (addressAt xs i)) st ≡ 0) → cause geo (getList xs bs) st ≡ 0
+    -- else, where rows 1 to 4 pass, which are all that abandon has, it is served, an empty one too
+    pub right : RightList xs bs → cause geo abandon st ≡ 0 → ((i : ℕ) → 4 * i < length xs → cause geo (get (addressAt xs i)) st ≡ 0) → cause geo (getList xs bs) st ≡ 0
     pub serves : cause geo (getList xs bs) st ≡ 0 → Fills xs bs st
     -- "and then nothing is copied"
     pub refuses : cause geo (getList xs bs) st ≢ 0 → listing geo xs bs st ≡ listingOf (cause geo (getList xs bs) st) 0 bs

@@ -1,30 +1,31 @@
 -- What a list of gets promises of any state: its rows beside a get's, and its blocks.
-use Prim.Native.Nat.{ℕ, zero, suc, _*_, _%_, _≤_, _<_}
+use Prim.Native.Nat.{ℕ, _*_, _%_, _<_}
 use mathlib.Core.Path.{_≡_, refl, ap, sym, _∙_}
 use mathlib.Core.Logic.{_≢_}
-use mathlib.Core.Bool.{Bool, true, false, cond, not, _||_}
-use mathlib.Core.List.{List, [], _∷_}
+use mathlib.Core.Bool.{Bool, true, false, cond, not}
+use mathlib.Core.List.{List, _∷_, []}
 use native.Mathlib.Omega.{arith}
-use native.Mathlib.Decide.{ℕ-discrete}
 use borrow.Author.Tests.{eq-eqb, ne-eqb, le-ltb}
 use lib.Dec.{eqb}
-use lib.ListN.{length, take, drop}
+use lib.ListN.{length, take, drop, drop-of-length-le}
 use Rattle.cells.specs.Cell.Laws.{cell-part}
 use Rattle.cells.specs.Little.{num}
 use Rattle.cells.specs.Entry.{blockBytes}
-use Rattle.cells.specs.Upto.Laws.{length-joined, joined-part}
+use Rattle.cells.specs.Upto.Laws.{getD-upTo, length-joined, joined-part}
 use Rattle.journal.specs.Geometry.{Geometry}
 use Rattle.journal.specs.Layout.{isData}
+use Rattle.journal.specs.Log.{slotAddress}
 use Rattle.journal.specs.Wanted.{wantedCount, wantedAt}
 use Rattle.store.specs.State.{State}
 use Rattle.store.specs.Request.{get, getList, abandon}
-use Rattle.store.specs.Causes.{Row, some, wrongList, addressRow, addressesRow, first, cause}
+use Rattle.store.specs.Causes.{some, wrongList, addressRow, addressesRow, cause}
 use Rattle.store.specs.Get.{blockOf}
 use Rattle.store.specs.GetList.{Listing, listingOf, listWalk, shown, listing}
 use Rattle.store.proofs.Causes.{climb-hit, cause-block, cause-4}
 use Rattle.store.proofs.Places.{block-length}
 use Rattle.store.proofs.Listings.{right-list, ListFacts, list-facts, listing-served, listing-refused, walk-length}
-use Rattle.history.specs.Lists.{RightList, addressAt, Fills, ListedGets}
+use Rattle.history.specs.GetLists.{RightList, addressAt, Fills, ListedGets}
+use Rattle.history.proofs.Relation.Lists.{none-some}
 use Rattle.history.proofs.Relation.Forms.{list-called}
 
 -- ---- lengths
@@ -46,12 +47,6 @@ same-at xs i = ap num (sym (cell-part 4 xs i))
 
 -- ---- rows
 
--- none below n passes
-none-some : (f : ℕ → Bool) (n : ℕ) → ((i : ℕ) → i < n → f i ≡ false) → some f n ≡ false
-unfolding some
-none-some f zero h = refl
-none-some f (suc n) h = rw (none-some f n (λ i p. h i (omega arith)), h n (omega arith))
-
 module _ (geo : Geometry) (st : State) where
   -- rows 1 to 4, which a get and a list share
   shared : ℕ
@@ -71,7 +66,7 @@ module _ (geo : Geometry) (st : State) where
     where
       go : (t : Bool) → wrongList xs bs ≡ t → cause geo (getList xs bs) st ≡ 1
       go true e = cause-block geo (getList xs bs) st e
-      go false e = let r = right-list geo xs bs e in absurd (n (wantedCount xs, r .1, r .0, r .2))
+      go false e = let r = right-list xs bs e in absurd (n (wantedCount xs, r .1, r .0, r .2))
 
   as-get : (xs bs : List ℕ) → RightList xs bs → (a : ℕ) → cause geo (get a) st ≢ 0 → cause geo (get a) st ≢ 6 → cause geo (getList xs bs) st ≡ cause geo (get a) st
   as-get xs bs r a = rw (get-rows a, list-rows xs bs r) (go (eqb shared 0) (not (isData geo (st .rec .blocks) a)) (some (λ i. not (isData geo (st .rec .blocks) (wantedAt xs i))) (wantedCount xs)))
@@ -95,18 +90,13 @@ module _ (geo : Geometry) (st : State) where
       go true false w e k = absurd (omega arith)
       go false u w e k = k
 
-  right : (xs bs : List ℕ) → RightList xs bs → (a : ℕ) → cause geo (get a) st ≡ 0 → ((i : ℕ) → 4 * i < length xs → cause geo (get (addressAt xs i)) st ≡ 0) → cause geo (getList xs bs) st ≡ 0
-  right xs bs r a z all =
-      let n : shared ≡ 0 = open-now (ℕ-discrete shared 0) in
-      let none : some (λ i. not (isData geo (st .rec .blocks) (wantedAt xs i))) (wantedCount xs) ≡ false = none-some _ (wantedCount xs) (λ i h. found i n (all i (omega arith))) in
+  right : (xs bs : List ℕ) → RightList xs bs → shared ≡ 0 → ((i : ℕ) → 4 * i < length xs → cause geo (get (addressAt xs i)) st ≡ 0) → cause geo (getList xs bs) st ≡ 0
+  right xs bs r n all =
+      let none : some (λ i. not (isData geo (st .rec .blocks) (wantedAt xs i))) (wantedCount xs) ≡ false = none-some _ (wantedCount xs) (λ i h. found i (all i (omega arith))) in
       list-rows xs bs r ∙ rw (n, none)
     where
-      open-now : Dec (shared ≡ 0) → shared ≡ 0
-      open-now (yes e) = e
-      open-now (no e) = absurd (e (sym (rw (ne-eqb shared 0 e) at (get-rows a)) ∙ z))
-
-      found : (i : ℕ) → shared ≡ 0 → cause geo (get (addressAt xs i)) st ≡ 0 → not (isData geo (st .rec .blocks) (wantedAt xs i)) ≡ false
-      found i n e = go (not (isData geo (st .rec .blocks) (wantedAt xs i))) (sym (rw (n) at (get-rows (wantedAt xs i))) ∙ rw (← same-at xs i) e)
+      found : (i : ℕ) → cause geo (get (addressAt xs i)) st ≡ 0 → not (isData geo (st .rec .blocks) (wantedAt xs i)) ≡ false
+      found i e = go (not (isData geo (st .rec .blocks) (wantedAt xs i))) (sym (rw (n) at (get-rows (wantedAt xs i))) ∙ rw (← same-at xs i) e)
         where
           go : (t : Bool) → _≡_ {A = ℕ} (cond t 6 0) 0 → t ≡ false
           go true k = absurd (omega arith)
@@ -117,8 +107,12 @@ module _ (geo : Geometry) (st : State) where
   fills : (xs bs : List ℕ) → cause geo (getList xs bs) st ≡ 0 → Fills geo xs bs st
   fills xs bs z = record {
     number = ap (λ (l : Listing). l .number) is;
-    any = λ n. ap (λ (l : Listing). l .slots) is ∙ walk-length geo xs bs st z ∙ rw (ne-eqb (length xs) 0 (λ e. n (no-bytes xs e)));
+    any = λ n. ap (λ (l : Listing). l .slots) is ∙ walk-length geo xs bs st z ∙ rw (ne-eqb (length xs) 0 (λ e. n (drop-of-length-le xs {i = 0} (omega arith))));
     none = λ e. ap (λ (l : Listing). l .slots) is ∙ walk-length geo xs bs st z ∙ rw (e);
+    counted = ap (λ (l : Listing). l .slots) is;
+    walks = λ n i h.
+        let many : wantedCount xs ≢ 0 = λ e. n (drop-of-length-le xs {i = 0} (omega (arith, f .whole))) in
+        rw (ne-eqb _ 0 many) (getD-upTo (slotAddress (st .settled)) (st .rec .logged) i 0 h);
     size = ap (λ (l : Listing). length (l .blocks)) is ∙ length-joined _ blockBytes (wantedCount xs) sizes ∙ sym (f .room);
     served = λ i h. rw (same-at xs i) (f .gets i (place i h));
     block = λ i h. ap (λ (l : Listing). take 512 (drop (512 * i) (l .blocks))) is ∙ joined-part _ blockBytes (wantedCount xs) i sizes (place i h) ∙ ap (λ (a : ℕ). blockOf geo a st) (sym (same-at xs i));
@@ -128,7 +122,7 @@ module _ (geo : Geometry) (st : State) where
       f = list-facts geo xs bs st z
 
       is : listing geo xs bs st ≡ listingOf 0 (length (listWalk xs st)) (shown geo xs st)
-      is = sym (listing-served geo xs bs st 0 _ _ (sym z) refl refl refl)
+      is = sym (listing-served geo xs bs st _ _ z refl refl)
 
       place : (i : ℕ) → 4 * i < length xs → i < wantedCount xs
       place i h = omega (arith, f .whole)
@@ -136,12 +130,9 @@ module _ (geo : Geometry) (st : State) where
       sizes : (i : ℕ) → i < wantedCount xs → length (blockOf geo (wantedAt xs i) st) ≡ blockBytes
       sizes i h = block-length geo (wantedAt xs i) st (f .gets i h)
 
-      no-bytes : (l : List ℕ) → length l ≡ 0 → l ≡ []
-      no-bytes [] e = refl
-      no-bytes (x ∷ l) e = absurd (omega arith)
-
 module _ (geo : Geometry) where
   pub listed-gets : (xs bs : List ℕ) (st : State) → ListedGets geo xs bs st
+  unfolding shared
   listed-gets xs bs st = record {
     lengths = lengths geo st xs bs;
     as-get = as-get geo st xs bs;
