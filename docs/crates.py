@@ -18,7 +18,7 @@ CRATES = {
     "crash": (120, 340, THEORY, "what a cut leaves"),
     "firmware": (340, 250, CODE, "C functions"),
     "inspect": (330, 340, CODE, "tally, alike"),
-    "store": (540, 340, CODE, "record, ten calls"),
+    "store": (540, 340, CODE, "record, the calls"),
     "script": (530, 250, CODE, "lines and answers"),
     "journal": (430, 430, CODE, "write-ahead log"),
     "card": (430, 520, CODE, "settled and waiting"),

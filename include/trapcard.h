@@ -143,9 +143,9 @@ uint32_t trapcard_get(const uint8_t *record, size_t record_len, const uint8_t *s
 /* A list of gets: the newest block at each address, copied out in the order listed. `addresses` are 4 bytes each, little-endian, 0 to
  * TRAPCARD_LIST of them, repeats allowed; `blocks` is TRAPCARD_BLOCK bytes for each. Every block is what trapcard_get finds. Returns 0,
  * 1 to 4 or 6: 1 also if addresses_len is no multiple of 4 or over 4 * TRAPCARD_LIST, or if blocks_len is not TRAPCARD_BLOCK for each
- * address; 6 if any address is not a data block. Refused, nothing is copied. *slots: the slots of the log that were read for it: all of them for a
- * list with any address that is served, else 0. Changes `blocks` and nothing else. `blocks` may be read as long as the
- * caller likes: it is a copy. */
+ * address; 6 if any address is not a data block. Refused, nothing is copied. *slots: how many slots of the log were read for it: the
+ * log count if the list is served and has any address, else 0. Changes `blocks` and nothing else; what it copied there stays, whatever
+ * is called next. */
 uint32_t trapcard_get_list(const uint8_t *record, size_t record_len, const uint8_t *settled, size_t settled_len,
                            const uint8_t *waiting, size_t waiting_len, const uint8_t *work, size_t work_len,
                            const uint8_t *addresses, size_t addresses_len, uint8_t *blocks, size_t blocks_len, uint32_t *slots);

@@ -793,7 +793,8 @@ static void corrections(void)
     must(memcmp(held, large, sizeof large) == 0, "tally", "wrote a card");
 }
 
-/* The same card: a list of the addresses in its log, each beside another with the same low bits, up to the card's last block. */
+/* The same card: a list of the addresses in its log, each but the last beside another with the same low bits, the last beside the card's
+ * last block. */
 static void list_of_largest(void)
 {
     uint32_t addresses[TRAPCARD_LIST];

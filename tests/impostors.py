@@ -241,7 +241,7 @@ def last_block_out(settled, listed):
 # ---- a list of gets
 
 def own_list(rec, settled, work, addresses, blocks, find):
-    """Copies the block of each address from where it is found, up to one that is found nowhere."""
+    """Copies the block of each address from where it is found; one that is found nowhere is left out."""
     for i, address in enumerate(model.wanted(addresses)):
         place = find(i, address, *model.lists(rec, settled, work))
         if place:

@@ -96,7 +96,7 @@ FAULTS = (
           True),
     Fault("a list takes the first slot", "journal/wanted", "a == wanted(list, i)", "a == wanted(list, i) && met[i] == 0", True),
     Fault("a list's walk leaves out the last slot", "journal/wanted", "while read < n {", "while read + 1 < n {", True),
-    Fault("a list of 33 addresses is served", "journal/wanted", "MOST_WANTED: usize = 32;", "MOST_WANTED: usize = 33;", True),
+    Fault("a list of 33 addresses is served", "store/get_list", "MOST_WANTED: usize = 32;", "MOST_WANTED: usize = 33;", True),
     Fault("a list leaves out the last entry of open and group", "store/lists", "while i < n {", "while i + 1 < n {", True),
     Fault("a list takes the group over open", "store/get_list", "if opened != 0 {", "if opened != 0 && grouped == 0 {", True),
     Fault("a list takes the log over the group", "store/get_list", "if grouped != 0 {", "if grouped != 0 && logged == 0 {", True),
@@ -127,8 +127,8 @@ FAULTS = (
 
 
 class Blind(Bench):
-    """The library alone, along lists of calls from a format, beside the plain disk, and an inquiry beside the library's own call: the model
-    is asked for nothing."""
+    """The library alone, along lists of calls from a format, beside the plain disk, an inquiry beside the library's own call and a list
+    of gets beside its own gets: the model is asked for nothing."""
 
     def bytes_of(self, name):
         return self.lent[name].read()

@@ -43,8 +43,8 @@ pub record BytesOf (f : Face) (st : State) : Type 0 where
   pub work : f .work ≡ st .work
 
 module _ (geo : Geometry) where
-  -- a call through C: the store's number, its orders, the place of a get, what a list of them hands out, and the bytes of what it leaves. W-202: an inquiry made before it
-  -- gives the store's number and figures, and has no lent byte to change
+  -- a call through C: the store's number, its orders, the place of a get, what a list of them hands out, and the bytes of what it leaves.
+  -- W-202: an inquiry made before it gives the store's number and figures, and has no lent byte to change
   pub record Links (c : Call) (f : Face) (st : State) : Type 0 where
     pub number : faceNext geo c f .number ≡ dispatch geo c st .answer
     pub orders : faceNext geo c f .orders ≡ dispatch geo c st .orders

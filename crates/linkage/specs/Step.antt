@@ -1,4 +1,5 @@
--- One call of a list as C makes it: the step of `linked`, the place of a get and what a list of gets hands out. W-202: the call that an inquiry is about.
+-- One call of a list as C makes it: the step of `linked`, the place of a get and what a list of gets hands out. W-202: the call that an
+-- inquiry is about.
 use Prim.Native.Nat.{ℕ}
 use mathlib.Core.List.{List}
 use Rattle.firmware.specs.Face.{Face, Got, gotOf, got, listed, Asked, asked}

@@ -1,4 +1,4 @@
--- Refusals, of the ten calls on any inputs whatever. A call comes to its refusal, to an outcome without orders, or to its orders carried
+-- Refusals, of the ten calls and of lists of gets on any inputs whatever. A call comes to its refusal, to an outcome without orders, or to its orders carried
 -- out: batches that fit the queue, since nothing waits before them.
 use Prim.Native.Nat.{ℕ, _+_, _-_, _≤_, _<_}
 use mathlib.Core.Path.{_≡_, refl, ap, sym, _∙_}

@@ -1,5 +1,5 @@
 -- What a call comes to: refused; or, where nothing refuses it, done without orders, or its orders carried out. `form` is the list of the
--- ten calls by which the lengths of the buffers and the theorem of refusals go.
+-- calls by which the lengths of the buffers and the theorem of refusals go.
 use Prim.Native.Nat.{ℕ, zero, suc, _+_}
 use mathlib.Core.Path.{_≡_, refl, ap, sym, _∙_}
 use mathlib.Core.Logic.{_≢_}
