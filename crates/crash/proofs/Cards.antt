@@ -16,7 +16,7 @@ use Rattle.card.specs.Disk.{Disk, overlay}
 use Rattle.card.proofs.Overlays.{overlay-append, overlay-agree}
 use Rattle.journal.specs.Geometry.{Geometry}
 use Rattle.journal.specs.Layout.{headerAt, describedIn, describedAt, slotAt, firstData, isData}
-use Rattle.journal.specs.Header.{encode, header, emptyHeader}
+use Rattle.journal.specs.Header.{encode, decode, header, emptyHeader}
 use Rattle.journal.specs.Log.{sumOf, allData, good}
 use Rattle.journal.proofs.Logs.{sumOf-nil, sumOf-append, allData-append}
 use Rattle.journal.proofs.Choices.{both}
@@ -28,9 +28,9 @@ abbrev pub Every : ℕ → Type 0
 Every a = Unit {0}
 
 module _ (geo : Geometry) where
-  -- block 0 is a header of ours, with the save number k
+  -- block 0 reads as a header of ours, with the save number k; what its last bytes hold plays no part
   pub record HasHeader (d : Disk) (N p ps c ns k : ℕ) : Type 0 where
-    pub block : d headerAt ≡ encode (header N p ps c ns k)
+    pub reads : decode (d headerAt) ≡ decode (encode (header N p ps c ns k))
     pub ordered : p ≤ c
     pub most : c ≤ geo .slots
     pub presum : ps < 2 ^ 64
@@ -86,7 +86,7 @@ module _ (geo : Geometry) where
     p = r .p;
     ps = r .ps;
     head = record {
-      block = h ∙ r .head .block ∙ ap (λ (x : List Entry). encode (header N (r .p) (r .ps) n (sumOf start x) (S .groups))) (sym l);
+      reads = ap decode h ∙ r .head .reads ∙ ap (λ (x : List Entry). decode (encode (header N (r .p) (r .ps) n (sumOf start x) (S .groups)))) (sym l);
       ordered = r .head .ordered;
       most = r .head .most;
       presum = r .head .presum;
@@ -119,7 +119,7 @@ module _ (geo : Geometry) where
           c = r .c;
           ns = r .ns;
           head = record {
-            block = low headerAt (omega arith) ∙ r .head .block ∙ ap (λ (x : List Entry). encode (header N n (sumOf start x) (r .c) (r .ns) (S .groups + 1))) (sym l);
+            reads = ap decode (low headerAt (omega arith)) ∙ r .head .reads ∙ ap (λ (x : List Entry). decode (encode (header N n (sumOf start x) (r .c) (r .ns) (S .groups + 1)))) (sym l);
             ordered = r .head .ordered;
             most = r .head .most;
             presum = rw l (r .head .presum);
@@ -157,7 +157,7 @@ module _ (geo : Geometry) where
 
     pub append-head : HasHeader e N n h (n + length G) (sumOf h G) (k + 1)
     append-head = record {
-      block = t .head;
+      reads = ap decode (t .head);
       ordered = omega arith;
       most = t .room;
       presum = rw (t .sum) (sum-lt (logD geo d n));
@@ -240,7 +240,7 @@ module _ (geo : Geometry) where
     p = 0;
     ps = start;
     head = record {
-      block = h ∙ ap (λ (x : ℕ). encode (header N 0 start 0 x (S .groups))) (sym (sumOf-nil start));
+      reads = ap decode (h ∙ ap (λ (x : ℕ). encode (header N 0 start 0 x (S .groups))) (sym (sumOf-nil start)));
       ordered = omega arith;
       most = omega arith;
       presum = lib.Dec.lit< tt;
@@ -253,13 +253,13 @@ module _ (geo : Geometry) where
     disk = s;
   }
 
-  -- ---- a fallback's header
+  -- ---- a fallback's header, over a card whose first n entries are all data blocks'
 
-  pub fallen : (X Y : ℕ → Type 0) (N : ℕ) (d e : Disk) (w : List Entry) (S : Laid) (n : ℕ)
+  pub fallen : (X Y : ℕ → Type 0) (N : ℕ) (d e : Disk) (S : Laid) (n : ℕ) → n ≤ geo .slots → S .groups < 2 ^ 64 → allData geo N (logD geo d n) ≡ true
+      → ((a : ℕ) → isData geo N a ≡ true → X a → S .disk a ≡ overlay (logD geo d n) d a)
       → e headerAt ≡ encode (header N n (sumOf start (logD geo d n)) n (sumOf start (logD geo d n)) (S .groups))
-      → ((a : ℕ) → a < firstData geo → a ≢ headerAt → e a ≡ d a) → ((a : ℕ) → isData geo N a ≡ true → Y a → X a × (e a ≡ d a)) → FallCard X N d w S n → WholeCard Y N e (logD geo d n) S n
-  fallen X Y N d e w S n h low homes r =
-      let m : n ≤ geo .slots = omega (arith, r .head .ordered, r .head .most) in
+      → ((a : ℕ) → a < firstData geo → a ≢ headerAt → e a ≡ d a) → ((a : ℕ) → isData geo N a ≡ true → Y a → X a × (e a ≡ d a)) → WholeCard Y N e (logD geo d n) S n
+  fallen X Y N d e S n m small all under h low homes =
       let l : logD geo e n ≡ logD geo d n =
       same-log geo n e d (record {
         addresses = λ i q. ap (λ (b : List ℕ). cell 4 b (describedAt i)) (low (describedIn i) (omega (arith, geo .described)) (λ z. omega arith));
@@ -269,15 +269,15 @@ module _ (geo : Geometry) where
         p = n;
         ps = sumOf start (logD geo d n);
         head = record {
-          block = h ∙ ap (λ (x : List Entry). encode (header N n (sumOf start (logD geo d n)) n (sumOf start x) (S .groups))) (sym l);
+          reads = ap decode (h ∙ ap (λ (x : List Entry). encode (header N n (sumOf start (logD geo d n)) n (sumOf start x) (S .groups))) (sym l));
           ordered = omega arith;
           most = m;
           presum = sum-lt (logD geo d n);
           sum = sum-lt (logD geo e n);
-          save = let next : S .groups + 1 < 2 ^ 64 = r .head .save in omega arith;
+          save = small;
           numbered = λ z. (refl, ap (sumOf start) (sym l));
         };
-        all = rw l (r .all);
+        all = rw l all;
         same = sym l;
-        disk = λ a q y. rw l (r .disk a q (homes a q y .0) ∙ sym (overlay-agree (logD geo d n) e d a (homes a q y .1)));
+        disk = λ a q y. rw l (under a q (homes a q y .0) ∙ sym (overlay-agree (logD geo d n) e d a (homes a q y .1)));
       }

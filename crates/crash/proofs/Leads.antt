@@ -65,7 +65,7 @@ module _ (geo : Geometry) where
   -- a header on the card is read as it was written
   pub read-head : (s : List ℕ) (N p ps c ns k : ℕ) → N < 2 ^ 32 → HasHeader geo (blockAt s) N p ps c ns k → headerOf s ≡ header N p ps c ns k
   read-head s N p ps c ns k l h =
-      ap decode (h .block)
+      h .reads
       ∙ decode-encode (header N p ps c ns k)
       (omega (arith, l, h .ordered, h .most, h .presum, h .sum, h .save, geo .addressed))
 
@@ -144,10 +144,11 @@ module _ (geo : Geometry) where
 
   pub fallen-card : {X Y : ℕ → Type 0} {N : ℕ} {s : List ℕ} {q₀ w : List Entry} {S : Laid} {n : ℕ} (b : Behind X Y N s q₀ w S n true) (t ms : List ℕ)
       → Leaves N ms (q₀ ++ (headerEntry (fallHeader N s n (S .groups)) ∷ [])) (blockAt s) (blockAt t) → keptAt ms (length q₀) ≡ true → WholeCard geo Y N (blockAt t) (logD geo (blockAt s) n) S n
-  fallen-card {X = X} {Y = Y} {N = N} {s = s} {w = w} {S = S} {n = n} b t ms v k =
-      fallen geo X Y N (blockAt s) (blockAt t) w S n (kept-one b t ms (fallHeader N s n (S .groups)) v k)
+  fallen-card {X = X} {Y = Y} {N = N} {s = s} {S = S} {n = n} b t ms v k =
+      let r = b .card in
+      fallen geo X Y N (blockAt s) (blockAt t) S n (omega (arith, r .head .ordered, r .head .most)) (omega (arith, r .head .save)) (r .all) (r .disk) (kept-one b t ms (fallHeader N s n (S .groups)) v k)
       (λ a l z. low-left b t ms (headerEntry (fallHeader N s n (S .groups)) ∷ []) v a l (z, tt))
-      (λ a q y. home-left b t ms (headerEntry (fallHeader N s n (S .groups)) ∷ []) v a q y (not-header b t ms (fallHeader N s n (S .groups)) a q)) (b .card)
+      (λ a q y. home-left b t ms (headerEntry (fallHeader N s n (S .groups)) ∷ []) v a q y (not-header b t ms (fallHeader N s n (S .groups)) a q))
 
   -- ---- a checkpoint
 

@@ -4,6 +4,7 @@ pub mod Local
 pub mod Cut
 pub mod CallEnds
 pub mod Notes
+pub mod Ends
 pub mod Gives
 pub mod Worlds
 pub mod Checkpoints

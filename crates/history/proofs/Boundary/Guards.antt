@@ -96,7 +96,7 @@ module _ (geo : Geometry) where
     head : HasHeader geo (blockAt (st .settled)) (st .rec .blocks) p ps c ns k
 
   moved : {d e : Disk} {N p ps c ns k : ℕ} → e headerAt ≡ d headerAt → HasHeader geo d N p ps c ns k → HasHeader geo e N p ps c ns k
-  moved h r = record { block = h ∙ r .block; ordered = r .ordered; most = r .most; presum = r .presum; sum = r .sum; save = r .save; numbered = r .numbered }
+  moved h r = record { reads = ap decode h ∙ r .reads; ordered = r .ordered; most = r .most; presum = r .presum; sum = r .sum; save = r .save; numbered = r .numbered }
 
   -- a cut that loses all that waits leaves block 0
   stays : (st : State) (l : Ledger) (d : Plain) → Sim geo st l d → blockAt (lostSettled st) headerAt ≡ blockAt (st .settled) headerAt

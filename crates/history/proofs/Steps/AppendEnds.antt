@@ -23,7 +23,7 @@ use Rattle.journal.proofs.OrderLists.{appendWrites, length-append-writes}
 use Rattle.crash.proofs.Batches.{Left}
 use Rattle.crash.proofs.CallCuts as CallCuts
 use Rattle.crash.proofs.CallCuts.{append-cuts, append-cuts-lost, append-cuts-new, append-cuts-old, append-cuts-kept, append-cuts-whole}
-use Rattle.crash.proofs.Cards.{Every, WholeCard, append-head}
+use Rattle.crash.proofs.Cards.{Every, WholeCard}
 use Rattle.crash.proofs.Leads.{Leads, Appending, ownPlace, foundIn}
 use Rattle.crash.proofs.Logs.{slotE, logD, entries-disk}
 use Rattle.crash.proofs.Appends.{writes-whole, writes-below, length-front, header-none, header-last}
@@ -97,8 +97,7 @@ module _ (geo : Geometry) where
 
     -- block 0 then
     done-head : blockAt (settle W s) headerAt ≡ encode (header N n h (n + length G) (sumOf h G) (S .groups + 1))
-    done-head =
-        append-head geo Every N (blockAt s) (blockAt (settle W s)) n h (S .groups) G (CallCuts.done-append geo x) .block
+    done-head = CallCuts.done-append geo x .head
 
     size-log : length (logD geo (blockAt s) n) ≡ n
     size-log = length-upTo (slotE geo (blockAt s)) n

@@ -29,7 +29,8 @@ use Rattle.history.proofs.Relation.Sim.{Basics, OpenSim, leads-still}
 use Rattle.history.proofs.Relation.PlainLaws.{apply-laid, apply-nothing, apply-finished, apply-short, choose-apply, header-apply}
 use Rattle.history.proofs.Steps.Shown.{WorldSim, StepOK, sim-step, sim-at, same-cause, plain-served, noted-none}
 use Rattle.history.proofs.Steps.Notes.{note-past, noted-end}
-use Rattle.history.proofs.Steps.Gives.{openPlain, countable, open-listed, group-listed, CutsAt, Gives, gives-step}
+use Rattle.history.proofs.Steps.Ends.{openPlain, open-listed, group-listed}
+use Rattle.history.proofs.Steps.Gives.{countable, CutsAt, Gives, gives-step}
 use Rattle.history.proofs.Relation.OpenFacts.{none-waits}
 use Rattle.history.proofs.Steps.Worlds.{settledLedger, plainNow, openWorld, Opened, opened-sim, open-step}
 use Rattle.history.proofs.Steps.Checkpoints.{checkpoint, checkpoint-orders, checkpoint-takes, checkpoint-fits, CheckpointCuts, checkpoint-cuts, emptied-card}
@@ -110,8 +111,6 @@ module _ (geo : Geometry) where
         done = withLog 0 start (st .rec);
         gone = st .rec;
         call = call;
-        none-waits = none-waits geo st (settledLedger v) (plainNow geo st S) b o;
-        fits = checkpoint-fits geo st (settledLedger v) (plainNow geo st S) b o;
         counts = countable geo st rc (st .rec .logged) (st .rec .sum) (rc .log-count);
         headers = applyHeader st ∷ [];
         notes = refl;
@@ -125,13 +124,17 @@ module _ (geo : Geometry) where
         cuts = cuts;
         list = [];
         noted-all = note-past (applyHeader st) [] (takes plan) (settledLedger v) (omega (arith, count)) ∙ noted-end (takes plan) _;
-        mode = o .mode;
-        blocks = refl;
-        opened = open-listed geo st rc (o .mode);
-        grouped = group-listed geo st rc (o .mode);
-        save = b .mirrors .save (o .mode);
-        sum = sym (sumOf-nil start);
-        card = emptied-card geo st (settledLedger v) (plainNow geo st S) b o;
+        ends = record {
+          none-waits = none-waits geo st (settledLedger v) (plainNow geo st S) b o;
+          fits = checkpoint-fits geo st (settledLedger v) (plainNow geo st S) b o;
+          mode = o .mode;
+          blocks = refl;
+          opened = open-listed geo st rc (o .mode);
+          grouped = group-listed geo st rc (o .mode);
+          save = b .mirrors .save (o .mode);
+          sum = sym (sumOf-nil start);
+          card = emptied-card geo st (settledLedger v) (plainNow geo st S) b o;
+        };
         no-get = apply-no-get;
       }
 

@@ -1,6 +1,6 @@
 -- A call that gives the orders of a plan, for any power: done, it leaves an open record; cut short, one that is down.
 use Prim.Native.Nat.{ℕ, _-_, _/_, _≤_, _<_}
-use mathlib.Core.Path.{_≡_, refl, ap, sym, subst, _∙_}
+use mathlib.Core.Path.{_≡_, refl, ap, sym, _∙_}
 use mathlib.Core.Logic.{_⊎_}
 use mathlib.Core.Bool.{true}
 use mathlib.Core.List.{List, []}
@@ -8,60 +8,33 @@ use native.Mathlib.Omega.{arith}
 use native.Mathlib.Decide.{decLe}
 use lib.ListN.{length}
 use Rattle.cells.specs.Entry.{blockBytes, Entry}
-use Rattle.fnv.specs.Fnv.{start}
 use Rattle.crash.specs.Laid.{Laid}
-use Rattle.card.specs.Card.{Card, run, blockAt}
+use Rattle.card.specs.Card.{Card, run}
 use Rattle.card.specs.CodeQueue.{Below}
-use Rattle.card.proofs.All.{All}
 use Rattle.card.proofs.Runs.{queue-below}
 use Rattle.card.specs.Marks.{marksFit}
 use Rattle.card.proofs.MarkLaws.{HeaderLast}
 use Rattle.journal.specs.Geometry.{Geometry}
-use Rattle.journal.specs.Log.{entries, sumOf}
 use Rattle.crash.proofs.Batches.{Left, no-queue}
-use Rattle.crash.proofs.Cards.{Every, WholeCard}
-use Rattle.crash.proofs.Logs.{logD, entries-disk}
 use Rattle.store.specs.declared.record.Record.{Record}
-use Rattle.store.specs.State.{State, Outcome, openMode, down, withMode, withLog, withRecord, withCard, cardIn}
-use Rattle.store.specs.Lists.{openFrom, groupFrom, listOf}
+use Rattle.store.specs.State.{State, Outcome, down, withMode, withLog, withRecord, withCard, cardIn}
 use Rattle.store.specs.Saves.{carried}
 use Rattle.store.proofs.Causes.{SizeFacts, sizes-facts}
 use Rattle.history.specs.Call.{Call, get}
-use Rattle.history.specs.Plain.{Plain, Short, headerWaits, Done, plainStep, cutShort, withS, withLists, withCount, withPower, blankPlain}
+use Rattle.history.specs.Plain.{Plain, Short, headerWaits, Done, plainStep, cutShort}
 use Rattle.history.specs.Dispatch.{dispatch}
 use Rattle.history.specs.Ledger.{PlannedHeader, noted, settledBy}
 use Rattle.history.specs.History.{World, ledgerNext, foundWritten}
-use Rattle.journal.proofs.Logs.{allData-all}
-use Rattle.crash.proofs.Plans.{Plan, planned, takes, settles, Fits, fits-none, Asked, Throughout, rest-none, length-planned, length-settles, plan-done, Stopped, plan-short}
-use Rattle.history.proofs.Relation.Lists.{Data, Distinct}
+use Rattle.crash.proofs.Plans.{Plan, planned, takes, settles, fits-none, Asked, Throughout, length-planned, Stopped, plan-short}
 use Rattle.history.proofs.Relation.CauseLaws.{RecordFacts, facts-sizes, record-facts, facts-record}
 use Rattle.history.proofs.Relation.Sim.{Basics, Sim, CutLeads}
 use Rattle.history.proofs.Steps.Shown.{StepOK, sim-step, sim-at, small-N}
 use Rattle.history.proofs.Steps.CallEnds.{carried-done, carried-short}
+use Rattle.history.proofs.Steps.Ends.{sizes-kept, openPlain, Ends, ends-left, ends-sim}
 
--- ---- sizes stay
+-- ---- what is asked of the record of a call cut short
 
 module _ (geo : Geometry) where
-  sizes-kept : (st st′ : State) → length (st′ .settled) ≡ length (st .settled) → length (st′ .waiting) ≡ length (st .waiting) → st′ .work ≡ st .work → SizeFacts geo st → SizeFacts geo st′
-  sizes-kept st st′ p q e s = record {
-    settled = rw p (s .settled);
-    least = rw p (s .least);
-    most = rw p (s .most);
-    waiting = q ∙ s .waiting;
-    work = ap length e ∙ s .work;
-  }
-
-  -- ---- what is asked of the records
-
-  -- k entries of work memory, with data blocks' addresses, none twice
-  pub record Listed (N : ℕ) (work : List ℕ) (from k : ℕ) : Type 0 where
-    pub count : k ≤ geo .slots
-    pub homes : All (Data geo N) (listOf work from k)
-    pub distinct : Distinct (listOf work from k)
-
-  pub none-listed : (N : ℕ) (work : List ℕ) (from : ℕ) → Listed N work from 0
-  none-listed N work from = record { count = omega arith; homes = tt; distinct = tt }
-
   -- N and the counts of a record that may go down
   pub record Countable (N : ℕ) (r : Record) : Type 0 where
     pub blocks : r .blocks ≡ N
@@ -72,17 +45,6 @@ module _ (geo : Geometry) where
   module _ (st : State) (rc : RecordFacts geo st) where
     pub countable : (n h : ℕ) → n ≤ geo .slots → Countable (st .rec .blocks) (withLog n h (st .rec))
     countable n h l = record { blocks = refl; open-count = rc .open-count; group-count = rc .group-count; log-count = l }
-
-    pub open-listed : st .rec .mode ≡ openMode → Listed (st .rec .blocks) (st .work) openFrom (st .rec .opened)
-    open-listed e = record { count = rc .open-count; homes = rc .lists e .open-data; distinct = rc .lists e .open-distinct }
-
-    pub group-listed : st .rec .mode ≡ openMode → Listed (st .rec .blocks) (st .work) (groupFrom geo) (st .rec .grouped)
-    group-listed e = record { count = rc .group-count; homes = rc .lists e .group-data; distinct = rc .lists e .group-distinct }
-
-  -- the plain disk of an open record, with the data blocks S and the power p
-  abbrev pub openPlain : State → Record → Laid → ℕ → Plain
-  openPlain st r S p =
-      withLists (listOf (st .work) (groupFrom geo) (r .grouped)) (listOf (st .work) openFrom (r .opened)) (withCount (r .logged) (withPower p (withS S (blankPlain (st .rec .blocks)))))
 
 -- ---- what is asked wherever the call can be cut short: how many writes wait, whether a header does, and that every cut leads to what the
 -- plain disk chooses
@@ -104,8 +66,6 @@ module _ (geo : Geometry) where
     pub done : Record
     pub gone : Record
     pub call : dispatch geo c (w .store) ≡ carried (planned plan) done gone (w .store)
-    pub none-waits : w .store .rec .waiting ≡ 0
-    pub fits : All (Fits geo (w .store .rec .blocks) 0) plan
     pub counts : Countable geo (w .store .rec .blocks) gone
     -- the ledger
     pub headers : List PlannedHeader
@@ -122,13 +82,7 @@ module _ (geo : Geometry) where
     -- done
     pub list : List Entry
     pub noted-all : noted headers (takes plan) (w .ledger) ≡ settledBy list
-    pub mode : done .mode ≡ openMode
-    pub blocks : done .blocks ≡ w .store .rec .blocks
-    pub opened : Listed geo (w .store .rec .blocks) (w .store .work) openFrom (done .opened)
-    pub grouped : Listed geo (w .store .rec .blocks) (w .store .work) (groupFrom geo) (done .grouped)
-    pub save : S .groups ≡ done .save
-    pub sum : done .sum ≡ sumOf start (logD geo (blockAt (settles [] plan (w .store .settled))) (done .logged))
-    pub card : WholeCard geo Every (w .store .rec .blocks) (blockAt (settles [] plan (w .store .settled))) list S (done .logged)
+    pub ends : Ends geo (w .store) plan done S list
     pub no-get : (a : ℕ) → c ≡ get a → ⊥
 
   module _ (c : Call) (w : World) (plan : Plan) (b : Basics geo (w .store) (w .plain)) (f : Gives c w plan) where
@@ -151,7 +105,7 @@ module _ (geo : Geometry) where
     rc = record-facts geo st (b .counts)
 
     begins : Left (cardIn st) (cardIn st) (st .settled) [] (st .rec .power)
-    begins = record { settled = refl; waits = no-queue (cardIn st) (f .none-waits); count = f .none-waits; power = refl; room = refl }
+    begins = record { settled = refl; waits = no-queue (cardIn st) (f .ends .none-waits); count = f .ends .none-waits; power = refl; room = refl }
 
     -- its two ends on the store
     done-call : takes plan ≤ P → dispatch geo c st ≡ record { answer = 0; orders = takes plan; state = withCard r (withRecord (f .done) st) }
@@ -159,18 +113,13 @@ module _ (geo : Geometry) where
         let e : length (planned plan) ≡ takes plan = length-planned plan in
         f .call ∙ carried-done (planned plan) (f .done) (f .gone) st (omega arith) ∙ ap (λ (k : ℕ). record { answer = 0; orders = k; state = withCard r (withRecord (f .done) st) }) e
 
-    done-left : takes plan ≤ P → Left (cardIn st) r (settles [] plan (st .settled)) [] (P - takes plan)
-    done-left p =
-        subst (λ (q : List Entry). Left (cardIn st) r (settles [] plan (st .settled)) q (P - takes plan)) (rest-none plan)
-        (plan-done geo N (cardIn st) (small-N geo st (w .plain) b) (sz .waiting) plan (cardIn st) (st .settled) [] P begins (fits-none geo N plan (f .fits)) p)
-
     pub short-call : P < takes plan → dispatch geo c st ≡ record { answer = 4; orders = P; state = withCard r (withRecord (withMode down (f .gone)) st) }
     short-call p =
         let e : length (planned plan) ≡ takes plan = length-planned plan in
         f .call ∙ carried-short (planned plan) (f .done) (f .gone) st (omega arith)
 
     pub stopped : (X : Asked) (k : ℕ) → k ≡ P → P < takes plan → Throughout X [] plan (st .settled) 0 → Stopped geo N (cardIn st) r X (st .settled) k
-    stopped X k e p x = plan-short geo N (cardIn st) (small-N geo st (w .plain) b) (sz .waiting) X plan (cardIn st) (st .settled) [] P 0 k (omega arith) begins tt (fits-none geo N plan (f .fits)) p x
+    stopped X k e p x = plan-short geo N (cardIn st) (small-N geo st (w .plain) b) (sz .waiting) X plan (cardIn st) (st .settled) [] P 0 k (omega arith) begins tt (fits-none geo N plan (f .ends .fits)) p x
 
     shows : (k : ℕ) (o : Outcome) (d : Done) → dispatch geo c st ≡ o → plainStep geo c (foundWritten geo c w) (w .plain) ≡ d → o .answer ≡ d .answer → o .orders ≡ k → d .orders ≡ k
         → Sim geo (o .state) (noted (f .headers) k (w .ledger)) (d .plain) → StepOK geo c w
@@ -187,53 +136,7 @@ module _ (geo : Geometry) where
     done-step : takes plan ≤ P → StepOK geo c w
     done-step p =
         shows (takes plan) _ _ (done-call p) (f .plain-done (omega (arith, b .power))) refl refl refl
-        (sim-at geo refl (f .noted-all) (ap (λ (k : ℕ). openPlain geo st (f .done) (f .S) (k - takes plan)) (b .power)) now)
-      where
-        left : Left (cardIn st) r (settles [] plan (st .settled)) [] (P - takes plan)
-        left = done-left p
-
-        settled-size : length (r .settled) ≡ length (st .settled)
-        settled-size = ap length (left .settled) ∙ length-settles [] plan (st .settled)
-
-        log : entries geo (r .settled) (f .done .logged) ≡ logD geo (blockAt (settles [] plan (st .settled))) (f .done .logged)
-        log = entries-disk geo _ (f .done .logged) ∙ ap (λ (x : List ℕ). logD geo (blockAt x) (f .done .logged)) (left .settled)
-
-        now : Sim geo (withCard r (withRecord (f .done) st)) (settledBy (f .list))
-            (openPlain geo st (f .done) (f .S) (P - takes plan))
-        now = record {
-          basics = record {
-            sizes = facts-sizes geo _ (sizes-kept geo st _ settled-size (left .room) refl sz);
-            counts = facts-record geo _
-                (record {
-                  mode = omega (arith, f .mode);
-                  open-count = f .opened .count;
-                  group-count = f .grouped .count;
-                  log-count = f .card .head .most;
-                  waiting-count = omega (arith, left .count);
-                  waiting-down = λ z. absurd (z (left .count));
-                  blocks = f .blocks ∙ rc .blocks ∙ ap (λ (x : ℕ). x / blockBytes) (sym settled-size);
-                  waiting-below = λ i z. absurd (omega (arith, left .count));
-                  lists = λ z. record {
-                    open-data = rw (f .blocks) (f .opened .homes);
-                    group-data = rw (f .blocks) (f .grouped .homes);
-                    log-data = rw (f .blocks, log) (allData-all geo N _ (f .card .all));
-                    open-distinct = f .opened .distinct;
-                    group-distinct = f .grouped .distinct;
-                  };
-                });
-            mirrors = record { mode = sym (f .mode); N = sym (f .blocks); waiting = sym (left .count); T = λ z. refl; G = λ z. refl; save = λ z. f .save };
-            power = sym (left .power);
-          };
-          phase = _⊎_.inl (record {
-            mode = f .mode;
-            n = refl;
-            F = refl;
-            short = refl;
-            pending = refl;
-            sum = f .sum ∙ ap (sumOf start) (sym log);
-            card = rw (f .blocks, left .settled) (f .card);
-          });
-        }
+        (sim-at geo refl (f .noted-all) (ap (λ (k : ℕ). openPlain geo st (f .done) (f .S) (k - takes plan)) (b .power)) (ends-sim geo st plan (f .done) (f .S) (f .list) (b .sizes) (b .counts) (f .ends) p))
 
     -- with less
     short-step : P < takes plan → StepOK geo c w
@@ -295,4 +198,4 @@ module _ (geo : Geometry) where
         go (no p) = omega arith
 
     pub gives-settled : takes plan ≤ P → dispatch geo c st .state .settled ≡ settles [] plan (st .settled)
-    gives-settled p = ap (λ (o : Outcome). o .state .settled) (done-call p) ∙ done-left p .settled
+    gives-settled p = ap (λ (o : Outcome). o .state .settled) (done-call p) ∙ ends-left geo st plan (f .done) (f .S) (f .list) (b .sizes) (b .counts) (f .ends) p .settled

@@ -40,7 +40,8 @@ use Rattle.crash.proofs.Plans.{Plan, Asked, for-one}
 use Rattle.history.proofs.Relation.Sim.{OpenSim, ClosedSim, DownSim, Sim, leads-still}
 use Rattle.history.proofs.Relation.PlainLaws.{recover-whole, recover-fallback, recover-short, choose-recover-none, choose-recover, header-recover, kept-mark}
 use Rattle.history.proofs.Steps.Shown.{WorldSim, StepOK, same-cause, refused-step, plain-served, noted-none, small-N, big-N, choose-whole, choose-fallback}
-use Rattle.history.proofs.Steps.Gives.{none-listed, countable, CutsAt, Gives, gives-step}
+use Rattle.history.proofs.Steps.Ends.{none-listed}
+use Rattle.history.proofs.Steps.Gives.{countable, CutsAt, Gives, gives-step}
 use Rattle.history.proofs.Steps.Worlds.{settledLedger, plainShut, closedWorld, Closed, closed-sim, idle-closed, closed-world, shut}
 
 recover-no-get : (a : ℕ) → recover ≡ get a → ⊥
@@ -105,8 +106,6 @@ module _ (geo : Geometry) where
       done = reopened n sum (S .groups) (st .rec);
       gone = st .rec;
       call = call _ (choose-whole geo N s small v S n r);
-      none-waits = idle;
-      fits = tt;
       counts = countable geo st rc (st .rec .logged) (st .rec .sum) (rc .log-count);
       headers = recoverHeaders geo st;
       notes = refl;
@@ -118,13 +117,17 @@ module _ (geo : Geometry) where
       cuts = tt;
       list = v;
       noted-all = noted-none (recoverHeaders geo st) (settledLedger v);
-      mode = refl;
-      blocks = refl;
-      opened = none-listed geo _ _ _;
-      grouped = none-listed geo _ _ _;
-      save = refl;
-      sum = ap (sumOf start) (entries-disk geo s n);
-      card = r;
+      ends = record {
+        none-waits = idle;
+        fits = tt;
+        mode = refl;
+        blocks = refl;
+        opened = none-listed geo _ _ _;
+        grouped = none-listed geo _ _ _;
+        save = refl;
+        sum = ap (sumOf start) (entries-disk geo s n);
+        card = r;
+      };
       no-get = recover-no-get;
     }
 
@@ -192,8 +195,6 @@ module _ (geo : Geometry) where
         done = reopened n (sumOf start (logD geo (blockAt s) n)) (S .groups) (st .rec);
         gone = st .rec;
         call = call _ chosen ∙ rw (fallback-writes N n (sumOf start (logD geo (blockAt s) n)) (S .groups));
-        none-waits = idle;
-        fits = (record { few = omega arith; whole = (top-whole, tt); low = (omega (arith, big), tt) }, tt);
         counts = countable geo st rc (st .rec .logged) (st .rec .sum) (rc .log-count);
         headers = recoverHeaders geo st;
         notes = refl;
@@ -205,13 +206,17 @@ module _ (geo : Geometry) where
         cuts = for-one At [] top s 0 (λ i z. subst (At s []) (sym z) still) (λ i z. subst (At s (top ∷ [])) (let q : 1 ≡ i = omega arith in q) headed);
         list = logD geo (blockAt s) n;
         noted-all = ap settledLedger list;
-        mode = refl;
-        blocks = refl;
-        opened = none-listed geo _ _ _;
-        grouped = none-listed geo _ _ _;
-        save = refl;
-        sum = ap (sumOf start) (fallen .same);
-        card = fallen;
+        ends = record {
+          none-waits = idle;
+          fits = (record { few = omega arith; whole = (top-whole, tt); low = (omega (arith, big), tt) }, tt);
+          mode = refl;
+          blocks = refl;
+          opened = none-listed geo _ _ _;
+          grouped = none-listed geo _ _ _;
+          save = refl;
+          sum = ap (sumOf start) (fallen .same);
+          card = fallen;
+        };
         no-get = recover-no-get;
       }
 

@@ -48,7 +48,8 @@ use Rattle.history.proofs.Relation.PlainLaws.{sync-takes, sync-waits-ow
 use Rattle.history.proofs.Steps.Shown.{WorldSim, StepOK, same-cause, plain-served, noted-none}
 use Rattle.history.proofs.Steps.Notes.{note-before, note-at, note-past, noted-end}
 use Rattle.history.proofs.Steps.CallEnds.{carried-done}
-use Rattle.history.proofs.Steps.Gives.{openPlain, Countable, none-listed, countable, open-listed, CutsAt, Gives, gives-step, gives-enough, gives-less, gives-settled, short-call, stopped}
+use Rattle.history.proofs.Steps.Ends.{openPlain, none-listed, open-listed}
+use Rattle.history.proofs.Steps.Gives.{Countable, countable, CutsAt, Gives, gives-step, gives-enough, gives-less, gives-settled, short-call, stopped}
 use Rattle.history.proofs.Relation.OpenFacts as Facts
 use Rattle.history.proofs.Steps.Worlds.{settledLedger, plainNow, openWorld, Opened, opened-sim, open-world, opened, opened-refusal, open-step}
 use Rattle.history.proofs.Steps.Apply.{nothing-step}
@@ -241,8 +242,6 @@ module _ (geo : Geometry) where
         done = withGrouped 0 (withLog (y .n + st .rec .grouped) (sumOf (y .sum) G) (withSave (st .rec .save + 1) (st .rec)));
         gone = cond (leb (length (innerOrders geo st)) (st .rec .power)) (withLog (y .n) (y .sum) (st .rec)) (st .rec);
         call = call ∙ (λ i. saving (y .orders some-G i) (y .record-is i) (raised i));
-        none-waits = none;
-        fits = all-append (Fits geo N 0) (y .front) (W ∷ []) (y .fits) (writes-fit geo (y .meets), tt);
         counts = gone-counts (leb (length (innerOrders geo st)) (st .rec .power));
         headers = syncHeaders geo st;
         notes = refl;
@@ -257,13 +256,17 @@ module _ (geo : Geometry) where
         cuts = cuts;
         list = log ++ G;
         noted-all = note-done;
-        mode = f .sim .mode;
-        blocks = refl;
-        opened = open-listed geo st rc (f .sim .mode);
-        grouped = none-listed geo _ _ _;
-        save = ap (λ (k : ℕ). k + 1) (f .basics .mirrors .save (f .sim .mode));
-        sum = sum-is;
-        card = card-is;
+        ends = record {
+          none-waits = none;
+          fits = all-append (Fits geo N 0) (y .front) (W ∷ []) (y .fits) (writes-fit geo (y .meets), tt);
+          mode = f .sim .mode;
+          blocks = refl;
+          opened = open-listed geo st rc (f .sim .mode);
+          grouped = none-listed geo _ _ _;
+          save = ap (λ (k : ℕ). k + 1) (f .basics .mirrors .save (f .sim .mode));
+          sum = sum-is;
+          card = card-is;
+        };
         no-get = sync-no-get;
       }
 

@@ -20,7 +20,7 @@ use Rattle.history.proofs.Relation.PlainLaws.{plain-eq, ledger-eq}
 use Rattle.history.proofs.Relation.CauseLaws.{record-facts, idle, cause-passes}
 use Rattle.history.proofs.Steps.Shown.{WorldSim, StepOK, same-cause, refused-step}
 use Rattle.history.proofs.Steps.Local.{is-open}
-use Rattle.history.proofs.Steps.Gives.{openPlain}
+use Rattle.history.proofs.Steps.Ends.{openPlain}
 use Rattle.history.proofs.Relation.OpenFacts as Facts
 
 -- every header settled, the last one's list v
