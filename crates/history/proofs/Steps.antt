@@ -14,3 +14,5 @@ pub mod AppendEnds
 pub mod SyncMeets
 pub mod Sync
 pub mod ListInduction
+pub mod Regrouped
+pub mod Reopens

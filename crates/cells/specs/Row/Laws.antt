@@ -8,7 +8,7 @@ use lib.ListN.{length, getD, take, drop, length-append, length-drop, take-append
 use lib.Seq.{sets, sets-eq, take-at, drop-at, drop-drop, length-take-le}
 use Rattle.cells.specs.Cell.Laws.{sets-append, bytes-take, bytes-drop}
 use Rattle.cells.specs.Little.{le, num, Bytes}
-use Rattle.cells.specs.Little.Laws.{length-le, num-le, le-num}
+use Rattle.cells.specs.Little.Laws.{length-le, num-lt, num-le, le-num}
 use Rattle.cells.specs.Row.{Field, total, row, valuesFrom}
 
 pub length-row : {A : Type 0} (fs : List (Field A)) (a : A) → length (row fs a) ≡ total fs
@@ -56,6 +56,21 @@ num-part w b at h l =
     let t : List ℕ = take w (drop at b) in
     let size : length t ≡ w = length-take-le w (drop at b) (rw (length-drop) (omega arith)) in
     ap (λ (k : ℕ). le k (num t)) (sym size) ∙ le-num t (bytes-take w (drop at b) (bytes-drop at b h))
+
+-- and fits them
+num-fits : (w : ℕ) (b : List ℕ) (at : ℕ) → Bytes b → at + w ≤ length b → num (take w (drop at b)) < 256 ^ w
+num-fits w b at h l =
+    let t : List ℕ = take w (drop at b) in
+    let size : length t ≡ w = length-take-le w (drop at b) (rw (length-drop) (omega arith)) in
+    rw size at (num-lt t (bytes-take w (drop at b) (bytes-drop at b h)))
+
+-- numbers that were read from bytes fit their widths
+pub values-fit : {A : Type 0} (fs : List (Field A)) (at : ℕ) (a : A) (b : List ℕ) → valuesOf fs a ≡ valuesFrom fs at b → Bytes b → at + total fs ≤ length b → Fits fs a
+values-fit [] at a b e h l = tt
+values-fit (f ∷ fs) at a b e h l =
+    let first : f .1 a ≡ num (take (f .0) (drop at b)) = ap (λ (vs : List ℕ). getD vs 0 0) e in
+    let others : valuesOf fs a ≡ valuesFrom fs (at + f .0) b = ap (drop 1) e in
+    (rw first (num-fits (f .0) b at h (omega arith)), values-fit fs (at + f .0) a b others h (omega arith))
 
 row-from : {A : Type 0} (fs : List (Field A)) (at : ℕ) (a : A) (b : List ℕ) → valuesOf fs a ≡ valuesFrom fs at b → Bytes b → length b ≡ at + total fs
     → row fs a ≡ drop at b
