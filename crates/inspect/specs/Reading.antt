@@ -23,9 +23,13 @@ module _ (geo : Geometry) where
   abbrev pub laid : List ℕ → ℕ → Disk
   laid s n = overlay (entries geo s n) (blockAt s)
 
+  -- the count of the chosen log: n, or p where it falls back
+  abbrev pub chosenCount : List ℕ → ℕ
+  chosenCount s = takenCount (chosen s)
+
   -- "after the log is laid over": the list that was chosen
   abbrev pub laidOver : List ℕ → Disk
-  laidOver s = laid s (takenCount (chosen s))
+  laidOver s = laid s (chosenCount s)
 
   -- "Data blocks are addresses 34 to N−1": how many
   abbrev pub dataBlocks : ℕ → ℕ

@@ -1,24 +1,11 @@
-// A card as recover would find it: its size, the list chosen, and each block with that list laid over.
+// A card as recover would find it: its size, and the list chosen.
 use card::settled::blocks_in;
-use card::settled::read;
 use journal::choice::Choice;
 use journal::choice::choose;
-use journal::log::slot_address;
-use journal::log::slot_block;
-use journal::lookup::Found;
-use journal::lookup::last_slot;
 use journal::size::wrong_size;
 ghost use mathlib.Core.Path.{_≡_};
-ghost use Prim.Native.Nat.{_≤_, _<_};
-ghost use lib.ListN.{length};
-ghost use Rattle.cells.specs.Entry.{blockBytes};
-ghost use Rattle.card.specs.Card.{blocksIn};
 ghost use Rattle.journal.specs.Geometry.{trap};
-ghost use Rattle.journal.specs.declared.lookup.Found.the-variants.{Absent};
-ghost use Rattle.journal.specs.Layout.{firstData};
-ghost use Rattle.journal.specs.Lookup.{lastSlot};
-ghost use Rattle.inspect.specs.Reading.{laid};
-ghost use Rattle.inspect.specs.CodeReading.{Read, Marked};
+ghost use Rattle.inspect.specs.CodeReading.{Read};
 
 // A card that was read: the refusal, or 0; and where it is 0, N and the count of the list taken.
 pub struct Reading {
@@ -63,51 +50,4 @@ pub(crate) fn inspect(settled: &[u8]) -> Reading
         Choice::Foreign => refused(8),
         Choice::Neither => refused(9),
     }
-}
-
-// The block at an address with the first n entries laid over: the log's last slot with that address, else the home block.
-pub(crate) fn laid_block<'a>(settled: &'a [u8], a: u32, n: u32) -> &'a [u8]
-    requires { ⌜ firstData trap < blocksIn (now settled) ⌝ }
-    requires { ⌜ a < blocksIn (now settled) ⌝ }
-    requires { ⌜ n ≤ trap .slots ⌝ }
-    ensures { λ r. ⌜ now r ≡ laid trap (now (settled .entry)) n a ⌝ }
-    ensures { λ r. ⌜ length (now r) ≡ blockBytes ⌝ }
-{
-    let Found::At(i) = last_slot(settled, a, n) else {
-        return read(settled, a);
-    };
-    slot_block(settled, i)
-}
-
-// The buckets that addresses fall into, by their low bits.
-pub(crate) const BUCKETS: usize = 128;
-
-// Marks the bucket of each of the log's first n addresses.
-pub(crate) fn mark_slots(marks: &mut [u8], settled: &[u8], n: u32)
-    requires { ⌜ length (now marks) ≡ 128 ⌝ }
-    requires { ⌜ firstData trap < blocksIn (now settled) ⌝ }
-    requires { ⌜ n ≤ trap .slots ⌝ }
-    ensures { λ _. ⌜ Marked (now (settled .entry)) (now (marks .exit)) n ⌝ }
-{
-    let mut i = 0;
-    while i < n {
-        let bucket = slot_address(settled, i) as usize % BUCKETS;
-        marks[bucket] = 1;
-        i += 1;
-    }
-}
-
-// The same block as laid_block's: the log is searched only where the address's bucket is marked.
-pub(crate) fn marked_block<'a>(settled: &'a [u8], a: u32, n: u32, mark: u8) -> &'a [u8]
-    requires { ⌜ firstData trap < blocksIn (now settled) ⌝ }
-    requires { ⌜ a < blocksIn (now settled) ⌝ }
-    requires { ⌜ n ≤ trap .slots ⌝ }
-    requires { ⌜ (mark ≡ 0 → lastSlot (now settled) a n ≡ Absent) ⌝ }
-    ensures { λ r. ⌜ now r ≡ laid trap (now (settled .entry)) n a ⌝ }
-    ensures { λ r. ⌜ length (now r) ≡ blockBytes ⌝ }
-{
-    if mark == 0 {
-        return read(settled, a);
-    }
-    laid_block(settled, a, n)
 }
