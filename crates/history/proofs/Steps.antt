@@ -16,3 +16,4 @@ pub mod Sync
 pub mod ListInduction
 pub mod Regrouped
 pub mod Reopens
+pub mod Twins

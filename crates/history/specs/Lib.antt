@@ -11,5 +11,6 @@ pub mod Scripts
 pub mod Refusals
 pub mod Costs
 pub mod GetLists
+pub mod AlikeCards
 pub mod Linked
 pub mod Worked

@@ -1,0 +1,78 @@
+-- W-208: what alike promises of the calls to come. "two that read alike behaved differently on the next save since one log was nearly full": two
+-- cards that are alike come to the same at every call, and stay alike, until a cut.
+use Prim.Native.Nat.{ℕ, _≤_}
+use mathlib.Core.Path.{_≡_}
+use mathlib.Core.Logic.{_≢_}
+use mathlib.Core.Bool.{true}
+use mathlib.Core.List.{List, [], _∷_}
+use Rattle.cells.specs.Little.{Bytes}
+use Rattle.journal.specs.Geometry.{Geometry}
+use Rattle.journal.specs.Header.{mostSave}
+use Rattle.store.specs.State.{State, closed, openMode, withSave}
+use Rattle.store.specs.Get.{blockOf}
+use Rattle.store.specs.GetList.{listing}
+use Rattle.inspect.specs.Alike.{alikeOf}
+use Rattle.history.specs.Call.{Call, power, recover, cut}
+use Rattle.history.specs.Dispatch.{dispatch}
+use Rattle.history.specs.Cuts.{firstRows}
+
+module _ (geo : Geometry) where
+  -- a card lent with a closed record that passes 1 and 2
+  pub record Shut (st : State) : Type 0 where
+    pub mode : st .rec .mode ≡ closed
+    pub passes : firstRows geo st ≡ 0
+    pub bytes : Bytes (st .settled)
+
+  -- two cards that alike says yes of. What the two records hold beside, and their waiting and work bytes, may be unlike
+  pub record Clones (a b : State) : Type 0 where
+    pub first : Shut a
+    pub second : Shut b
+    pub alike : alikeOf geo (a .settled) (b .settled) .yes ≡ true
+
+  -- ---- a list of calls
+
+  -- what it leaves
+  unfoldable pub left : List Call → State → State
+  left [] st = st
+  left (c ∷ cs) st = left cs (dispatch geo c st .state)
+
+  -- it goes without a cut: none of it is accepted
+  abbrev pub Uncut : List Call → State → Type 0
+  Uncut [] st = Unit {0}
+  Uncut (c ∷ cs) st = ((ms : List ℕ) → c ≡ cut ms → dispatch geo c st .answer ≢ 0) × Uncut cs (dispatch geo c st .state)
+
+  -- a recover, then the power set
+  abbrev pub recovered : ℕ → State → State
+  recovered k st = dispatch geo (power k) (dispatch geo recover st .state) .state
+
+  -- behind a recover that is done, the power set to k, and the calls cs, without a cut; and the save number is not the largest then
+  pub record Reaches (k : ℕ) (cs : List Call) (st : State) : Type 0 where
+    pub done : dispatch geo recover st .answer ≡ 0
+    pub uncut : Uncut cs (recovered k st)
+    pub number : left cs (recovered k st) .rec .save ≢ mostSave
+
+  -- ---- what is the same
+
+  -- a call's answer and orders; and what a get made there, or a list of gets, hands out, whatever it asks for
+  pub record SameAt (c : Call) (a b : State) : Type 0 where
+    pub answer : dispatch geo c a .answer ≡ dispatch geo c b .answer
+    pub orders : dispatch geo c a .orders ≡ dispatch geo c b .orders
+    pub block : (x : ℕ) → blockOf geo x a ≡ blockOf geo x b
+    pub list : (xs bs : List ℕ) → listing geo xs bs a ≡ listing geo xs bs b
+
+  -- the cards are alike again, and the records the same but for the save number
+  pub record StillAlike (a b : State) : Type 0 where
+    pub alike : alikeOf geo (a .settled) (b .settled) .yes ≡ true
+    pub rec : withSave 0 (a .rec) ≡ withSave 0 (b .rec)
+
+  pub record AlikeCards (a b : State) : Type 0 where
+    -- with power enough, two orders always, both are recovered
+    pub recovers : (2 ≤ a .rec .power → dispatch geo recover a .answer ≡ 0) × (2 ≤ b .rec .power → dispatch geo recover b .answer ≡ 0)
+    -- then, with the same power and behind the same calls, every call comes to the same, a cut too
+    pub same : (k : ℕ) (cs : List Call) → Reaches k cs a → Reaches k cs b → (c : Call) → SameAt c (left cs (recovered k a)) (left cs (recovered k b))
+    -- and while open they are still alike
+    pub still : (k : ℕ) (cs : List Call) → Reaches k cs a → Reaches k cs b → left cs (recovered k a) .rec .mode ≡ openMode
+        → StillAlike (left cs (recovered k a)) (left cs (recovered k b))
+
+  abbrev pub AllAlikeCards : Type 0
+  AllAlikeCards = (a b : State) → Clones a b → AlikeCards a b
