@@ -101,6 +101,9 @@ module _ (geo : Geometry) where
       let blocks : blockAt a (slotAt geo i) ≡ blockAt b (slotAt geo i) = ap (λ (x : Entry). x .block) e in
       rw (eq-eqb (slotAddress a i) (slotAddress b i) (ap (λ (x : Entry). x .address) e), blocks) (same-self (blockAt b (slotAt geo i)))
 
+  slots-equal : (a b : List ℕ) (n : ℕ) → sameSlots geo a b n ≡ true → (i : ℕ) → i < n → slotEntry geo a i ≡ slotEntry geo b i
+  slots-equal a b n e i h = slot-equal a b i (each-passes (each-slot a b) n e i h)
+
   -- a slot's two addresses and two blocks, as they were read
   pub slot-read : (a b : List ℕ) (i x y : ℕ) (u v : List ℕ) (t : Bool) → x ≡ slotAddress a i → y ≡ slotAddress b i
       → u ≡ blockAt a (slotAt geo i) → v ≡ blockAt b (slotAt geo i) → t ≡ same u v → eqb x y && t ≡ sameSlot geo a b i
@@ -109,22 +112,26 @@ module _ (geo : Geometry) where
 
   -- ---- a block as laid, where the same n entries are laid over both
 
+  -- the block in the slot that was found, or another
+  abbrev slotOr : List ℕ → Found → List ℕ → List ℕ
+  slotOr a r d = foundIn r (λ k. blockAt a (slotAt geo k)) d
+
   module _ (a b : List ℕ) (n x : ℕ) (e : sameSlots geo a b n ≡ true) where
     entries-equal : entries geo b n ≡ entries geo a n
-    entries-equal = ext-upTo (slotEntry geo b) (slotEntry geo a) n (λ i h. sym (slot-equal a b i (each-passes (each-slot a b) n e i h)))
+    entries-equal = ext-upTo (slotEntry geo b) (slotEntry geo a) n (λ i h. sym (slots-equal a b n e i h))
 
     -- the two blocks, by what a search of the first log finds
     laid-found : (r : Found) → lastSlot a x n ≡ r
-        → same (laid geo a n x) (laid geo b n x) ≡ same (foundIn r (λ k. blockAt a (slotAt geo k)) (blockAt a x)) (foundIn r (λ k. blockAt a (slotAt geo k)) (blockAt b x))
+        → same (laid geo a n x) (laid geo b n x) ≡ same (slotOr a r (blockAt a x)) (slotOr a r (blockAt b x))
     laid-found r p =
         ap₂ same (over (blockAt a)) (ap (λ (es : List Entry). overlay es (blockAt b) x) entries-equal ∙ over (blockAt b))
       where
-        over : (d : Disk) → overlay (entries geo a n) d x ≡ foundIn r (λ k. blockAt a (slotAt geo k)) (d x)
-        over d = overlay-slots geo a n d x ∙ ap (λ (q : Found). foundIn q (λ k. blockAt a (slotAt geo k)) (d x)) p
+        over : (d : Disk) → overlay (entries geo a n) d x ≡ slotOr a r (d x)
+        over d = overlay-slots geo a n d x ∙ ap (λ (q : Found). slotOr a q (d x)) p
 
     -- equal at home
     pub home-same : same (blockAt a x) (blockAt b x) ≡ true → true ≡ same (laid geo a n x) (laid geo b n x)
-    home-same h = sym (laid-found (lastSlot a x n) refl ∙ rw (same-equal (blockAt a x) (blockAt b x) h) (same-self (foundIn (lastSlot a x n) (λ k. blockAt a (slotAt geo k)) (blockAt b x))))
+    home-same h = sym (laid-found (lastSlot a x n) refl ∙ rw (same-equal (blockAt a x) (blockAt b x) h) (same-self (slotOr a (lastSlot a x n) (blockAt b x))))
 
     -- in the log
     pub logged-same : (i : ℕ) → lastSlot a x n ≡ At i → true ≡ same (laid geo a n x) (laid geo b n x)
@@ -199,7 +206,7 @@ module _ (geo : Geometry) where
             second = r .1;
             blocks = eqb-true _ _ (q .0);
             count = eqb-true _ _ (q .1);
-            slots = λ i h. slot-equal a b i (each-passes (each-slot a b) (chosenCount geo a) (s .1) i h);
+            slots = slots-equal a b (chosenCount geo a) (s .1);
             laid = λ x h. data-at x h (d .1);
           }
         where

@@ -8,6 +8,7 @@ use Rattle.inspect.proofs.Comparisons.{slots-unlike, slots-same}
 use Rattle.inspect.proofs.alike.same_contents.Statement.{statement}
 use Rattle.inspect.proofs.alike.same_contents.Tie as tie
 
+-- by the trap's number too, so that a wrong count that fits fails in what is returned
 same-slots-requires : tie.Need-same-slots-requires
 same-slots-requires c κs = let room = trap-slots in omega arith
 

@@ -1,7 +1,6 @@
 -- `inspect::alike::same_slot` meets its contract.
 use borrow.Author.Needs.{needs}
 use Rattle.journal.specs.Geometry.{trap}
-use Rattle.journal.specs.Layout.{slotAt}
 use Rattle.journal.proofs.Logs.{block-read}
 use Rattle.inspect.proofs.Comparisons.{slot-read}
 use Rattle.inspect.proofs.alike.same_slot.Statement.{statement}
@@ -25,9 +24,9 @@ same-requires c κs = search needs
 returns : tie.Need-returns
 returns c =
     let first = c .before .before in
-    let g = first .before .before .before .before .before .args in
-    slot-read trap (g .a .now) (g .b .now) (g .i) _ _ _ _ _ (first .before .before .slot-address .ensures) (first .before .slot-address2 .ensures)
-    (block-read (first .slot-block .result) (g .a) (slotAt trap (g .i)) (first .slot-block .ensures)) (block-read (c .before .slot-block2 .result) (g .b) (slotAt trap (g .i)) (c .before .slot-block2 .ensures)) (c .same .ensures)
+    let read = first .before .before in
+    slot-read trap _ _ _ _ _ _ _ _ (read .slot-address .ensures) (first .before .slot-address2 .ensures)
+    (block-read (first .slot-block .result) (read .before .before .before .args .a) _ (first .slot-block .ensures)) (block-read (c .before .slot-block2 .result) (read .before .before .before .args .b) _ (c .before .slot-block2 .ensures)) (c .same .ensures)
 
 pub same-slot-spec : {M : Type 1} → statement M
 same-slot-spec =
