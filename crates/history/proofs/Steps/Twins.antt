@@ -3,7 +3,7 @@
 use Prim.Native.Nat.{ℕ, _+_, _≤_}
 use mathlib.Core.Path.{_≡_, refl, ap, sym, subst, _∙_}
 use mathlib.Core.Logic.{_≢_, _⊎_}
-use mathlib.Core.Bool.{Bool, true, false, cond, not, _&&_}
+use mathlib.Core.Bool.{Bool, true, false, cond, not, _&&_, true≢false}
 use mathlib.Core.List.{List, [], _∷_, _++_}
 use native.Mathlib.Omega.{arith}
 use native.Mathlib.Decide.{ℕ-discrete}
@@ -12,6 +12,7 @@ use lib.Dec.{eqb, leb}
 use lib.ListN.{length}
 use Rattle.cells.specs.Upto.Laws.{length-upTo}
 use Rattle.cells.specs.Entry.{Entry}
+use Rattle.fnv.specs.Fnv.{start}
 use Rattle.card.specs.Card.{Order}
 use Rattle.crash.proofs.Logs.{entries-disk}
 use Rattle.journal.specs.Geometry.{Geometry}
@@ -25,12 +26,12 @@ use Rattle.store.specs.Local.{Local}
 use Rattle.store.specs.Save as Save
 use Rattle.store.specs.Save.{Save}
 use Rattle.store.specs.Request as Request
-use Rattle.store.specs.State.{State, Outcome, closed, openMode, down, withMode}
-use Rattle.store.specs.Lists.{openFrom, groupFrom, listed, find}
+use Rattle.store.specs.State.{State, Outcome, closed, openMode, down, withMode, withLog}
+use Rattle.store.specs.Lists.{openFrom, groupFrom, listed, listOf, find}
 use Rattle.store.specs.Causes.{cause}
 use Rattle.store.specs.Outcomes.{completed}
 use Rattle.store.specs.Put.{putAt}
-use Rattle.store.specs.Saves.{carried, groupOf, savedAs, metByAppend, innerOrders, applies, syncing, applying, recovering, saveOrders}
+use Rattle.store.specs.Saves.{carried, emptying, groupOf, savedAs, metByAppend, innerOrders, applies, syncing, applying, recovering, saveOrders}
 use Rattle.store.proofs.Causes.{other}
 use Rattle.history.specs.Call.{Call, requestOf, local, save, cut, sync, recover}
 use Rattle.history.specs.Plain.{Plain, Done, refusal, plainStep}
@@ -42,6 +43,7 @@ use Rattle.history.proofs.Relation.CauseLaws.{record-facts, cause-passe
 use Rattle.history.proofs.Relation.Forms.{unless-either}
 use Rattle.history.proofs.Relation.Sim.{OpenSim, ClosedSim, DownSim, Sim}
 use Rattle.history.proofs.Steps.Shown.{WorldSim, same-cause, dispatch-refused, entered-refused}
+use Rattle.history.proofs.Steps.Local.{is-open}
 use Rattle.history.proofs.Steps.ListInduction.{step, next-sim}
 use Rattle.history.proofs.Steps.Regrouped.{regrouped, same-refusal, same-answer, same-plain}
 
@@ -59,6 +61,11 @@ carried-goes os done gone st m d g = go (leb (length os) (st .rec .power))
     go true = (m, d)
     go false = ((λ e. omega arith), λ e. g ∙ e)
 
+module _ (geo : Geometry) (st : State) where
+  cut-accepted : (ms : List ℕ) → cause geo (Request.cut ms) st ≡ 0 → dispatch geo (cut ms) st .answer ≡ 0
+  unfolding called
+  cut-accepted ms e = let k : dispatch geo (cut ms) st ≡ served geo (Request.cut ms) st = rw (eq-eqb (cause geo (Request.cut ms) st) 0 e) in ap (λ (o : Outcome). o .answer) k
+
 module _ (geo : Geometry) (st : State) (z : st .rec .mode ≢ closed) where
   local-goes : (c : Local) → Goes st (completed (servedLocal geo c st))
   local-goes (Local.power k) = (z, λ e. e)
@@ -75,14 +82,14 @@ module _ (geo : Geometry) (st : State) (z : st .rec .mode ≢ closed) where
   met-mode : metByAppend geo st .mode ≡ st .rec .mode
   met-mode = go (applies geo st)
     where
-      go : (t : Bool) → cond t (Rattle.store.specs.State.withLog 0 Rattle.fnv.specs.Fnv.start (st .rec)) (st .rec) .mode ≡ st .rec .mode
+      go : (t : Bool) → cond t (withLog 0 start (st .rec)) (st .rec) .mode ≡ st .rec .mode
       go true = refl
       go false = refl
 
   gone-save : (t : Bool) → cond t (metByAppend geo st) (st .rec) .save ≡ st .rec .save
   gone-save true = go (applies geo st)
     where
-      go : (t : Bool) → cond t (Rattle.store.specs.State.withLog 0 Rattle.fnv.specs.Fnv.start (st .rec)) (st .rec) .save ≡ st .rec .save
+      go : (t : Bool) → cond t (withLog 0 start (st .rec)) (st .rec) .save ≡ st .rec .save
       go true = refl
       go false = refl
   gone-save false = refl
@@ -95,7 +102,7 @@ module _ (geo : Geometry) (st : State) (z : st .rec .mode ≢ closed) where
     where
       go : (t : Bool) → not t && true ≡ false → cond t (st .rec .save) (st .rec .save + 1) ≡ mostSave
       go true q = s
-      go false q = absurd (mathlib.Core.Bool.true≢false q)
+      go false q = absurd (true≢false q)
 
   sync-goes : cause geo Request.sync st ≡ 0 → Goes st (syncing geo st)
   sync-goes e =
@@ -104,7 +111,7 @@ module _ (geo : Geometry) (st : State) (z : st .rec .mode ≢ closed) where
   apply-goes : Goes st (applying geo st)
   apply-goes = go (eqb (st .rec .logged) 0)
     where
-      go : (t : Bool) → Goes st (cond t (completed st) (Rattle.store.specs.Saves.emptying geo st))
+      go : (t : Bool) → Goes st (cond t (completed st) (emptying geo st))
       go true = (z, λ e. e)
       go false = carried-goes _ _ _ st z (λ e. e) refl
 
@@ -125,5 +132,181 @@ module _ (geo : Geometry) (st : State) (z : st .rec .mode ≢ closed) where
   goes (save Save.recover) u = unless-either (Goes st) (cause geo Request.recover st) st (servedSave geo Save.recover st) (λ e. absurd (recover-closed e)) (z, λ e. e)
   goes (cut ms) u =
       unless-either (Goes st) (cause geo (Request.cut ms) st) st (served geo (Request.cut ms) st)
-      (λ e. absurd (u ms refl (let k : dispatch geo (cut ms) st ≡ served geo (Request.cut ms) st = rw (eq-eqb (cause geo (Request.cut ms) st) 0 e) in ap (λ (o : Outcome). o .answer) k)))
+      (λ e. absurd (u ms refl (cut-accepted geo st ms e)))
       (z, λ e. e)
+
+module _ (geo : Geometry) where
+  -- so the largest save number stays to the end of a list without a cut
+  pub stays-last : (cs : List Call) (st : State) → st .rec .mode ≢ closed → Uncut geo cs st → st .rec .save ≡ mostSave → left geo cs st .rec .save ≡ mostSave
+  unfolding left
+  stays-last [] st z u e = e
+  stays-last (c ∷ cs) st z u e = let g = goes geo st z c (u .0) in stays-last cs (dispatch geo c st .state) (g .0) (u .1) (g .1 e)
+
+-- ---- the headers of a save, by what they are computed from
+
+module _ (geo : Geometry) where
+  headers-same : (c : Save) (a b : State) → c ≢ Save.recover → a .rec .logged ≡ b .rec .logged → a .rec .grouped ≡ b .rec .grouped
+      → entries geo (a .settled) (a .rec .logged) ≡ entries geo (b .settled) (b .rec .logged) → groupOf geo a ≡ groupOf geo b → headersOf geo c a ≡ headersOf geo c b
+  unfolding syncHeaders applyHeaders
+  headers-same Save.sync a b z n m l g = rw (l, g, n, m)
+  headers-same Save.apply a b z n m l g = rw n
+  headers-same Save.recover a b z n m l g = absurd (z refl)
+
+  -- no exception but at an accepted cut
+  no-exception : (c : Call) (w : World) → ((ms : List ℕ) → c ≡ cut ms → dispatch geo c (w .store) .answer ≢ 0) → exception geo c w ≡ false
+  unfolding exception acceptedCut
+  no-exception (local c) w u = refl
+  no-exception (save c) w u = refl
+  no-exception (cut ms) w u = rw (ne-eqb (dispatch geo (cut ms) (w .store) .answer) 0 (u ms refl))
+
+  -- ---- the relation
+
+  pub record Twins (w v : World) : Type 0 where
+    pub first : WorldSim geo w
+    pub second : WorldSim geo v
+    pub groups : ℕ
+    pub plain : v .plain ≡ regrouped groups (w .plain)
+    pub ledger : w .ledger ≡ v .ledger
+    pub first-mode : w .store .rec .mode ≢ closed
+    pub second-mode : v .store .rec .mode ≢ closed
+
+  open-sim : (w : World) → WorldSim geo w → w .store .rec .mode ≡ openMode → OpenSim geo (w .store) (w .ledger) (w .plain)
+  open-sim w m e = go (m .phase)
+    where
+      go : OpenSim geo (w .store) (w .ledger) (w .plain) ⊎ (ClosedSim geo (w .store) (w .ledger) (w .plain) ⊎ DownSim geo (w .store) (w .ledger) (w .plain)) → OpenSim geo (w .store) (w .ledger) (w .plain)
+      go (_⊎_.inl o) = o
+      go (_⊎_.inr (_⊎_.inl o)) = absurd (omega (arith, o .mode))
+      go (_⊎_.inr (_⊎_.inr o)) = absurd (omega (arith, o .mode))
+
+  module _ (w v : World) (t : Twins w v) where
+    abbrev d : Plain
+    d = w .plain
+
+    -- the one plain disk, by the other
+    as-first : {A : Type 0} (f : Plain → A) → f (v .plain) ≡ f (regrouped (t .groups) d)
+    as-first {A = A} f = ap f (t .plain)
+
+    same-mode : w .store .rec .mode ≡ v .store .rec .mode
+    same-mode = sym (t .first .basics .mirrors .mode) ∙ sym (as-first (λ (x : Plain). x .mode)) ∙ t .second .basics .mirrors .mode
+
+    -- ---- while open
+
+    module _ (e : w .store .rec .mode ≡ openMode) where
+      f : v .store .rec .mode ≡ openMode
+      f = sym same-mode ∙ e
+
+      pub first-open : OpenSim geo (w .store) (w .ledger) d
+      first-open = open-sim w (t .first) e
+
+      pub second-open : OpenSim geo (v .store) (v .ledger) (v .plain)
+      second-open = open-sim v (t .second) f
+
+      pub same-logged : w .store .rec .logged ≡ v .store .rec .logged
+      same-logged = sym (first-open .n) ∙ sym (as-first (λ (x : Plain). x .n)) ∙ second-open .n
+
+      pub same-log : entries geo (w .store .settled) (w .store .rec .logged) ≡ entries geo (v .store .settled) (v .store .rec .logged)
+      same-log =
+          entries-disk geo (w .store .settled) (w .store .rec .logged)
+          ∙ sym (first-open .card .same)
+          ∙ ap (λ (l : Ledger). l .written) (t .ledger)
+          ∙ second-open .card .same
+          ∙ sym (entries-disk geo (v .store .settled) (v .store .rec .logged))
+
+      same-group : groupOf geo (w .store) ≡ groupOf geo (v .store)
+      same-group = sym (t .first .basics .mirrors .G e) ∙ sym (as-first (λ (x : Plain). x .G)) ∙ t .second .basics .mirrors .G f
+
+      same-open : listOf (w .store .work) openFrom (w .store .rec .opened) ≡ listOf (v .store .work) openFrom (v .store .rec .opened)
+      same-open = sym (t .first .basics .mirrors .T e) ∙ sym (as-first (λ (x : Plain). x .T)) ∙ t .second .basics .mirrors .T f
+
+      pub same-grouped : w .store .rec .grouped ≡ v .store .rec .grouped
+      same-grouped =
+          sym (length-upTo (listed (w .store .work) (groupFrom geo)) (w .store .rec .grouped)) ∙ ap length same-group ∙ length-upTo (listed (v .store .work) (groupFrom geo)) (v .store .rec .grouped)
+
+      pub same-opened : w .store .rec .opened ≡ v .store .rec .opened
+      same-opened =
+          sym (length-upTo (listed (w .store .work) openFrom) (w .store .rec .opened)) ∙ ap length same-open ∙ length-upTo (listed (v .store .work) openFrom) (v .store .rec .opened)
+
+    -- ---- a call, where neither save number is the largest
+
+    module _ (x : w .store .rec .save ≢ mostSave) (y : v .store .rec .save ≢ mostSave) where
+      modes : d .mode ≤ 2
+      modes = rw (t .first .basics .mirrors .mode) (record-facts geo (w .store) (t .first .basics .counts) .mode)
+
+      below : d .mode ≡ 1 → (d .S .groups ≢ mostSave) × (t .groups ≢ mostSave)
+      below e =
+          let p : w .store .rec .mode ≡ openMode = sym (t .first .basics .mirrors .mode) ∙ e in
+          let q : v .store .rec .mode ≡ openMode = sym same-mode ∙ p in
+          (
+            (λ z. x (sym (t .first .basics .mirrors .save p) ∙ z)),
+            λ z. y (sym (t .second .basics .mirrors .save q) ∙ as-first (λ (u : Plain). u .S .groups) ∙ z),
+          )
+
+      same-row : (c : Call) → cause geo (requestOf c) (w .store) ≡ cause geo (requestOf c) (v .store)
+      same-row c =
+          same-cause geo (w .store) (w .ledger) d (t .first) c
+          ∙ sym (same-refusal geo (t .groups) d modes below c)
+          ∙ sym (as-first (refusal geo c))
+          ∙ sym (same-cause geo (v .store) (v .ledger) (v .plain) (t .second) c)
+
+      same-end : (c : Call) → (dispatch geo c (w .store) .answer ≡ dispatch geo c (v .store) .answer) × (dispatch geo c (w .store) .orders ≡ dispatch geo c (v .store) .orders)
+      same-end c =
+          let r = same-answer geo (t .groups) d modes below c (foundWritten geo c w) (foundWritten geo c v) in
+          let p = step geo c w (t .first) .agrees in
+          let q = step geo c v (t .second) .agrees in
+          (
+            p .answer ∙ sym (r .0) ∙ sym (as-first (λ (u : Plain). plainStep geo c (foundWritten geo c v) u .answer)) ∙ sym (q .answer),
+            p .orders ∙ sym (r .1) ∙ sym (as-first (λ (u : Plain). plainStep geo c (foundWritten geo c v) u .orders)) ∙ sym (q .orders),
+          )
+
+      -- ---- what it leaves, if it is no accepted cut
+
+      by-headers : (q : Save) → q ≢ Save.recover → w .store .rec .mode ≡ openMode
+          → noted (headersOf geo q (w .store)) (dispatch geo (save q) (w .store) .orders) (v .ledger) ≡ noted (headersOf geo q (v .store)) (dispatch geo (save q) (v .store) .orders) (v .ledger)
+      by-headers q z e =
+          ap (λ (k : ℕ). noted (headersOf geo q (w .store)) k (v .ledger)) (same-end (save q) .1)
+          ∙ ap (λ (hs : List PlannedHeader). noted hs (dispatch geo (save q) (v .store) .orders) (v .ledger)) (headers-same q (w .store) (v .store) z (same-logged e) (same-grouped e) (same-log e) (same-group e))
+
+      -- the ledger behind a save that is not refused: a sync or an apply, while open
+      saved-ledger : (q : Save) → cause geo (Request.save q) (w .store) ≡ 0 → entered geo (save q) (w .store) (v .ledger) ≡ entered geo (save q) (v .store) (v .ledger)
+      unfolding entered
+      saved-ledger Save.sync h = by-headers Save.sync (λ e. let z : _≡_ {A = ℕ} 0 1 = cc in omega arith) (is-open geo (w .store) (w .ledger) d (t .first) Request.sync refl (cause-passes geo Request.sync (w .store) h) .mode)
+      saved-ledger Save.apply h = by-headers Save.apply (λ e. let z : _≡_ {A = ℕ} 0 1 = cc in omega arith) (is-open geo (w .store) (w .ledger) d (t .first) Request.apply refl (cause-passes geo Request.apply (w .store) h) .mode)
+      saved-ledger Save.recover h = absurd (recover-closed geo (w .store) (t .first-mode) h)
+
+      served-ledger : (c : Call) → cause geo (requestOf c) (w .store) ≡ 0 → ((ms : List ℕ) → c ≡ cut ms → dispatch geo c (w .store) .answer ≢ 0)
+          → entered geo c (w .store) (v .ledger) ≡ entered geo c (v .store) (v .ledger)
+      unfolding entered
+      served-ledger (local q) h u = refl
+      served-ledger (save q) h u = saved-ledger q h
+      served-ledger (cut ms) h u = absurd (u ms refl (cut-accepted geo (w .store) ms h))
+
+      module _ (c : Call) (u : (ms : List ℕ) → c ≡ cut ms → dispatch geo c (w .store) .answer ≢ 0) where
+        uncut-second : (ms : List ℕ) → c ≡ cut ms → dispatch geo c (v .store) .answer ≢ 0
+        uncut-second ms e z = u ms e (same-end c .0 ∙ z)
+
+        next-ledger : ledgerNext geo c w ≡ ledgerNext geo c v
+        next-ledger = ap (entered geo c (w .store)) (t .ledger) ∙ go (ℕ-discrete (cause geo (requestOf c) (w .store)) 0)
+          where
+            go : Dec (cause geo (requestOf c) (w .store) ≡ 0) → entered geo c (w .store) (v .ledger) ≡ entered geo c (v .store) (v .ledger)
+            go (no h) = entered-refused geo c (w .store) (v .ledger) h ∙ sym (entered-refused geo c (v .store) (v .ledger) (λ z. h (same-row c ∙ z)))
+            go (yes h) = served-ledger c h u
+
+        refused-cut : (ms : List ℕ) → c ≡ cut ms → refusal geo c d ≢ 0
+        refused-cut ms e z = u ms e (accepted c ms e (same-cause geo (w .store) (w .ledger) d (t .first) c ∙ z))
+          where
+            accepted : (c : Call) (ms : List ℕ) → c ≡ cut ms → cause geo (requestOf c) (w .store) ≡ 0 → dispatch geo c (w .store) .answer ≡ 0
+            accepted c ms e h = subst (λ (q : Call). cause geo (requestOf q) (w .store) ≡ 0 → dispatch geo q (w .store) .answer ≡ 0) (sym e) (cut-accepted geo (w .store) ms) h
+
+        pub twins-next : Twins (next geo c w) (next geo c v)
+        unfolding next
+        twins-next =
+            let r = same-plain geo (t .groups) d modes below c (foundWritten geo c w) (foundWritten geo c v) (λ ms e z. refused-cut ms e z) in
+            record {
+              first = next-sim geo c w (t .first) (no-exception c w u);
+              second = next-sim geo c v (t .second) (no-exception c v uncut-second);
+              groups = r .0;
+              plain = as-first (λ (p : Plain). plainStep geo c (foundWritten geo c v) p .plain) ∙ r .1;
+              ledger = next-ledger;
+              first-mode = goes geo (w .store) (t .first-mode) c u .0;
+              second-mode = goes geo (v .store) (t .second-mode) c uncut-second .0;
+            }
