@@ -8,3 +8,4 @@ pub mod Guards
 pub mod GetLists
 pub mod Links
 pub mod Scripts
+pub mod AlikeCards

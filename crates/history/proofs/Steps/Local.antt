@@ -317,7 +317,7 @@ module _ (geo : Geometry) where
       (overlay-agree (d .T) _ _ a (overlay-agree (d .G) _ _ a (sym (o .card .disk a h tt))))
 
   -- so a get that is served shows the plain disk's block
-  get-plain : (a : ℕ) (st : State) (l : Ledger) (d : Plain) → Sim geo st l d → cause geo (Request.get a) st ≡ 0 → blockOf geo a st ≡ plainGet a d
+  pub get-plain : (a : ℕ) (st : State) (l : Ledger) (d : Plain) → Sim geo st l d → cause geo (Request.get a) st ≡ 0 → blockOf geo a st ≡ plainGet a d
   get-plain a st l d m e =
       let q = cause-passes geo (Request.get a) st e in
       let o = is-open st l d m (Request.get a) refl q in

@@ -48,11 +48,11 @@ use Rattle.history.proofs.Relation.Sim.{Sim}
 use Rattle.history.proofs.Steps.CallEnds.{carried-done, carried-short}
 use Rattle.history.proofs.Steps.Ends.{none-listed, openPlain, Ends, ends-sim}
 
-module _ (geo : Geometry) where
-  -- the plain disk then: the data blocks D, into which g groups were laid, n entries in the log, the power p
-  abbrev pub plainReopened : ℕ → Disk → ℕ → ℕ → ℕ → Plain
-  plainReopened N D g n p = withCount n (withPower p (withS (record { disk = D; groups = g }) (blankPlain N)))
+-- the plain disk then: N, the data blocks D, into which g groups were laid, n entries in the log, the power p
+abbrev pub plainReopened : ℕ → Disk → ℕ → ℕ → ℕ → Plain
+plainReopened N D g n p = withCount n (withPower p (withS (record { disk = D; groups = g }) (blankPlain N)))
 
+module _ (geo : Geometry) where
   module _ (st : State) (sizes : wrongSizes geo st ≡ false) (counts : wrongRecord geo st ≡ false) (shut : st .rec .mode ≡ closed) where
     abbrev N : ℕ
     N = st .rec .blocks

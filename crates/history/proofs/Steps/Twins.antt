@@ -33,8 +33,8 @@ use Rattle.store.specs.Outcomes.{completed}
 use Rattle.store.specs.Put.{putAt}
 use Rattle.store.specs.Saves.{carried, emptying, groupOf, savedAs, metByAppend, innerOrders, applies, syncing, applying, recovering, saveOrders}
 use Rattle.store.proofs.Causes.{other}
-use Rattle.history.specs.Call.{Call, requestOf, local, save, cut, sync, recover}
-use Rattle.history.specs.Plain.{Plain, Done, refusal, plainStep}
+use Rattle.history.specs.Call.{Call, requestOf, local, save, cut}
+use Rattle.history.specs.Plain.{Plain, refusal, plainStep}
 use Rattle.history.specs.Dispatch.{called, dispatch, servedLocal, servedSave, served}
 use Rattle.history.specs.Ledger.{Ledger, PlannedHeader, syncHeaders, applyHeaders, headersOf, noted, entered}
 use Rattle.history.specs.History.{World, next, acceptedCut, exception, storeNext, ledgerNext, foundWritten}
@@ -183,7 +183,7 @@ module _ (geo : Geometry) where
     d = w .plain
 
     -- the one plain disk, by the other
-    as-first : {A : Type 0} (f : Plain → A) → f (v .plain) ≡ f (regrouped (t .groups) d)
+    pub as-first : {A : Type 0} (f : Plain → A) → f (v .plain) ≡ f (regrouped (t .groups) d)
     as-first {A = A} f = ap f (t .plain)
 
     same-mode : w .store .rec .mode ≡ v .store .rec .mode
@@ -241,14 +241,14 @@ module _ (geo : Geometry) where
             λ z. y (sym (t .second .basics .mirrors .save q) ∙ as-first (λ (u : Plain). u .S .groups) ∙ z),
           )
 
-      same-row : (c : Call) → cause geo (requestOf c) (w .store) ≡ cause geo (requestOf c) (v .store)
+      pub same-row : (c : Call) → cause geo (requestOf c) (w .store) ≡ cause geo (requestOf c) (v .store)
       same-row c =
           same-cause geo (w .store) (w .ledger) d (t .first) c
           ∙ sym (same-refusal geo (t .groups) d modes below c)
           ∙ sym (as-first (refusal geo c))
           ∙ sym (same-cause geo (v .store) (v .ledger) (v .plain) (t .second) c)
 
-      same-end : (c : Call) → (dispatch geo c (w .store) .answer ≡ dispatch geo c (v .store) .answer) × (dispatch geo c (w .store) .orders ≡ dispatch geo c (v .store) .orders)
+      pub same-end : (c : Call) → (dispatch geo c (w .store) .answer ≡ dispatch geo c (v .store) .answer) × (dispatch geo c (w .store) .orders ≡ dispatch geo c (v .store) .orders)
       same-end c =
           let r = same-answer geo (t .groups) d modes below c (foundWritten geo c w) (foundWritten geo c v) in
           let p = step geo c w (t .first) .agrees in
@@ -310,3 +310,37 @@ module _ (geo : Geometry) where
               first-mode = goes geo (w .store) (t .first-mode) c u .0;
               second-mode = goes geo (v .store) (t .second-mode) c uncut-second .0;
             }
+
+-- ---- a list of calls
+
+abbrev pub worldOf : State → Ledger → Plain → World
+worldOf st l d = record { store = st; ledger = l; plain = d; excepted = false }
+
+module _ (geo : Geometry) where
+  -- some ledgers and plain disks make them twins
+  pub record TwinsOf (a b : State) : Type 0 where
+    pub ledger : Ledger
+    pub other-ledger : Ledger
+    pub plain : Plain
+    pub other-plain : Plain
+    pub twins : Twins geo (worldOf a ledger plain) (worldOf b other-ledger other-plain)
+
+  twins-of : (w v : World) → Twins geo w v → TwinsOf (w .store) (v .store)
+  twins-of w v t = record {
+    ledger = w .ledger;
+    other-ledger = v .ledger;
+    plain = w .plain;
+    other-plain = v .plain;
+    twins = record { first = t .first; second = t .second; groups = t .groups; plain = t .plain; ledger = t .ledger; first-mode = t .first-mode; second-mode = t .second-mode };
+  }
+
+  pub twins-left : (cs : List Call) (a b : State) → TwinsOf a b → Uncut geo cs a → Uncut geo cs b → left geo cs a .rec .save ≢ mostSave → left geo cs b .rec .save ≢ mostSave
+      → TwinsOf (left geo cs a) (left geo cs b)
+  unfolding left next
+  twins-left [] a b t p q x y = t
+  twins-left (c ∷ cs) a b t p q x y =
+      let w = worldOf a (t .ledger) (t .plain) in
+      let v = worldOf b (t .other-ledger) (t .other-plain) in
+      twins-left cs (dispatch geo c a .state) (dispatch geo c b .state)
+      (twins-of (next geo c w) (next geo c v) (twins-next geo w v (t .twins) (λ z. x (stays-last geo (c ∷ cs) a (t .twins .first-mode) p z)) (λ z. y (stays-last geo (c ∷ cs) b (t .twins .second-mode) q z)) c (p .0)))
+      (p .1) (q .1) x y

@@ -1,0 +1,245 @@
+-- Two cards that are alike: recovered, they are twins, and so they stay.
+use Prim.Native.Nat.{ℕ, _≤_, _<_}
+use mathlib.Core.Path.{_≡_, refl, ap, sym, subst, _∙_}
+use mathlib.Core.Logic.{_≢_}
+use mathlib.Core.Bool.{Bool, true, false}
+use mathlib.Core.List.{List}
+use native.Mathlib.Omega.{arith}
+use native.Mathlib.Decide.{ℕ-discrete}
+use lib.ListN.{getD}
+use Rattle.cells.specs.Upto.Laws.{getD-upTo, ext-upTo}
+use Rattle.cells.specs.Entry.{Entry}
+use Rattle.fnv.specs.Fnv.{start}
+use Rattle.card.specs.Disk.{Disk, overlay}
+use Rattle.card.specs.Card.{blocksIn, blockAt}
+use Rattle.journal.specs.Geometry.{Geometry}
+use Rattle.journal.specs.Header.{mostSave}
+use Rattle.journal.specs.Layout.{isData, wrongSize}
+use Rattle.journal.specs.Log.{slotEntry, entries, sumOf}
+use Rattle.journal.specs.declared.choice.Choice.the-variants.{Whole}
+use Rattle.journal.specs.Choice.{choose, choiceNumber, takenCount}
+use Rattle.crash.proofs.Logs.{entries-disk}
+use Rattle.store.specs.declared.record.Record.{Record}
+use Rattle.store.specs.Request as Request
+use Rattle.store.specs.State.{State, closed, openMode, withSave}
+use Rattle.store.specs.Causes.{wrongSizes, wrongRecord, cause}
+use Rattle.store.specs.Get.{blockOf}
+use Rattle.inspect.specs.Reading as Reading
+use Rattle.inspect.specs.Reading.{inspection, chosenCount, laidOver}
+use Rattle.inspect.specs.Alike.{alikeOf, Same}
+use Rattle.journal.proofs.Logs.{neither}
+use Rattle.inspect.proofs.Readings.{right-chosen}
+use Rattle.inspect.proofs.Comparisons.{alike-yes}
+use Rattle.history.specs.Call.{Call, power, get, recover}
+use Rattle.history.specs.Plain.{Plain, refusal, plainStep, plainGet, plainListing}
+use Rattle.history.specs.Dispatch.{dispatch}
+use Rattle.history.specs.Ledger.{Ledger, settledBy, entered}
+use Rattle.history.specs.History.{World, next, acceptedCut, exception}
+use Rattle.history.specs.AlikeCards.{Shut, Clones, left, recovered, Reaches, SameAt, StillAlike, AlikeCards, AllAlikeCards}
+use Rattle.history.proofs.Relation.CauseLaws.{record-facts, cause-passes}
+use Rattle.history.proofs.Relation.Sim.{OpenSim, Sim}
+use Rattle.history.proofs.Steps.Shown.{small-N, choose-whole}
+use Rattle.history.proofs.Steps.Local.{get-plain, list-plain}
+use Rattle.history.proofs.Steps.ListInduction.{next-sim}
+use Rattle.history.proofs.Steps.Regrouped.{regrouped, same-get, same-listing}
+use Rattle.history.proofs.Steps.Reopens.{plainReopened, reopens, two-suffice}
+use Rattle.history.proofs.Steps.Twins.{Twins, as-first, first-open, second-open, same-logged, same-log, same-grouped, same-opened, same-row, same-end, worldOf, TwinsOf, twins-left}
+use Rattle.history.proofs.Boundary.FaceRefusals.{parts}
+
+module _ (geo : Geometry) where
+  right-one : (st : State) → wrongSizes geo st ≡ false → wrongSize geo (st .settled) ≡ false
+  unfolding wrongSizes
+  right-one st h = neither _ _ (neither _ _ h .0) .0
+
+-- ---- what a call shows on twins
+
+module _ (geo : Geometry) (w v : World) (t : Twins geo w v) (x : w .store .rec .save ≢ mostSave) (y : v .store .rec .save ≢ mostSave) where
+  same-block : (a : ℕ) → blockOf geo a (w .store) ≡ blockOf geo a (v .store)
+  same-block a = go (ℕ-discrete (cause geo (Request.get a) (w .store)) 0)
+    where
+      row : cause geo (Request.get a) (w .store) ≡ cause geo (Request.get a) (v .store)
+      row = same-row geo w v t x y (get a)
+
+      go : Dec (cause geo (Request.get a) (w .store) ≡ 0) → blockOf geo a (w .store) ≡ blockOf geo a (v .store)
+      go (no h) = parts geo a (w .store) .block h ∙ sym (parts geo a (v .store) .block (λ z. h (row ∙ z)))
+      go (yes h) =
+          get-plain geo a (w .store) (w .ledger) (w .plain) (t .first) h
+          ∙ sym (as-first geo w v t (plainGet a) ∙ same-get geo (t .groups) (w .plain) a)
+          ∙ sym (get-plain geo a (v .store) (v .ledger) (v .plain) (t .second) (sym row ∙ h))
+
+  same-at : (c : Call) → SameAt geo c (w .store) (v .store)
+  same-at c = record {
+    answer = same-end geo w v t x y c .0;
+    orders = same-end geo w v t x y c .1;
+    block = same-block;
+    list = λ xs bs.
+        list-plain geo xs bs (w .store) (w .ledger) (w .plain) (t .first)
+        ∙ sym (as-first geo w v t (plainListing geo xs bs) ∙ same-listing geo (t .groups) (w .plain) xs bs)
+        ∙ sym (list-plain geo xs bs (v .store) (v .ledger) (v .plain) (t .second));
+  }
+
+-- ---- an open store's card, read by itself
+
+module _ (geo : Geometry) (w : World) (m : Sim geo (w .store) (w .ledger) (w .plain)) (o : OpenSim geo (w .store) (w .ledger) (w .plain)) where
+  abbrev s : List ℕ
+  s = w .store .settled
+
+  open-size : w .store .rec .blocks ≡ blocksIn s
+  open-size = record-facts geo (w .store) (m .basics .counts) .blocks
+
+  open-choice : Reading.chosen geo s ≡ Whole (w .store .rec .logged) (sumOf start (entries geo s (w .store .rec .logged))) (w .plain .S .groups)
+  open-choice =
+      ap (λ (N : ℕ). choose geo N s) (sym open-size)
+      ∙ choose-whole geo (w .store .rec .blocks) s (small-N geo (w .store) (w .plain) (m .basics)) (w .ledger .written) (w .plain .S) (w .store .rec .logged) (o .card)
+
+  open-accepted : inspection geo s ≡ 0
+  open-accepted = right-chosen geo s _ (right-one geo (w .store) (m .basics .sizes)) open-choice
+
+  open-count : chosenCount geo s ≡ w .store .rec .logged
+  open-count = ap takenCount open-choice
+
+  open-laid : (x : ℕ) → isData geo (blocksIn s) x ≡ true → laidOver geo s x ≡ w .plain .S .disk x
+  open-laid x q =
+      ap (λ (k : ℕ). overlay (entries geo s k) (blockAt s) x) open-count
+      ∙ ap (λ (es : List Entry). overlay es (blockAt s) x) (entries-disk geo s (w .store .rec .logged))
+      ∙ sym (o .card .disk x (ap (λ (N : ℕ). isData geo N x) open-size ∙ q) tt)
+
+-- ---- so twins that are open are alike
+
+module _ (geo : Geometry) (w v : World) (t : Twins geo w v) (e : w .store .rec .mode ≡ openMode) where
+  abbrev p : OpenSim geo (w .store) (w .ledger) (w .plain)
+  p = first-open geo w v t e
+
+  abbrev q : OpenSim geo (v .store) (v .ledger) (v .plain)
+  q = second-open geo w v t e
+
+  same-size : w .store .rec .blocks ≡ v .store .rec .blocks
+  same-size = sym (t .first .basics .mirrors .N) ∙ sym (as-first geo w v t (λ (d : Plain). d .N)) ∙ t .second .basics .mirrors .N
+
+  same-blocks : blocksIn (w .store .settled) ≡ blocksIn (v .store .settled)
+  same-blocks = sym (open-size geo w (t .first) p) ∙ same-size ∙ open-size geo v (t .second) q
+
+  same-count : chosenCount geo (w .store .settled) ≡ chosenCount geo (v .store .settled)
+  same-count = open-count geo w (t .first) p ∙ same-logged geo w v t e ∙ sym (open-count geo v (t .second) q)
+
+  same-slots : (i : ℕ) → i < chosenCount geo (w .store .settled) → slotEntry geo (w .store .settled) i ≡ slotEntry geo (v .store .settled) i
+  same-slots i l =
+      let n = w .store .rec .logged in
+      let inside : i < n = rw (← open-count geo w (t .first) p) l in
+      let lists : entries geo (w .store .settled) n ≡ entries geo (v .store .settled) n = same-log geo w v t e ∙ ap (entries geo (v .store .settled)) (sym (same-logged geo w v t e)) in
+      let first = slotEntry geo (w .store .settled) in
+      let second = slotEntry geo (v .store .settled) in
+      sym (getD-upTo first n i (first i) inside) ∙ ap (λ (es : List Entry). getD es i (first i)) lists ∙ getD-upTo second n i (first i) inside
+
+  still-alike : StillAlike geo (w .store) (v .store)
+  still-alike = record {
+    alike = alike-yes geo (w .store .settled) (v .store .settled) .1
+        (record {
+          first = open-accepted geo w (t .first) p;
+          second = open-accepted geo v (t .second) q;
+          blocks = same-blocks;
+          count = same-count;
+          slots = same-slots;
+          laid = λ x y.
+              open-laid geo w (t .first) p x y
+              ∙ sym (as-first geo w v t (λ (d : Plain). d .S .disk x))
+              ∙ sym (open-laid geo v (t .second) q x (ap (λ (N : ℕ). isData geo N x) (sym same-blocks) ∙ y));
+        });
+    rec = λ i. record {
+      mode = (p .mode ∙ sym (q .mode)) i;
+      blocks = same-size i;
+      opened = same-opened geo w v t e i;
+      grouped = same-grouped geo w v t e i;
+      logged = same-logged geo w v t e i;
+      waiting = (sym (t .first .basics .mirrors .waiting) ∙ sym (as-first geo w v t (λ (d : Plain). d .waiting)) ∙ t .second .basics .mirrors .waiting) i;
+      power = (sym (t .first .basics .power) ∙ sym (as-first geo w v t (λ (d : Plain). d .power)) ∙ t .second .basics .power) i;
+      sum = (p .sum ∙ ap (sumOf start) (same-log geo w v t e) ∙ sym (q .sum)) i;
+      save = 0;
+    };
+  }
+
+-- ---- a card that is recovered
+
+module _ (geo : Geometry) (st : State) (f : Shut geo st) (accepted : inspection geo (st .settled) ≡ 0) where
+  sizes : wrongSizes geo st ≡ false
+  sizes = cause-passes geo (Request.power 0) st (f .passes) .sizes
+
+  counts : wrongRecord geo st ≡ false
+  counts = cause-passes geo (Request.power 0) st (f .passes) .counts
+
+  -- its N is the record's
+  size : st .rec .blocks ≡ blocksIn (st .settled)
+  size = record-facts geo st counts .blocks
+
+  taken : takenCount (choose geo (st .rec .blocks) (st .settled)) ≡ chosenCount geo (st .settled)
+  taken = ap (λ (N : ℕ). takenCount (choose geo N (st .settled))) size
+
+  chosen : choiceNumber (choose geo (st .rec .blocks) (st .settled)) ≡ 0
+  chosen = ap (λ (N : ℕ). choiceNumber (choose geo N (st .settled))) size ∙ sym (right-chosen geo (st .settled) _ (right-one geo st sizes) refl) ∙ accepted
+
+  enough : 2 ≤ st .rec .power → dispatch geo recover st .answer ≡ 0
+  enough = two-suffice geo st sizes counts (f .mode) chosen
+
+  -- recovered and given the power k, it has the log that was chosen, over the data blocks D
+  opens : (k n : ℕ) (D : Disk) → chosenCount geo (st .settled) ≡ n → ((x : ℕ) → isData geo (st .rec .blocks) x ≡ true → D x ≡ laidOver geo (st .settled) x) → dispatch geo recover st .answer ≡ 0
+      → (g : ℕ) × Sim geo (recovered geo k st) (settledBy (entries geo (st .settled) n)) (plainReopened (st .rec .blocks) D g n k)
+  unfolding next entered plainStep refusal exception acceptedCut
+  opens k n D e under d =
+      let count : takenCount (choose geo (st .rec .blocks) (st .settled)) ≡ n = taken ∙ e in
+      let r = reopens geo st sizes counts (f .mode) (f .bytes) chosen D (λ x q. under x q ∙ ap (λ (m : ℕ). overlay (entries geo (st .settled) m) (blockAt (st .settled)) x) (sym taken)) d in
+      let sim = subst (λ (m : ℕ). Sim geo (dispatch geo recover st .state) (settledBy (entries geo (st .settled) m)) (plainReopened (st .rec .blocks) D (r .0) m (r .1 .0))) count (r .1 .1) in
+      (
+        r .0,
+        next-sim geo (power k)
+            (record { store = dispatch geo recover st .state; ledger = settledBy (entries geo (st .settled) n); plain = plainReopened (st .rec .blocks) D (r .0) n (r .1 .0); excepted = false })
+            sim refl,
+      )
+
+-- ---- two of them
+
+module _ (geo : Geometry) (a b : State) (c : Clones geo a b) where
+  yes : Same geo (a .settled) (b .settled)
+  yes = alike-yes geo (a .settled) (b .settled) .0 (c .alike)
+
+  -- N, the count of the log, its entries, and the data blocks
+  blocks : a .rec .blocks ≡ b .rec .blocks
+  blocks = size geo a (c .first) (yes .first) ∙ yes .blocks ∙ sym (size geo b (c .second) (yes .second))
+
+  abbrev n : ℕ
+  n = chosenCount geo (a .settled)
+
+  log : entries geo (a .settled) n ≡ entries geo (b .settled) n
+  log = ext-upTo (slotEntry geo (a .settled)) (slotEntry geo (b .settled)) n (yes .slots)
+
+  data-blocks : (x : ℕ) → isData geo (b .rec .blocks) x ≡ true → laidOver geo (a .settled) x ≡ laidOver geo (b .settled) x
+  data-blocks x q = yes .laid x (ap (λ (N : ℕ). isData geo N x) (sym (size geo a (c .first) (yes .first)) ∙ blocks) ∙ q)
+
+  twins : (k : ℕ) → dispatch geo recover a .answer ≡ 0 → dispatch geo recover b .answer ≡ 0 → TwinsOf geo (recovered geo k a) (recovered geo k b)
+  twins k d e =
+      let p = opens geo a (c .first) (yes .first) k n (laidOver geo (a .settled)) refl (λ x q. refl) d in
+      let q = opens geo b (c .second) (yes .second) k n (laidOver geo (a .settled)) (sym (yes .count)) data-blocks e in
+      record {
+        ledger = settledBy (entries geo (a .settled) n);
+        other-ledger = settledBy (entries geo (b .settled) n);
+        plain = plainReopened (a .rec .blocks) (laidOver geo (a .settled)) (p .0) n k;
+        other-plain = plainReopened (b .rec .blocks) (laidOver geo (a .settled)) (q .0) n k;
+        twins = record {
+          first = p .1;
+          second = q .1;
+          groups = q .0;
+          plain = ap (λ (N : ℕ). plainReopened N (laidOver geo (a .settled)) (q .0) n k) (sym blocks);
+          ledger = ap settledBy log;
+          first-mode = λ z. omega (arith, p .1 .basics .mirrors .mode, z);
+          second-mode = λ z. omega (arith, q .1 .basics .mirrors .mode, z);
+        };
+      }
+
+  behind : (k : ℕ) (cs : List Call) → Reaches geo k cs a → Reaches geo k cs b → TwinsOf geo (left geo cs (recovered geo k a)) (left geo cs (recovered geo k b))
+  behind k cs x y = twins-left geo cs (recovered geo k a) (recovered geo k b) (twins k (x .done) (y .done)) (x .uncut) (y .uncut) (x .number) (y .number)
+
+  pub alike-cards : AlikeCards geo a b
+  alike-cards = record {
+    recovers = (enough geo a (c .first) (yes .first), enough geo b (c .second) (yes .second));
+    same = λ k cs x y q. let t = behind k cs x y in same-at geo (worldOf _ (t .ledger) (t .plain)) (worldOf _ (t .other-ledger) (t .other-plain)) (t .twins) (x .number) (y .number) q;
+    still = λ k cs x y e. let t = behind k cs x y in still-alike geo (worldOf _ (t .ledger) (t .plain)) (worldOf _ (t .other-ledger) (t .other-plain)) (t .twins) e;
+  }
