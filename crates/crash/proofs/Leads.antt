@@ -27,7 +27,7 @@ use Rattle.card.proofs.MarkLaws.{all-kept-at}
 use Rattle.journal.specs.declared.header.Header.{Header}
 use Rattle.journal.specs.Geometry.{Geometry}
 use Rattle.journal.specs.Layout.{headerAt, firstData, isData}
-use Rattle.journal.specs.Header.{encode, decode, header, emptyHeader}
+use Rattle.journal.specs.Header.{encode, header, emptyHeader}
 use Rattle.journal.specs.Log.{headerOf, entries, sumOf, allData, good}
 use Rattle.journal.proofs.Headers.{decode-encode}
 use Rattle.journal.proofs.Logs.{both, length-blockAt}

@@ -8,4 +8,3 @@ pub mod Guards
 pub mod GetLists
 pub mod Links
 pub mod Scripts
-pub mod AlikeCards

@@ -14,6 +14,3 @@ pub mod AppendEnds
 pub mod SyncMeets
 pub mod Sync
 pub mod ListInduction
-pub mod Regrouped
-pub mod Reopens
-pub mod Twins

@@ -11,6 +11,8 @@ use Rattle.journal.specs.Header.{mostSave}
 use Rattle.store.specs.State.{State, closed, openMode, withSave}
 use Rattle.store.specs.Get.{blockOf}
 use Rattle.store.specs.GetList.{listing}
+use Rattle.store.specs.Save.{Save}
+use Rattle.store.specs.Cost.{costOf}
 use Rattle.inspect.specs.Alike.{alikeOf}
 use Rattle.history.specs.Call.{Call, power, recover, cut}
 use Rattle.history.specs.Dispatch.{dispatch}
@@ -53,12 +55,13 @@ module _ (geo : Geometry) where
 
   -- ---- what is the same
 
-  -- a call's answer and orders; and what a get made there, or a list of gets, hands out, whatever it asks for
+  -- a call's answer and orders; what a get made there hands out, or a list of gets, whatever it asks for; and the figures of an inquiry
   pub record SameAt (c : Call) (a b : State) : Type 0 where
     pub answer : dispatch geo c a .answer ≡ dispatch geo c b .answer
     pub orders : dispatch geo c a .orders ≡ dispatch geo c b .orders
     pub block : (x : ℕ) → blockOf geo x a ≡ blockOf geo x b
     pub list : (xs bs : List ℕ) → listing geo xs bs a ≡ listing geo xs bs b
+    pub figures : (q : Save) → costOf geo q a ≡ costOf geo q b
 
   -- the cards are alike again, and the records the same but for the save number
   pub record StillAlike (a b : State) : Type 0 where

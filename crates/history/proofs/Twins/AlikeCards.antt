@@ -1,11 +1,11 @@
 -- Two cards that are alike: recovered, they are twins, and so they stay.
-use Prim.Native.Nat.{ℕ, _≤_, _<_}
+use Prim.Native.Nat.{ℕ, _+_, _≤_, _<_}
 use mathlib.Core.Path.{_≡_, refl, ap, sym, subst, _∙_}
 use mathlib.Core.Logic.{_≢_}
-use mathlib.Core.Bool.{Bool, true, false}
+use mathlib.Core.Bool.{true, false}
 use mathlib.Core.List.{List}
 use native.Mathlib.Omega.{arith}
-use native.Mathlib.Decide.{ℕ-discrete}
+use native.Mathlib.Decide.{ℕ-discrete, decLe}
 use lib.ListN.{getD}
 use Rattle.cells.specs.Upto.Laws.{getD-upTo, ext-upTo}
 use Rattle.cells.specs.Entry.{Entry}
@@ -19,37 +19,63 @@ use Rattle.journal.specs.Log.{slotEntry, entries, sumOf}
 use Rattle.journal.specs.declared.choice.Choice.the-variants.{Whole}
 use Rattle.journal.specs.Choice.{choose, choiceNumber, takenCount}
 use Rattle.crash.proofs.Logs.{entries-disk}
-use Rattle.store.specs.declared.record.Record.{Record}
 use Rattle.store.specs.Request as Request
-use Rattle.store.specs.State.{State, closed, openMode, withSave}
+use Rattle.store.specs.State.{State, openMode, cardIn}
 use Rattle.store.specs.Causes.{wrongSizes, wrongRecord, cause}
 use Rattle.store.specs.Get.{blockOf}
+use Rattle.store.specs.Save as Save
+use Rattle.store.specs.Save.{Save}
+use Rattle.store.specs.Saves.{saveOrders}
+use Rattle.store.specs.Cost.{figures, noFigures, costOf}
+use Rattle.store.proofs.Costs.{sync-cost-none, sync-cost-room, sync-cost-full, apply-cost-none, apply-cost-some, cost-refused, cost-served}
 use Rattle.inspect.specs.Reading as Reading
 use Rattle.inspect.specs.Reading.{inspection, chosenCount, laidOver}
-use Rattle.inspect.specs.Alike.{alikeOf, Same}
+use Rattle.inspect.specs.Alike.{Same}
 use Rattle.journal.proofs.Logs.{neither}
 use Rattle.inspect.proofs.Readings.{right-chosen}
 use Rattle.inspect.proofs.Comparisons.{alike-yes}
-use Rattle.history.specs.Call.{Call, power, get, recover}
+use Rattle.history.specs.Call.{Call, save, power, get, recover}
 use Rattle.history.specs.Plain.{Plain, refusal, plainStep, plainGet, plainListing}
 use Rattle.history.specs.Dispatch.{dispatch}
-use Rattle.history.specs.Ledger.{Ledger, settledBy, entered}
+use Rattle.history.specs.Ledger.{settledBy, entered}
 use Rattle.history.specs.History.{World, next, acceptedCut, exception}
-use Rattle.history.specs.AlikeCards.{Shut, Clones, left, recovered, Reaches, SameAt, StillAlike, AlikeCards, AllAlikeCards}
+use Rattle.history.specs.AlikeCards.{Shut, Clones, left, recovered, Reaches, SameAt, StillAlike, AlikeCards}
 use Rattle.history.proofs.Relation.CauseLaws.{record-facts, cause-passes}
 use Rattle.history.proofs.Relation.Sim.{OpenSim, Sim}
 use Rattle.history.proofs.Steps.Shown.{small-N, choose-whole}
-use Rattle.history.proofs.Steps.Local.{get-plain, list-plain}
+use Rattle.history.proofs.Steps.Local.{is-open, get-plain, list-plain}
 use Rattle.history.proofs.Steps.ListInduction.{next-sim}
-use Rattle.history.proofs.Steps.Regrouped.{regrouped, same-get, same-listing}
-use Rattle.history.proofs.Steps.Reopens.{plainReopened, reopens, two-suffice}
-use Rattle.history.proofs.Steps.Twins.{Twins, as-first, first-open, second-open, same-logged, same-log, same-grouped, same-opened, same-row, same-end, worldOf, TwinsOf, twins-left}
+use Rattle.history.proofs.Twins.Regrouped.{same-get, same-listing}
+use Rattle.history.proofs.Twins.Reopens.{plainReopened, reopens, two-suffice}
+use Rattle.history.proofs.Twins.LastNumber.{recover-closed}
+use Rattle.history.proofs.Twins.Pairs.{Twins, as-first, same-mode, same-waiting, same-power, first-open, second-open, same-logged, same-log, same-grouped, same-opened, same-row, same-end, worldOf, TwinsOf, twins-left}
 use Rattle.history.proofs.Boundary.FaceRefusals.{parts}
 
 module _ (geo : Geometry) where
   right-one : (st : State) → wrongSizes geo st ≡ false → wrongSize geo (st .settled) ≡ false
   unfolding wrongSizes
   right-one st h = neither _ _ (neither _ _ h .0) .0
+
+-- ---- the figures of a sync go by n, the group's count, what waits and the power; those of an apply likewise, the group apart
+
+module _ (geo : Geometry) (a b : State) (n : a .rec .logged ≡ b .rec .logged) where
+  sync-counted : a .rec .grouped ≡ b .rec .grouped → a .rec .waiting ≡ b .rec .waiting → a .rec .power ≡ b .rec .power
+      → figures (saveOrders geo Save.sync a) (cardIn a) ≡ figures (saveOrders geo Save.sync b) (cardIn b)
+  sync-counted m w p = go (ℕ-discrete (a .rec .grouped) 0) (decLe (a .rec .logged + a .rec .grouped) (geo .slots))
+    where
+      go : Dec (a .rec .grouped ≡ 0) → Dec (a .rec .logged + a .rec .grouped ≤ geo .slots) → figures (saveOrders geo Save.sync a) (cardIn a) ≡ figures (saveOrders geo Save.sync b) (cardIn b)
+      go (yes z) l = sync-cost-none geo a z ∙ rw (w, p) (sym (sync-cost-none geo b (sym m ∙ z)))
+      go (no z) (yes l) =
+          sync-cost-room geo a z l ∙ rw (m, w, p) (sym (sync-cost-room geo b (λ e. z (m ∙ e)) (omega (arith, n, m))))
+      go (no z) (no l) =
+          sync-cost-full geo a z (omega arith) ∙ rw (n, m, w, p) (sym (sync-cost-full geo b (λ e. z (m ∙ e)) (omega (arith, n, m))))
+
+  apply-counted : a .rec .waiting ≡ b .rec .waiting → a .rec .power ≡ b .rec .power → figures (saveOrders geo Save.apply a) (cardIn a) ≡ figures (saveOrders geo Save.apply b) (cardIn b)
+  apply-counted w p = go (ℕ-discrete (a .rec .logged) 0)
+    where
+      go : Dec (a .rec .logged ≡ 0) → figures (saveOrders geo Save.apply a) (cardIn a) ≡ figures (saveOrders geo Save.apply b) (cardIn b)
+      go (yes z) = apply-cost-none geo a z ∙ rw (w, p) (sym (apply-cost-none geo b (sym n ∙ z)))
+      go (no z) = apply-cost-some geo a z ∙ rw (n, w, p) (sym (apply-cost-some geo b (λ e. z (n ∙ e))))
 
 -- ---- what a call shows on twins
 
@@ -67,11 +93,32 @@ module _ (geo : Geometry) (w v : World) (t : Twins geo w v) (x : w .store .rec .
           ∙ sym (as-first geo w v t (plainGet a) ∙ same-get geo (t .groups) (w .plain) a)
           ∙ sym (get-plain geo a (v .store) (v .ledger) (v .plain) (t .second) (sym row ∙ h))
 
+  -- the figures of an inquiry about a call that is not refused
+  served-figures : (q : Save) → cause geo (Request.save q) (w .store) ≡ 0 → figures (saveOrders geo q (w .store)) (cardIn (w .store)) ≡ figures (saveOrders geo q (v .store)) (cardIn (v .store))
+  served-figures Save.sync h =
+      let e = is-open geo (w .store) (w .ledger) (w .plain) (t .first) Request.sync refl (cause-passes geo Request.sync (w .store) h) .mode in
+      sync-counted geo (w .store) (v .store) (same-logged geo w v t e) (same-grouped geo w v t e) (same-waiting geo w v t) (same-power geo w v t)
+  served-figures Save.apply h =
+      let e = is-open geo (w .store) (w .ledger) (w .plain) (t .first) Request.apply refl (cause-passes geo Request.apply (w .store) h) .mode in
+      apply-counted geo (w .store) (v .store) (same-logged geo w v t e) (same-waiting geo w v t) (same-power geo w v t)
+  served-figures Save.recover h = absurd (recover-closed geo (w .store) (t .first-mode) h)
+
+  same-figures : (q : Save) → costOf geo q (w .store) ≡ costOf geo q (v .store)
+  same-figures q = go (ℕ-discrete (cause geo (Request.save q) (w .store)) 0)
+    where
+      row : cause geo (Request.save q) (w .store) ≡ cause geo (Request.save q) (v .store)
+      row = same-row geo w v t x y (save q)
+
+      go : Dec (cause geo (Request.save q) (w .store) ≡ 0) → costOf geo q (w .store) ≡ costOf geo q (v .store)
+      go (no h) = sym (cost-refused geo (w .store) q _ refl h) ∙ ap noFigures row ∙ cost-refused geo (v .store) q _ refl (λ z. h (row ∙ z))
+      go (yes h) = sym (cost-served geo (w .store) q _ refl h) ∙ served-figures q h ∙ cost-served geo (v .store) q _ refl (sym row ∙ h)
+
   same-at : (c : Call) → SameAt geo c (w .store) (v .store)
   same-at c = record {
     answer = same-end geo w v t x y c .0;
     orders = same-end geo w v t x y c .1;
     block = same-block;
+    figures = same-figures;
     list = λ xs bs.
         list-plain geo xs bs (w .store) (w .ledger) (w .plain) (t .first)
         ∙ sym (as-first geo w v t (plainListing geo xs bs) ∙ same-listing geo (t .groups) (w .plain) xs bs)
@@ -146,13 +193,13 @@ module _ (geo : Geometry) (w v : World) (t : Twins geo w v) (e : w .store .rec .
               ∙ sym (open-laid geo v (t .second) q x (ap (λ (N : ℕ). isData geo N x) (sym same-blocks) ∙ y));
         });
     rec = λ i. record {
-      mode = (p .mode ∙ sym (q .mode)) i;
+      mode = same-mode geo w v t i;
       blocks = same-size i;
       opened = same-opened geo w v t e i;
       grouped = same-grouped geo w v t e i;
       logged = same-logged geo w v t e i;
-      waiting = (sym (t .first .basics .mirrors .waiting) ∙ sym (as-first geo w v t (λ (d : Plain). d .waiting)) ∙ t .second .basics .mirrors .waiting) i;
-      power = (sym (t .first .basics .power) ∙ sym (as-first geo w v t (λ (d : Plain). d .power)) ∙ t .second .basics .power) i;
+      waiting = same-waiting geo w v t i;
+      power = same-power geo w v t i;
       sum = (p .sum ∙ ap (sumOf start) (same-log geo w v t e) ∙ sym (q .sum)) i;
       save = 0;
     };
@@ -187,8 +234,7 @@ module _ (geo : Geometry) (st : State) (f : Shut geo st) (accepted : inspection 
   opens k n D e under d =
       let count : takenCount (choose geo (st .rec .blocks) (st .settled)) ≡ n = taken ∙ e in
       let r = reopens geo st sizes counts (f .mode) (f .bytes) chosen D (λ x q. under x q ∙ ap (λ (m : ℕ). overlay (entries geo (st .settled) m) (blockAt (st .settled)) x) (sym taken)) d in
-      let sim = subst (λ (m : ℕ). Sim geo (dispatch geo recover st .state) (settledBy (entries geo (st .settled) m)) (plainReopened (st .rec .blocks) D (r .0) m (r .1 .0))) count (r .1 .1) in
-      (
+      let sim = subst (λ (m : ℕ). Sim geo (dispatch geo recover st .state) (settledBy (entries geo (st .settled) m)) (plainReopened (st .rec .blocks) D (r .0) m (r .1 .0))) count (r .1 .1) in (
         r .0,
         next-sim geo (power k)
             (record { store = dispatch geo recover st .state; ledger = settledBy (entries geo (st .settled) n); plain = plainReopened (st .rec .blocks) D (r .0) n (r .1 .0); excepted = false })

@@ -13,9 +13,8 @@ use Rattle.journal.specs.Geometry.{Geometry}
 use Rattle.journal.specs.Header.{mostSave}
 use Rattle.store.specs.Local as Local
 use Rattle.store.specs.Save as Save
-use Rattle.store.specs.GetList.{Listing}
 use Rattle.history.specs.Call.{Call, local, save, cut}
-use Rattle.history.specs.Plain.{Plain, Done, ofSync, ofApply, ofRecover, withS, whenOpen, lastSave, done, still, cutShort, applyTakes, applyWaits, syncTakes, syncWaits, synced, cleared, recovered, plainFit, refusal, served, plainSync, plainApply, plainRecover, plainCut, plainStep, plainGet, plainListing}
+use Rattle.history.specs.Plain.{Plain, Done, ofSync, ofApply, ofRecover, withS, done, still, cutShort, applyTakes, applyWaits, syncTakes, syncWaits, synced, cleared, recovered, plainFit, refusal, served, plainSync, plainApply, plainRecover, plainCut, plainStep, plainGet, plainListing}
 use Rattle.history.proofs.Steps.Shown.{plain-refused, plain-served}
 
 abbrev pub regrouped : ℕ → Plain → Plain

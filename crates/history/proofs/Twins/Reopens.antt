@@ -20,7 +20,7 @@ use Rattle.card.proofs.Runs.{settle-other, settle-overlay}
 use Rattle.crash.specs.Laid.{Laid}
 use Rattle.crash.proofs.Cards.{Every, WholeCard, fallen}
 use Rattle.crash.proofs.Logs.{sum-lt, logD, entries-disk, data-above}
-use Rattle.crash.proofs.Plans.{Plan, planned, takes, settles, Fits, length-planned}
+use Rattle.crash.proofs.Plans.{Plan, planned, takes, length-planned}
 use Rattle.journal.specs.Geometry.{Geometry}
 use Rattle.journal.specs.declared.header.Header.{Header}
 use Rattle.journal.specs.declared.choice.Choice.{Choice}
@@ -46,7 +46,7 @@ use Rattle.history.specs.Ledger.{settledBy}
 use Rattle.history.proofs.Relation.CauseLaws.{RecordFacts, record-facts, idle}
 use Rattle.history.proofs.Relation.Sim.{Sim}
 use Rattle.history.proofs.Steps.CallEnds.{carried-done, carried-short}
-use Rattle.history.proofs.Steps.Ends.{none-listed, openPlain, Ends, ends-sim}
+use Rattle.history.proofs.Steps.Ends.{none-listed, Ends, ends-sim}
 
 -- the plain disk then: N, the data blocks D, into which g groups were laid, n entries in the log, the power p
 abbrev pub plainReopened : ℕ → Disk → ℕ → ℕ → ℕ → Plain
