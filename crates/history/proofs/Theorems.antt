@@ -32,7 +32,7 @@ use Rattle.history.specs.Cuts.{AllCuts, AllMixtures}
 use Rattle.history.specs.Formats.{AllFormats}
 use Rattle.history.specs.Costs.{Costs}
 use Rattle.history.specs.GetLists.{AllLists}
-use Rattle.history.specs.AlikeCards.{AllAlikeCards}
+use Rattle.history.specs.AlikeCards.{AllAlike}
 use Rattle.history.specs.Linked.{Linked}
 use Rattle.history.specs.Scripts.{ScriptsAreHistories}
 use Rattle.history.proofs.Relation.CauseLaws.{cause-one, cause-two, cause-passes}
@@ -198,8 +198,8 @@ module _ (geo : Geometry) where
 
   -- ---- Cards that are alike
 
-  pub all-alike-cards : AllAlikeCards geo
-  all-alike-cards = AlikeCardsProof.alike-cards geo
+  pub all-alike : AllAlike geo
+  all-alike = record { told = AlikeCardsProof.told geo; cards = AlikeCardsProof.alike-cards geo }
 
   -- ---- Through C
 

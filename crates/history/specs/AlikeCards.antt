@@ -2,7 +2,7 @@
 -- cards that are alike come to the same at every call, and stay alike, until a cut.
 use Prim.Native.Nat.{ℕ, _≤_}
 use mathlib.Core.Path.{_≡_}
-use mathlib.Core.Logic.{_≢_}
+use mathlib.Core.Logic.{_≢_, _↔_}
 use mathlib.Core.Bool.{true}
 use mathlib.Core.List.{List, [], _∷_}
 use Rattle.cells.specs.Little.{Bytes}
@@ -13,7 +13,8 @@ use Rattle.store.specs.Get.{blockOf}
 use Rattle.store.specs.GetList.{listing}
 use Rattle.store.specs.Save.{Save}
 use Rattle.store.specs.Cost.{costOf}
-use Rattle.inspect.specs.Alike.{alikeOf}
+use Rattle.inspect.specs.Alike.{alikeOf, Same}
+use Rattle.firmware.specs.Face.{comparedOf, compared}
 use Rattle.history.specs.Call.{Call, power, recover, cut}
 use Rattle.history.specs.Dispatch.{dispatch}
 use Rattle.history.specs.Cuts.{firstRows}
@@ -77,5 +78,7 @@ module _ (geo : Geometry) where
     pub still : (k : ℕ) (cs : List Call) → Reaches k cs a → Reaches k cs b → left cs (recovered k a) .rec .mode ≡ openMode
         → StillAlike (left cs (recovered k a)) (left cs (recovered k b))
 
-  abbrev pub AllAlikeCards : Type 0
-  AllAlikeCards = (a b : State) → Clones a b → AlikeCards a b
+  pub record AllAlike : Type 0 where
+    -- "alike is yes exactly if": what C is told of two cards, number 0 and 1 for yes
+    pub told : (a b : List ℕ) → (compared geo a b ≡ comparedOf 0 1) ↔ Same geo a b
+    pub cards : (a b : State) → Clones a b → AlikeCards a b

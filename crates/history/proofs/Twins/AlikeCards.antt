@@ -1,8 +1,8 @@
 -- Two cards that are alike: recovered, they are twins, and so they stay.
 use Prim.Native.Nat.{ℕ, _+_, _≤_, _<_}
-use mathlib.Core.Path.{_≡_, refl, ap, sym, subst, _∙_}
-use mathlib.Core.Logic.{_≢_}
-use mathlib.Core.Bool.{true, false}
+use mathlib.Core.Path.{_≡_, refl, ap, ap₂, sym, subst, _∙_}
+use mathlib.Core.Logic.{_≢_, _↔_}
+use mathlib.Core.Bool.{Bool, true, false, cond}
 use mathlib.Core.List.{List}
 use native.Mathlib.Omega.{arith}
 use native.Mathlib.Decide.{ℕ-discrete, decLe}
@@ -30,7 +30,8 @@ use Rattle.store.specs.Cost.{figures, noFigures, costOf}
 use Rattle.store.proofs.Costs.{sync-cost-none, sync-cost-room, sync-cost-full, apply-cost-none, apply-cost-some, cost-refused, cost-served}
 use Rattle.inspect.specs.Reading as Reading
 use Rattle.inspect.specs.Reading.{inspection, chosenCount, laidOver}
-use Rattle.inspect.specs.Alike.{Same}
+use Rattle.inspect.specs.Alike.{alikeOf, Same}
+use Rattle.firmware.specs.Face.{Compared, comparedOf, compared}
 use Rattle.journal.proofs.Logs.{neither}
 use Rattle.inspect.proofs.Readings.{right-chosen}
 use Rattle.inspect.proofs.Comparisons.{alike-yes}
@@ -49,7 +50,7 @@ use Rattle.history.proofs.Twins.Regrouped.{same-get, same-listing}
 use Rattle.history.proofs.Twins.Reopens.{plainReopened, reopens, two-suffice}
 use Rattle.history.proofs.Twins.LastNumber.{recover-closed}
 use Rattle.history.proofs.Twins.Pairs.{Twins, as-first, same-mode, same-waiting, same-power, first-open, second-open, same-logged, same-log, same-grouped, same-opened, same-row, same-end, worldOf, TwinsOf, twins-left}
-use Rattle.history.proofs.Boundary.FaceRefusals.{parts}
+use Rattle.history.proofs.Boundary.FaceRefusals.{parts, reads}
 
 module _ (geo : Geometry) where
   right-one : (st : State) → wrongSizes geo st ≡ false → wrongSize geo (st .settled) ≡ false
@@ -289,3 +290,17 @@ module _ (geo : Geometry) (a b : State) (c : Clones geo a b) where
     same = λ k cs x y q. let t = behind k cs x y in same-at geo (worldOf _ (t .ledger) (t .plain)) (worldOf _ (t .other-ledger) (t .other-plain)) (t .twins) (x .number) (y .number) q;
     still = λ k cs x y e. let t = behind k cs x y in still-alike geo (worldOf _ (t .ledger) (t .plain)) (worldOf _ (t .other-ledger) (t .other-plain)) (t .twins) e;
   }
+
+-- ---- what C is told
+
+module _ (geo : Geometry) where
+  pub told : (a b : List ℕ) → (compared geo a b ≡ comparedOf 0 1) ↔ Same geo a b
+  unfolding compared
+  told a b = (
+    λ e. alike-yes geo a b .0 (one (alikeOf geo a b .yes) (ap (λ (x : Compared). x .yes) e)),
+    λ h. ap₂ comparedOf (reads geo a b .alike-serves (h .first) (h .second)) (ap (λ (t : Bool). cond t 1 0) (alike-yes geo a b .1 h)),
+  )
+    where
+      one : (t : Bool) → _≡_ {A = ℕ} (cond t 1 0) 1 → t ≡ true
+      one true e = refl
+      one false e = absurd (omega arith)
