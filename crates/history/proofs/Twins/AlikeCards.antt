@@ -20,7 +20,7 @@ use Rattle.journal.specs.declared.choice.Choice.the-variants.{Whole}
 use Rattle.journal.specs.Choice.{choose, choiceNumber, takenCount}
 use Rattle.crash.proofs.Logs.{entries-disk}
 use Rattle.store.specs.Request as Request
-use Rattle.store.specs.State.{State, openMode, cardIn}
+use Rattle.store.specs.State.{State, openMode, withSave, cardIn}
 use Rattle.store.specs.Causes.{wrongSizes, wrongRecord, cause}
 use Rattle.store.specs.Get.{blockOf}
 use Rattle.store.specs.Save as Save
@@ -179,6 +179,19 @@ module _ (geo : Geometry) (w v : World) (t : Twins geo w v) (e : w .store .rec .
       let second = slotEntry geo (v .store .settled) in
       sym (getD-upTo first n i (first i) inside) ∙ ap (λ (es : List Entry). getD es i (first i)) lists ∙ getD-upTo second n i (first i) inside
 
+  same-records : withSave 0 (w .store .rec) ≡ withSave 0 (v .store .rec)
+  same-records = λ i. record {
+    mode = same-mode geo w v t i;
+    blocks = same-size i;
+    opened = same-opened geo w v t e i;
+    grouped = same-grouped geo w v t e i;
+    logged = same-logged geo w v t e i;
+    waiting = same-waiting geo w v t i;
+    power = same-power geo w v t i;
+    sum = (p .sum ∙ ap (sumOf start) (same-log geo w v t e) ∙ sym (q .sum)) i;
+    save = 0;
+  }
+
   still-alike : StillAlike geo (w .store) (v .store)
   still-alike = record {
     alike = alike-yes geo (w .store .settled) (v .store .settled) .1
@@ -193,17 +206,7 @@ module _ (geo : Geometry) (w v : World) (t : Twins geo w v) (e : w .store .rec .
               ∙ sym (as-first geo w v t (λ (d : Plain). d .S .disk x))
               ∙ sym (open-laid geo v (t .second) q x (ap (λ (N : ℕ). isData geo N x) (sym same-blocks) ∙ y));
         });
-    rec = λ i. record {
-      mode = same-mode geo w v t i;
-      blocks = same-size i;
-      opened = same-opened geo w v t e i;
-      grouped = same-grouped geo w v t e i;
-      logged = same-logged geo w v t e i;
-      waiting = same-waiting geo w v t i;
-      power = same-power geo w v t i;
-      sum = (p .sum ∙ ap (sumOf start) (same-log geo w v t e) ∙ sym (q .sum)) i;
-      save = 0;
-    };
+    rec = same-records;
   }
 
 -- ---- a card that is recovered
