@@ -1,4 +1,4 @@
--- The laws of a card that was read: its size, its refusal, its blocks.
+-- The laws of a card that was read: its size, its refusal, the count of its list.
 use Prim.Native.Nat.{ℕ, _%_, _≤_, _<_}
 use mathlib.Core.Path.{_≡_, refl, ap, sym, _∙_}
 use mathlib.Core.Bool.{Bool, true, false, cond, not, _||_}
@@ -8,18 +8,15 @@ use borrow.Author.Tests.{ltb-false}
 use lib.Dec.{eqb, ltb}
 use lib.ListN.{length}
 use Rattle.cells.specs.Entry.{blockBytes}
-use Rattle.card.specs.Card.{blocksIn, blockAt}
+use Rattle.card.specs.Card.{blocksIn}
 use Rattle.journal.specs.Geometry.{Geometry}
 use Rattle.journal.specs.declared.choice.Choice.{Choice}
-use Rattle.journal.specs.declared.lookup.Found.the-variants.{At, Absent}
-use Rattle.journal.specs.Layout.{firstData, slotAt, leastBlocks, mostBlocks, wrongSize}
-use Rattle.journal.specs.Lookup.{lastSlot}
+use Rattle.journal.specs.Layout.{firstData, leastBlocks, mostBlocks, wrongSize}
 use Rattle.journal.specs.Choice.{choiceNumber, takenCount}
-use Rattle.journal.proofs.Lookups.{overlay-slots}
 use Rattle.journal.proofs.Choices.{taken-count}
 use Rattle.journal.proofs.Logs.{neither}
 use Rattle.inspect.specs.declared.reading.Reading.{Reading}
-use Rattle.inspect.specs.Reading.{chosen, inspection, laid}
+use Rattle.inspect.specs.Reading.{chosen, inspection, chosenCount}
 use Rattle.inspect.specs.CodeReading.{Read}
 
 -- ---- the size
@@ -71,7 +68,7 @@ module _ (geo : Geometry) where
     pub none : inspection geo s ≡ 0
     pub size : Sized s
     pub blocks : r .blocks ≡ blocksIn s
-    pub count : r .count ≡ takenCount (chosen geo s)
+    pub count : r .count ≡ chosenCount geo s
     pub fits : r .count ≤ geo .slots
 
   pub read-taken : (s : List ℕ) (r : Reading) → Read geo s r → r .number ≡ 0 → TakenList s r
@@ -84,11 +81,3 @@ module _ (geo : Geometry) where
         count = h .count z;
         fits = rw (h .count z) (taken-count geo (blocksIn s) s);
       }
-
-  -- ---- a block as laid
-
-  pub laid-slot : (s : List ℕ) (n a i : ℕ) → lastSlot s a n ≡ At i → laid geo s n a ≡ blockAt s (slotAt geo i)
-  laid-slot s n a i e = overlay-slots geo s n (blockAt s) a ∙ rw e
-
-  pub laid-home : (s : List ℕ) (n a : ℕ) → lastSlot s a n ≡ Absent → laid geo s n a ≡ blockAt s a
-  laid-home s n a e = overlay-slots geo s n (blockAt s) a ∙ rw e

@@ -1,9 +1,11 @@
 -- `inspect::alike::alike` meets its contract.
+use mathlib.Core.Logic.{⊎-elim}
 use native.Mathlib.Omega.{arith}
 use borrow.Author.Needs.{needs}
+use borrow.Author.Tests.{not-true, not-false, eqb-true, eqb-false}
 use Rattle.journal.specs.Geometry.{trap}
 use Rattle.inspect.proofs.Readings.{TakenList, read-taken}
-use Rattle.inspect.proofs.Comparisons.{alike-first, alike-second, alike-blocks, alike-data}
+use Rattle.inspect.proofs.Comparisons.{alike-first, alike-second, alike-blocks, alike-counts, alike-contents}
 use Rattle.inspect.proofs.alike.alike.Statement.{statement}
 use Rattle.inspect.proofs.alike.alike.Tie as tie
 
@@ -29,19 +31,25 @@ returns-2 c = alike-second trap _ _ _ (taken-a (c .before .before .before) .none
 returns-3 : tie.Need-returns-3
 returns-3 c =
     let second = c .before .before .before in
-    alike-blocks trap _ _ _ _ (taken-a (second .before .before .before)) (taken-b second) (c .if3 .taken)
+    let x = taken-a (second .before .before .before) in
+    let y = taken-b second in
+    ⊎-elim
+    (λ w. alike-blocks trap _ _ _ _ x y (w .taken))
+    (λ w. alike-counts trap _ _ _ _ x y (eqb-false _ _ (not-true _ (w .3 .taken))))
+    (c .if3 .came)
 
-same-data-requires : tie.Need-same-data-requires
-same-data-requires c κs =
-    let second = c .before .before .before in
+same-contents-requires : tie.Need-same-contents-requires
+same-contents-requires c κs =
+    let second = c .before .before .before .before .before .before in
     let x = taken-a (second .before .before .before) in
     let y = taken-b second in
     omega arith
 
 returns-4 : tie.Need-returns-4
 returns-4 c =
-    let second = c .before .before .before .before in
-    alike-data trap _ _ _ _ _ (taken-a (second .before .before .before)) (taken-b second) (c .before .if3 .left) (c .same-data .ensures)
+    let tests = c .before in
+    let second = tests .before .before .before .before .before .before in
+    alike-contents trap _ _ _ _ _ (taken-a (second .before .before .before)) (taken-b second) (tests .before .before .before .if3 .left) (eqb-true _ _ (not-false _ (tests .if4 .left))) (c .same-contents .ensures)
 
 pub alike-spec : {M : Type 1} → statement M
 alike-spec =
@@ -52,5 +60,5 @@ alike-spec =
     inspect-requires-2
     returns-2
     returns-3
-    same-data-requires
+    same-contents-requires
     returns-4)
