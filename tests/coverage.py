@@ -108,13 +108,14 @@ CASES = (
     + prefixed("accepted: ", ("32 open", "32 in the group", "32 in the log", "N 35", "N 65535", "N 65536"))
     + prefixed("tally: ", ("no log", "whole log", "fallback list", "N 65536", "32 slots", "an address in several slots",
                            "more than the home blocks", "less than the home blocks"))
-    + prefixed("alike: ", ("yes, one card twice", "yes, a copy", "yes, other bytes", "no", "no, other N", "no, other N, the same log", "yes, N 65536"))
+    + prefixed("alike: ", ("yes, one card twice", "yes, a copy", "yes, other bytes", "no", "no, other N", "no, other N, the same log",
+                           "yes, N 65536"))
     + prefixed("alike: yes, ", ("0 slots", "1 slots", "32 slots", "an address in several slots", "an address beyond the count unlike",
                                 "a block beyond the count unlike", "a home block under the log unlike", "the first card falls back",
                                 "the second card falls back", "both cards fall back", "a fallback to nothing", "a fallback from unlike n",
                                 "p unlike, no fallback"))
     + prefixed("alike: no, the same data, ", ("one log empty", "the counts unlike", "one slot more", "the same entries in another order",
-                                              "the same blocks in all slots", "the headers' whole lists equal"))
+                                              "the same blocks in all slots", "the headers' whole lists equal", "one card falls back"))
     + tuple("alike: no, the same data, %s unlike in the %s slot alone" % (part, slot) for part, slots in UNLIKE_SLOT.items() for slot in slots)
     + tuple("alike: no, unlike data, block unlike in the %s slot alone" % slot for slot in SLOT)
     + prefixed("alike: no, the same log, data unlike in ", ("the only block", "the first block alone", "a middle block alone", "the last block alone",

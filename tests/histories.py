@@ -186,7 +186,7 @@ def odd_length(chance, call, blocks, large):
     if call in ("tally", "alike"):
         name = "settled" if call == "tally" else chance.choice(("settled", "other"))
     else:
-        name = chance.choice(("record", "settled", "waiting", "work"))
+        name = "settled" if large else chance.choice(("record", "settled", "waiting", "work"))
     lengths = {"record": (0, RECORD - 8, RECORD - 1, RECORD + 1, 2 * RECORD),
                "waiting": (0, WAITING - 1, WAITING + 1, WAITING - 516, WAITING + 516),
                "work": (0, WORK - 1, WORK + 1, WORK - 516, WORK + 516)}
@@ -203,7 +203,7 @@ def odd_lengths(chance, call, blocks):
     kind = chance.random()
     if kind < 0.75:
         return ()
-    large = chance.random() < 0.08
+    large = chance.random() < 0.05
     return tuple(dict(odd_length(chance, call, blocks, large) for _ in range(1 if large or kind < 0.95 else 2)).items())
 
 

@@ -60,7 +60,7 @@ def any_card(blocks, chance):
     settled = noise(chance, BLOCK * blocks)
     struct.pack_into(HEADER, settled, 0, FORMAT, blocks, 0, 0, EMPTY_SUM, EMPTY_SUM, 0)
     card = Card(settled)
-    pool = chance.choices(range(FIRST_DATA, blocks), k=chance.choice((1, 2, 3, 8, 40))) + [FIRST_DATA, blocks - 1]
+    pool = chance.choices(range(FIRST_DATA, blocks), k=chance.choice((1, 2, 8, 40, 40))) + [FIRST_DATA, blocks - 1]
     card.entries = [(chance.choice(pool), any_block(chance)) for _ in range(chance.choice((0, 1, 1, 2, 3, 5, 8, 16, 31, 32)))]
     card.previous, card.save = chance.randint(0, len(card.entries)), chance.choice((0, save_number(chance)))
     card.finished()
@@ -114,7 +114,7 @@ def other_address(one, two, chance):
 def other_block(one, two, chance):
     """In one slot; mostly it is one whose address stands in a later slot, too."""
     hidden = [at for at, (address, _) in enumerate(two.entries) if address in two.listed()[at + 1:]]
-    slots = hidden if hidden and chance.random() < 0.8 else range(len(two.entries))
+    slots = hidden if hidden and chance.random() < 0.65 else range(len(two.entries))
     if slots:
         at = slots[place(chance, len(slots))]
         address, block = two.entries[at]
@@ -278,11 +278,13 @@ def unlike_slots(listed, others):
 
 
 def unlike_logs(cards):
-    (listed, one, _), (others, other, _) = cards
+    (listed, one, back), (others, other, other_back) = cards
     yield from unlike_slots(listed, others) if len(listed) == len(others) else unlike_counts(*sorted((listed, others), key=len))
     counts = [read_header(settled)[3] for settled in (one, other)]
     if counts[0] == counts[1] and log(one, counts[0]) == log(other, counts[0]):
         yield "the headers' whole lists equal"
+    if back != other_back:
+        yield "one card falls back"
 
 
 def unlike_data(cards):
@@ -291,8 +293,8 @@ def unlike_data(cards):
     last = len(one) // BLOCK - 1
     differ = [x for x in range(FIRST_DATA, last + 1) if home(one, x) != home(other, x) and x not in dict(listed)]
     if len(differ) == 1:
-        x = differ[0]
-        yield "unlike in the only block" if last == FIRST_DATA else "unlike in %s block alone" % {FIRST_DATA: "the first", last: "the last"}.get(x, "a middle")
+        x, named = differ[0], {FIRST_DATA: "the first block alone", last: "the last block alone"}
+        yield "unlike in " + ("the only block" if last == FIRST_DATA else named.get(x, "a middle block alone"))
         if sum(byte != twin for byte, twin in zip(home(one, x), home(other, x))) == 1:
             yield "unlike in a byte alone"
         if any(x in dict(log(settled, SLOTS)[len(listed):]) for settled in (one, other)):
