@@ -115,7 +115,8 @@ CASES = (
                                 "the second card falls back", "both cards fall back", "a fallback to nothing", "a fallback from unlike n",
                                 "p unlike, no fallback"))
     + prefixed("alike: no, the same data, ", ("one log empty", "the counts unlike", "one slot more", "the same entries in another order",
-                                              "the same blocks in all slots", "the headers' whole lists equal", "one card falls back"))
+                                              "the same blocks in all slots", "the headers' whole lists equal", "one card falls back",
+                                              "an address unlike above its lowest byte alone"))
     + tuple("alike: no, the same data, %s unlike in the %s slot alone" % (part, slot) for part, slots in UNLIKE_SLOT.items() for slot in slots)
     + tuple("alike: no, unlike data, block unlike in the %s slot alone" % slot for slot in SLOT)
     + prefixed("alike: no, the same log, data unlike in ", ("the only block", "the first block alone", "a middle block alone", "the last block alone",

@@ -79,7 +79,7 @@ def other_card(chance, blocks, large):
     if kind == "twin":
         detail = chance.randrange(1 << 32), pairs.drawn(chance)
     if kind == "pair":
-        detail = chance.choice((35, 36, 37, 48, size(chance, False))), chance.randrange(1 << 32), pairs.drawn(chance)
+        detail = chance.choice((35, 36, 37, 48, 600, size(chance, False))), chance.randrange(1 << 32), pairs.drawn(chance)
     if kind == "copy":
         detail = tuple((chance.randrange(BLOCK * blocks), chance.randrange(256)) for _ in range(chance.randrange(3)))
     if kind == "made":

@@ -104,11 +104,12 @@ def first_slot_less(one, two, chance):
 
 
 def other_address(one, two, chance):
-    """In one slot; often it is one that stands in a later slot, too."""
+    """In one slot; often it is one that stands in a later slot, too, or has the same lowest byte."""
     if two.entries:
         at = place(chance, len(two.entries))
-        address = chance.choice((chance.randrange(FIRST_DATA, two.blocks()), *two.listed()[at + 1:]))
-        two.entries[at] = address, two.entries[at][1]
+        data, address, block = range(FIRST_DATA, two.blocks()), *two.entries[at]
+        others = chance.choice((data, two.listed()[at + 1:], data[(address - FIRST_DATA) % 256::256])) or data
+        two.entries[at] = chance.choice(others), block
 
 
 def other_block(one, two, chance):
@@ -274,7 +275,10 @@ def unlike_slots(listed, others):
     if all(entry[1] == other[1] for entry, other in zip(listed, others)):
         yield "the same blocks in all slots"
     if len(slots) == 1:
-        yield "%s unlike in the %s slot alone" % (unlike_part(listed[slots[0]], others[slots[0]]), where(slots[0], len(listed)))
+        entry, other = listed[slots[0]], others[slots[0]]
+        yield "%s unlike in the %s slot alone" % (unlike_part(entry, other), where(slots[0], len(listed)))
+        if entry[0] != other[0] and entry[1] == other[1] and entry[0] % 256 == other[0] % 256:
+            yield "an address unlike above its lowest byte alone"
 
 
 def unlike_logs(cards):
