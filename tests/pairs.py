@@ -82,7 +82,7 @@ def place(chance, count):
     return chance.choice((0, count - 1, chance.randrange(count)))
 
 
-# ---- changes of the log: of the first card there is one to read, and the second is changed
+# ---- changes of the second card's log
 
 def log_applied(one, two, chance):
     two.entries = []
@@ -142,7 +142,7 @@ def shorter_fallback(one, two, chance):
         two.entries = two.entries[:chance.randrange(len(two.entries))]
 
 
-# ---- changes that leave the pair alike, and one that does not
+# ---- changes that leave a pair alike
 
 def falls_back(one, two, chance):
     """To the same entries, whatever follows them."""
@@ -176,6 +176,8 @@ def under_log(one, two, chance):
     for address in listed and chance.choice(([chance.choice(listed)], listed)):
         two.set_block(address, spoiled(chance, home(two.settled, address)))
 
+
+# ---- changes of the data and of N
 
 def other_data(one, two, chance):
     """A byte of a data block that the log has not, and it may be that of a slot that is not chosen."""
