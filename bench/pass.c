@@ -2,6 +2,8 @@
 
 #include "trapcard.h"
 
+enum { CHUNK = 128 };
+
 uint64_t pass_row(const uint8_t *s, size_t n)
 {
     uint64_t sum = 0;
@@ -29,4 +31,24 @@ uint64_t pass_narrow(const uint8_t *s, size_t n)
         sum += block;
     }
     return sum;
+}
+
+bool pass_same(const uint8_t *a, const uint8_t *b, size_t n)
+{
+    for (size_t i = 0; i < n; i++)
+        if (a[i] != b[i])
+            return false;
+    return true;
+}
+
+bool pass_through(const uint8_t *a, const uint8_t *b, size_t n)
+{
+    uint8_t seen = 0;
+    size_t i = 0;
+    for (; i + CHUNK <= n; i += CHUNK)
+        for (size_t j = 0; j < CHUNK; j++)
+            seen |= a[i + j] ^ b[i + j];
+    for (; i < n; i++)
+        seen |= a[i] ^ b[i];
+    return seen == 0;
 }

@@ -1,5 +1,5 @@
-/* The card store in plain C, written from document 01, with W-201, W-204, W-205 and W-207 of document 02, and not from the Rattle sources: what the
- * bench measures the store against. It makes the same checks (rows 1 to 10, 12 and 13 of the table of causes) and leaves the same bytes. */
+/* The card store in plain C, written from document 01, with W-201, W-204, W-205, W-207 and W-208 of document 02, and not from the Rattle
+ * sources: what the bench measures the store against. It makes the same checks (rows 1 to 10, 12 and 13 of the table of causes) and leaves the same bytes. */
 #include "plain.h"
 
 #include <stdbool.h>
@@ -628,6 +628,21 @@ uint32_t plain_tally(const uint8_t *settled, size_t settled_len, uint64_t *sum)
     return TRAPCARD_DONE;
 }
 
+/* Whether two cards have the same n entries, which lie in a row. */
+static bool same_log(const uint8_t *a, const uint8_t *b, uint32_t n)
+{
+    return memcmp(descriptor(a), descriptor(b), 4 * (size_t)n) == 0 && memcmp(a + slot_at(0), b + slot_at(0), (size_t)BLOCK * n) == 0;
+}
+
+/* Whether all data blocks are equal but for those under the same n entries. */
+static bool same_data(const uint8_t *a, const uint8_t *b, size_t len, uint32_t n)
+{
+    for (uint32_t x = TRAPCARD_FIRST; x < len / BLOCK; x++)
+        if (memcmp(a + (size_t)BLOCK * x, b + (size_t)BLOCK * x, BLOCK) != 0 && find(descriptor(a), 4, n, x) < 0)
+            return false;
+    return true;
+}
+
 uint32_t plain_alike(const uint8_t *settled_a, size_t settled_a_len, const uint8_t *settled_b, size_t settled_b_len,
                      uint32_t *yes)
 {
@@ -636,11 +651,8 @@ uint32_t plain_alike(const uint8_t *settled_a, size_t settled_a_len, const uint8
     uint32_t number = inspect(settled_a, settled_a_len, &n);
     if (number == TRAPCARD_DONE)
         number = inspect(settled_b, settled_b_len, &m);
-    if (number != TRAPCARD_DONE || settled_a_len != settled_b_len)
+    if (number != TRAPCARD_DONE)
         return number;
-    for (uint32_t a = TRAPCARD_FIRST; a < settled_a_len / BLOCK; a++)
-        if (memcmp(laid(settled_a, n, a), laid(settled_b, m, a), BLOCK) != 0)
-            return TRAPCARD_DONE;
-    *yes = 1;
+    *yes = settled_a_len == settled_b_len && n == m && same_log(settled_a, settled_b, n) && same_data(settled_a, settled_b, settled_a_len, n);
     return TRAPCARD_DONE;
 }

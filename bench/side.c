@@ -137,6 +137,27 @@ static void damage(struct side *a, struct side *b)
     }
 }
 
+/* A byte of header or descriptor, of the first slots, or any. */
+static uint32_t draw_place(void)
+{
+    switch (draw(3)) {
+    case 0: return draw(2) * TRAPCARD_BLOCK + draw(48);
+    case 1: return (2 + draw(4)) * TRAPCARD_BLOCK + draw(TRAPCARD_BLOCK);
+    default: return draw(SMALL * TRAPCARD_BLOCK);
+    }
+}
+
+/* The other card of an alike: the one before, or a copy of this one, mostly with a byte unlike. */
+static void draw_other(struct side *a, struct side *b)
+{
+    struct side *both[2] = {a, b};
+    uint32_t kind = draw(4), at = draw_place();
+    for (int k = 0; k < 2 && kind > 0; k++) {
+        memcpy(both[k]->other, both[k]->settled, both[k]->settled_len);
+        both[k]->other[at] ^= (uint8_t)(kind > 1);
+    }
+}
+
 /* A format on both. Mostly the card is given up first, by zeros in block 0: one that is in use is refused. */
 static void format_both(struct side *a, struct side *b)
 {
@@ -162,6 +183,8 @@ long random_calls(long n)
         if (draw(50) == 0)
             damage(&a, &b);
         struct drawn d = draw_call(trapcard_record_number(a.record, TRAPCARD_RECORD_WAITING));
+        if (d.kind == 17)
+            draw_other(&a, &b);
         give(&a, &d);
         give(&b, &d);
         must_agree(&a, &b, "a random call");

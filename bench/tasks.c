@@ -67,6 +67,15 @@ static void fill_torn(void)
         others_torn[i] = i < MARKS - TRAPCARD_BLOCK ? (uint8_t)(i * 2654435761u >> 13 & 1) : 1;
 }
 
+/* For this call the other card's home blocks under the log are unlike. */
+static void alike_apart(struct side *s);
+
+static void part_homes(struct side *s, uint32_t n)
+{
+    for (uint32_t i = 0; i < n; i++)
+        s->other[(size_t)TRAPCARD_BLOCK * walk(LOG_FROM + i)] ^= 1;
+}
+
 void prepare(const struct task *t, struct side *s)
 {
     fill_torn();
@@ -88,6 +97,8 @@ void prepare(const struct task *t, struct side *s)
     if (t->mode == TRAPCARD_MODE_CLOSED)
         trapcard_closed_record(s->record, BLOCKS);
     memcpy(s->other, s->settled, s->settled_len);
+    if (t->call == alike_apart)
+        part_homes(s, t->logged);
     memcpy(s->saved_record, s->record, sizeof s->record);
     memcpy(s->saved_descriptor, s->settled + TRAPCARD_BLOCK, TRAPCARD_BLOCK);
 }
@@ -227,6 +238,11 @@ static void alike(struct side *s)
     s->number = s->calls->alike(s->settled, s->settled_len, s->other, s->settled_len, &s->yes);
 }
 
+static void alike_apart(struct side *s)
+{
+    alike(s);
+}
+
 #define OPEN TRAPCARD_MODE_OPEN
 #define CLOSED TRAPCARD_MODE_CLOSED
 #define DOWN TRAPCARD_MODE_DOWN
@@ -267,6 +283,7 @@ const struct task tasks[] = {
     {"tally, log full, N = 4,096", 0, 0, 32, 0, OPEN, tally, NOTHING},
     {"tally, log empty, N = 4,096", 0, 0, 0, 0, OPEN, tally, NOTHING},
     {"alike, logs full, N = 4,096", 0, 0, 32, 0, OPEN, alike, NOTHING},
+    {"alike, logs full, homes under them unlike", 0, 0, 32, 0, OPEN, alike_apart, NOTHING},
     {"alike, logs empty, N = 4,096", 0, 0, 0, 0, OPEN, alike, NOTHING},
 };
 

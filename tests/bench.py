@@ -7,6 +7,7 @@ from functools import lru_cache
 import costs
 import marks
 import model
+import pairs
 import wanted
 from cases import met
 from crash import Witness, must
@@ -42,10 +43,19 @@ def second_card(settled, kind, detail):
         return made(*detail)[1]
     if kind == "laid":
         return laid_card(settled)
+    if kind == "twin":
+        return pairs.twin(settled, *detail)
     other = bytearray(settled)
     for at, value in detail:
         other[at] = value
     return other
+
+
+def two_cards(settled, kind, detail):
+    """The two cards of an alike: mostly this one and another."""
+    if kind == "pair":
+        return pairs.pair(*detail)
+    return settled, settled if kind == "itself" else second_card(settled, kind, detail)
 
 
 def given(step):
@@ -130,8 +140,8 @@ class Bench:
         views = dict(self.model)
         if step.call == "alike":
             kind, detail, side = step.arguments
-            other = views["settled"] if kind == "itself" else second_card(views["settled"], kind, detail)
-            views["settled"], views["other"] = (other, views["settled"]) if side == "first" else (views["settled"], other)
+            two = two_cards(views["settled"], kind, detail)
+            views["other"], views["settled"] = two if side == "first" else reversed(two)
         views.update((name, resized(views[name], length)) for name, length in step.odd)
         return {name: views[name] for name in FUNCTIONS[step.call][0]}
 

@@ -813,15 +813,20 @@ static void list_of_largest(void)
         same("get_list", "copied the byte", c.blocks[i], i / TRAPCARD_BLOCK % 2 == 0 ? 255 : 3);
 }
 
-#define KINDS 7
+#define KINDS 12
 #define SMALL (36u * TRAPCARD_BLOCK)
 #define OTHER (40u * TRAPCARD_BLOCK)
 
 /* Two sets of cards, of 36 and of 40 blocks: good, good with another block, foreign, unsound, one whose length is wrong, and two more
- * that are foreign: by format number 1, and by unlike sums with save number 0. */
+ * that are foreign: by format number 1, and by unlike sums with save number 0. Then five with the data of the first one: an entry in the log that
+ * says it again; the same with other bytes at home, in a stale slot and as save number; the same with a fallback; an older entry in a slot before
+ * it; and another older one. */
 static uint8_t cards[2][KINDS][OTHER], kept[2][KINDS][OTHER];
 static const uint32_t numbers[KINDS] = {TRAPCARD_DONE, TRAPCARD_DONE, TRAPCARD_ERR_FOREIGN, TRAPCARD_ERR_UNSOUND,
                                         TRAPCARD_ERR_SIZE, TRAPCARD_ERR_FOREIGN, TRAPCARD_ERR_FOREIGN};
+
+/* Kinds with the same number are alike, in one set. */
+static const int like[KINDS] = {0, 1, 2, 3, 4, 5, 6, 7, 7, 7, 10, 11};
 
 static size_t bytes_of(int set, int kind)
 {
@@ -836,8 +841,39 @@ static void compare(int set_a, int a, int set_b, int b)
          number);
     check_guards("alike");
     must(memcmp(cards, kept, sizeof cards) == 0, "alike", "wrote a card");
-    same("alike", "set yes to", word[1], number == TRAPCARD_DONE && set_a == set_b && a == b);
+    same("alike", "set yes to", word[1], number == TRAPCARD_DONE && set_a == set_b && like[a] == like[b]);
     same("alike", "set its 8-byte out-parameter to", wide[1], UNSET_WIDE);
+}
+
+/* Saves the first data block of a card that was formatted last: zero but for one byte. */
+static void save_first(uint8_t *card, size_t size, uint8_t byte)
+{
+    uint8_t block[TRAPCARD_BLOCK] = {0};
+    uint32_t orders;
+    block[5] = byte;
+    same("put", "answered", trapcard_put(c.record, sizeof c.record, card, size, c.waiting, sizeof c.waiting, c.work, sizeof c.work,
+                                         TRAPCARD_FIRST, block, sizeof block), TRAPCARD_DONE);
+    same("commit", "answered", trapcard_commit(c.record, sizeof c.record, card, size, c.waiting, sizeof c.waiting, c.work, sizeof c.work),
+         TRAPCARD_DONE);
+    same("sync", "answered", trapcard_sync(c.record, sizeof c.record, card, size, c.waiting, sizeof c.waiting, c.work, sizeof c.work, &orders),
+         TRAPCARD_DONE);
+}
+
+/* The kinds that have a log. */
+static void give_log(uint8_t *card, size_t size, int kind)
+{
+    if (kind > 9)
+        save_first(card, size, (uint8_t)kind);
+    save_first(card, size, 100);
+    if (kind == 8) {
+        card[DATA + 7] = card[3 * TRAPCARD_BLOCK] = 99;
+        card[39] = 1;
+    }
+    if (kind == 9) {
+        /* A second entry follows, which the sum of n is not made of. */
+        save_first(card, size, 98);
+        card[3 * TRAPCARD_BLOCK] = 1;
+    }
 }
 
 static void inspections(void)
@@ -850,6 +886,8 @@ static void inspections(void)
             card[0] = (uint8_t)(kind == 5 ? 1 : card[0] + (kind == 2));
             card[16] = (uint8_t)(card[16] + (kind == 3));
             card[24] = (uint8_t)(card[24] + (kind == 3 || kind == 6));
+            if (kind > 6)
+                give_log(card, bytes_of(set, 0), kind);
         }
     memcpy(kept, cards, sizeof cards);
     for (int i = 0; i < 2 * KINDS; i++)
@@ -863,6 +901,103 @@ static void inspections(void)
         must(memcmp(cards, kept, sizeof cards) == 0, "tally", "wrote a card");
         same("tally", "set sum to", wide[1], numbers[kind] != TRAPCARD_DONE ? 0 : kind == 1 ? 200 : 100);
         same("tally", "set its 4-byte out-parameter to", word[1], UNSET);
+    }
+}
+
+/* ---- what alike tells, and what it does not */
+
+static uint8_t first_card[N * TRAPCARD_BLOCK];
+
+/* Two cards of N blocks are alike, or not: the one kept and the one at hand. */
+static void kept_alike(uint32_t yes)
+{
+    arm();
+    same("alike", "answered", trapcard_alike(first_card, length[1], c.settled, length[1], &word[1]), TRAPCARD_DONE);
+    check_guards("alike");
+    check_bytes("alike", 0);
+    same("alike", "set yes to", word[1], yes);
+}
+
+static void start_with(uint32_t blocks)
+{
+    start();
+    length[1] = blocks * TRAPCARD_BLOCK;
+    memset(c.settled, 0, TRAPCARD_BLOCK);
+    done(FORMAT, 0, 0);
+}
+
+static void save(uint32_t address, uint8_t byte)
+{
+    put(address, byte);
+    done(COMMIT, 0, 0);
+    done(SYNC, 0, 4);
+}
+
+/* The smallest card, after two saves and an apply: its data are zero and its log is empty, as on a fresh one, and slot 0 is stale. */
+static void demonstrated(void)
+{
+    start_with(TRAPCARD_LEAST);
+    save(TRAPCARD_FIRST, 8);
+    save(TRAPCARD_FIRST, 0);
+    done(APPLY, 0, 5);
+    numbered(2);
+}
+
+/* Only the header of the next save is kept: a stale slot with the same entry makes up for the lost log block, and else the save is lost. */
+static void header_kept(uint32_t orders, uint64_t offset, uint8_t byte)
+{
+    put(TRAPCARD_FIRST, 8);
+    done(COMMIT, 0, 0);
+    done(POWER, 3, 0);
+    gone(SYNC, 3);
+    cut("001");
+    done(POWER, 2, 0);
+    done(RECOVER, 0, orders);
+    got(TRAPCARD_FIRST, TRAPCARD_IN_SETTLED, offset, byte);
+}
+
+/* Alike cards give the same answers while no power is cut, and may differ after a cut in a save. */
+static void after_a_cut(void)
+{
+    demonstrated();
+    memcpy(first_card, c.settled, length[1]);
+    header_kept(0, 2 * TRAPCARD_BLOCK, 8);
+    start_with(TRAPCARD_LEAST);
+    numbered(0);
+    kept_alike(1);
+    header_kept(2, DATA, 0);
+
+    demonstrated();
+    save(TRAPCARD_FIRST, 8);
+    got(TRAPCARD_FIRST, TRAPCARD_IN_SETTLED, 2 * TRAPCARD_BLOCK, 8);
+    start_with(TRAPCARD_LEAST);
+    save(TRAPCARD_FIRST, 8);
+    got(TRAPCARD_FIRST, TRAPCARD_IN_SETTLED, 2 * TRAPCARD_BLOCK, 8);
+}
+
+/* Two blocks are saved next. */
+static void next_save(uint32_t orders)
+{
+    put(TRAPCARD_FIRST, 1);
+    put(TRAPCARD_FIRST + 1, 2);
+    done(COMMIT, 0, 0);
+    done(SYNC, 0, orders);
+}
+
+/* The same data, with so many entries in the log: after an apply the cards are not alike, and the next save takes fewer orders. */
+static void nearly_full(uint32_t entries)
+{
+    for (int applied = 0; applied < 2; applied++) {
+        start_with(TRAPCARD_LEAST + 1);
+        for (uint32_t i = 0; i < entries; i++)
+            save(TRAPCARD_FIRST, (uint8_t)i);
+        if (applied) {
+            done(APPLY, 0, entries + 3);
+            kept_alike(0);
+        }
+        memcpy(first_card, c.settled, length[1]);
+        kept_alike(1);
+        next_save(5 + (applied ? 0 : entries + 3));
     }
 }
 
@@ -888,6 +1023,9 @@ int main(void)
     corrections();
     list_of_largest();
     inspections();
+    after_a_cut();
+    nearly_full(TRAPCARD_SLOTS - 1);
+    nearly_full(TRAPCARD_SLOTS);
     printf("boundary: the sixteen functions answer through the header, and write nothing else\n");
     return 0;
 }

@@ -5,6 +5,7 @@ from coverage import BUFFER, IN_APPLY, IN_SYNC, NUMBER, TWO
 from model import (BLOCK, CLOSED, COSTS, DOWN, EMPTY_SUM, FIRST_DATA, LAST, LEAST, LIST, MOST, OPEN, PLACES, RECORD, SLOTS, WAITING, WORK, choice,
                    chosen, data_sum, entries, foreign, in_use, is_data, lists, log, marks_of, read_header, torn, wanted, wrong_counts, wrong_list,
                    wrong_lists, wrong_marks)
+from pairs import likeness
 from wanted import BUCKETS
 
 
@@ -453,12 +454,16 @@ class MetCards(Met):
                 yield "tally: " + case
 
     def alike(self, answer, yes, one, other):
+        (first, listed), (second, others) = chosen(one), chosen(other)
         if answer:
-            yield "alike: %d by the %s" % (answer, "first" if chosen(one)[0] else "second")
-        elif not yes:
-            yield "alike: no" + (", other N" if len(one) != len(other) else "")
-        elif one is other or one != other:
-            yield "alike: yes, " + ("one card twice" if one is other else "other bytes")
+            yield "alike: %d by the %s" % (answer, "first" if first else "second")
+            yield from ["alike: %d before %d" % (first, second)] if first and second else []
+            return
+        yield "alike: " + ("no" if not yes else "yes, one card twice" if one is other else "yes, other bytes" if one != other else "yes, a copy")
+        if len(one) != len(other):
+            yield "alike: no, other N" + (", the same log" if listed == others else "")
+        else:
+            yield from ("alike: " + case for case in likeness(one, other, yes))
         if yes and self.blocks == MOST:
             yield "alike: yes, N 65536"
         if yes and self.head[6] != read_header(other)[6]:

@@ -39,6 +39,10 @@ NUMBER = {-1: "a mark too few", 1: "a mark too many", -512: "512 marks too few",
 PLACES = ("open", "group", "log", "home")
 BUFFER = {-1: "a byte too short", 1: "a byte too long", -512: "a block too short", 512: "a block too long"}
 
+# Where two logs of one count are unlike in one slot. The data blocks as laid have the block of the last slot, and that of the only one.
+SLOT = ("only", "first", "middle", "last")
+UNLIKE_SLOT = {"address": SLOT, "block": ("first", "middle"), "entry": SLOT}
+
 # How far the power reaches in an inquiry that is served.
 REACHES = ("no orders, power 0", "no orders, some power", "more than enough power", "exactly enough power", "one order short",
            "more than one order short")
@@ -104,8 +108,21 @@ CASES = (
     + prefixed("accepted: ", ("32 open", "32 in the group", "32 in the log", "N 35", "N 65535", "N 65536"))
     + prefixed("tally: ", ("no log", "whole log", "fallback list", "N 65536", "32 slots", "an address in several slots",
                            "more than the home blocks", "less than the home blocks"))
-    + prefixed("alike: ", ("yes, one card twice", "yes, other bytes", "no", "no, other N", "yes, N 65536"))
+    + prefixed("alike: ", ("yes, one card twice", "yes, a copy", "yes, other bytes", "no", "no, other N", "no, other N, the same log",
+                           "yes, N 65536"))
+    + prefixed("alike: yes, ", ("0 slots", "1 slots", "32 slots", "an address in several slots", "an address beyond the count unlike",
+                                "a block beyond the count unlike", "a home block under the log unlike", "the first card falls back",
+                                "the second card falls back", "both cards fall back", "a fallback to nothing", "a fallback from unlike n",
+                                "p unlike, no fallback"))
+    + prefixed("alike: no, the same data, ", ("one log empty", "the counts unlike", "one slot more", "the same entries in another order",
+                                              "the same blocks in all slots", "the headers' whole lists equal", "one card falls back",
+                                              "an address unlike above its lowest byte alone"))
+    + tuple("alike: no, the same data, %s unlike in the %s slot alone" % (part, slot) for part, slots in UNLIKE_SLOT.items() for slot in slots)
+    + tuple("alike: no, unlike data, block unlike in the %s slot alone" % slot for slot in SLOT)
+    + prefixed("alike: no, the same log, data unlike in ", ("the only block", "the first block alone", "a middle block alone", "the last block alone",
+                                                            "a byte alone", "a block of a slot that is not chosen"))
     + tuple("alike: %d by the %s" % (number, card) for number in (1, 8, 9) for card in ("first", "second"))
+    + tuple("alike: %d before %d" % (first, second) for first in (1, 8, 9) for second in (1, 8, 9))
     + prefixed("save number, sync: ", ("refused at 2^64 - 1", "2^64 - 1, nothing to save", "2^64 - 2, done", "2^64 - 2, cut short",
                                        "2^32 - 1, done", "cut short, kept after its apply"))
     + prefixed("save number, apply: ", ("2^64 - 1, done", "2^64 - 1, cut short"))

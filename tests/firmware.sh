@@ -1,7 +1,7 @@
 #!/usr/bin/env bash
 # The C library: all its functions are called through the header; its example is built against the archive, run, held to its
 # output and run under valgrind; the stack frames of the archive are measured, its sum is looked through for products, and the
-# instructions of its tally and of its list of gets are counted.
+# instructions of its tally, of its alike and of its list of gets are counted.
 set -euo pipefail
 cd "$(dirname "$0")/.."
 
@@ -47,6 +47,13 @@ added() { # CALL PROGRAM N: the instructions that a full log adds
 small=$(added tally passes 134)
 large=$(added tally passes 1034)
 echo "firmware: a full log adds $small instructions to a tally of 100 data blocks, and $large to one of 1,000"
+((small > 0 && small == large))
+
+# Likewise for an alike of equal cards: the slots are compared once, and nothing is searched for each data block.
+gcc -O2 "${strict[@]}" bench/alikes.c bench/pass.c "$archive" -o "$out/alikes"
+small=$(added alike alikes 134)
+large=$(added alike alikes 1034)
+echo "firmware: full logs add $small instructions to an alike of equal cards of 100 data blocks, and $large to one of 1,000"
 ((small > 0 && small == large))
 
 # What a full log adds to a list is the same for 32 addresses as for one, where the log has none with their low bits: it is not walked for each.

@@ -3,6 +3,7 @@ stands, and holds all that its call needs, so that a list of steps can be made a
 from collections import namedtuple
 
 import marks
+import pairs
 import wanted
 from madeup import CARD_FAULTS, RECORD_FAULTS, TOP, UNUSED
 from model import BLOCK, CLOSED, COSTS, DOWN, FIRST_DATA, OPEN, RECORD, SLOTS, WAITING, WORK, fresh
@@ -72,14 +73,19 @@ def arguments(chance, call, bench, blocks):
 
 
 def other_card(chance, blocks, large):
-    """What alike is lent beside the card, and on which side."""
-    kind = chance.choice(("itself", "copy", "copy", "laid", "made", "made"))
+    """What alike is lent beside the card, and on which side; or two others."""
+    kind = chance.choice(("itself", "copy", "copy", "laid", "made", "made", "twin", "twin", "twin", *(() if large else ("pair",) * 6)))
     detail = ()
+    if kind == "twin":
+        detail = chance.randrange(1 << 32), pairs.drawn(chance)
+    if kind == "pair":
+        detail = chance.choice((35, 36, 37, 48, 600, size(chance, False))), chance.randrange(1 << 32), pairs.drawn(chance)
     if kind == "copy":
         detail = tuple((chance.randrange(BLOCK * blocks), chance.randrange(256)) for _ in range(chance.randrange(3)))
     if kind == "made":
         sizes = (blocks,) if large else (blocks, blocks, size(chance, False))
-        detail = chance.choice(sizes), chance.randrange(1 << 32), card_faults(chance, chance.choice((0, 0, 1, 1, 2)))
+        faults = chance.choice(((), card_faults(chance, 1), card_faults(chance, 2), ("neither_sum",)))
+        detail = chance.choice(sizes), chance.randrange(1 << 32), faults
     return kind, detail, chance.choice(("first", "second"))
 
 
@@ -180,7 +186,7 @@ def odd_length(chance, call, blocks, large):
     if call in ("tally", "alike"):
         name = "settled" if call == "tally" else chance.choice(("settled", "other"))
     else:
-        name = chance.choice(("record", "settled", "waiting", "work"))
+        name = "settled" if large else chance.choice(("record", "settled", "waiting", "work"))
     lengths = {"record": (0, RECORD - 8, RECORD - 1, RECORD + 1, 2 * RECORD),
                "waiting": (0, WAITING - 1, WAITING + 1, WAITING - 516, WAITING + 516),
                "work": (0, WORK - 1, WORK + 1, WORK - 516, WORK + 516)}
@@ -197,7 +203,7 @@ def odd_lengths(chance, call, blocks):
     kind = chance.random()
     if kind < 0.75:
         return ()
-    large = chance.random() < 0.08
+    large = chance.random() < 0.05
     return tuple(dict(odd_length(chance, call, blocks, large) for _ in range(1 if large or kind < 0.95 else 2)).items())
 
 
@@ -209,10 +215,18 @@ def screens(chance, bench):
         yield Step("get_list", arguments(chance, "get_list", bench, blocks))
 
 
+def demonstrations(chance, bench):
+    """Pairs of cards that are equal but for little, and cards beside those that are refused."""
+    blocks = size(chance, False)
+    yield Step("make", (blocks, chance.randrange(1 << 32), chance.choice(((), (), (), (), card_faults(chance, 1), ("neither_sum",)))))
+    for _ in range(30):
+        yield Step("alike", other_card(chance, blocks, False), odd_lengths(chance, "alike", blocks) if chance.random() < 0.3 else ())
+
+
 def made_up(chance, bench, large):
-    """A record and a card with nought to three faults, and calls on them; now and then lists of gets alone."""
-    if not large and chance.random() < 0.08:
-        yield from screens(chance, bench)
+    """A record and a card with nought to three faults, and calls on them; now and then lists of gets alone, or pairs of cards."""
+    if not large and chance.random() < 0.2:
+        yield from chance.choice((screens, screens, demonstrations, demonstrations, demonstrations))(chance, bench)
         return
     blocks, count = size(chance, large), chance.choice((0, 0, 1, 1, 1, 1, 2, 3))
     pool = chance.choice((RECORD_FAULTS, RECORD_FAULTS, CARD_FAULTS, RECORD_FAULTS + CARD_FAULTS))

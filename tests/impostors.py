@@ -1,7 +1,7 @@
 """Faults for the model, to see that the lockstep bites: those of document 01's "Faults to keep out", two of the save number, three of
 the inquiries, those of a torn cut, two of which are faults of the plain disk and of the witness that feeds it, those of a format that
-meets a card in use, one of which is a fault of the bench, those of a tally that corrects the home blocks' sum for the log, and those of a
-list of gets, one of which is a fault of the plain disk."""
+meets a card in use, one of which is a fault of the bench, those of a tally that corrects the home blocks' sum for the log, those of a
+list of gets, one of which is a fault of the plain disk, and those of an alike that compares too little or too much."""
 from contextlib import contextmanager
 from dataclasses import replace
 
@@ -347,11 +347,99 @@ def counted_by_list(self, addresses, blocks):
     return len(addresses) // 4, real_plain_list(self, addresses, blocks)[1]
 
 
+# ---- alike; the old meaning is that of the data alone
+
+def data_alone(listed, others):
+    """alike has its old meaning: the logs play no part but for the data"""
+    return True
+
+
+def counts_alone(listed, others):
+    """of the logs alike compares the counts alone"""
+    return len(listed) == len(others)
+
+
+def addresses_alone(listed, others):
+    """of a slot alike compares the address alone"""
+    return [address for address, _ in listed] == [address for address, _ in others]
+
+
+def blocks_alone(listed, others):
+    """of a slot alike compares the block alone"""
+    return [block for _, block in listed] == [block for _, block in others]
+
+
+def any_order(listed, others):
+    """alike takes the slots in any order"""
+    return sorted(listed) == sorted(others)
+
+
+def without_counts(listed, others):
+    """alike compares the slots that both logs have, and not their counts"""
+    return all(entry == other for entry, other in zip(listed, others))
+
+
+def without_last_slot(listed, others):
+    """alike leaves out the last slot"""
+    return len(listed) == len(others) and listed[:-1] == others[:-1]
+
+
+def likewise(more):
+    """An alike that asks for more, or gives more, on two cards that are not refused and have one N."""
+    def alike(one, other):
+        answer, yes = real_alike(one, other)
+        return answer, int(more(one, other, yes)) if answer == 0 and len(one) == len(other) else yes
+    alike.__doc__ = more.__doc__
+    return alike
+
+
+@likewise
+def beyond_count(one, other, yes):
+    """alike compares all 32 slots"""
+    return yes and model.log(one, model.SLOTS) == model.log(other, model.SLOTS)
+
+
+@likewise
+def headers_list(one, other, yes):
+    """alike compares the header's whole list where the first p are chosen"""
+    lists = [model.log(settled, model.read_header(settled)[3]) for settled in (one, other)]
+    return lists[0] == lists[1] and model.laid(one, model.chosen(one)[1]) == model.laid(other, model.chosen(other)[1])
+
+
+@likewise
+def fallback_apart(one, other, yes):
+    """a card that needs a fallback is not alike one that does not"""
+    return yes and len({model.choice(len(settled) // BLOCK, settled)[3] for settled in (one, other)}) == 1
+
+
+@likewise
+def saves_too(one, other, yes):
+    """alike compares the save numbers"""
+    return yes and model.read_header(one)[6] == model.read_header(other)[6]
+
+
+@likewise
+def homes_too(one, other, yes):
+    """alike compares the home blocks under the log"""
+    return yes and model.laid(one, []) == model.laid(other, [])
+
+
+@likewise
+def logs_only(one, other, yes):
+    """alike does not compare the data where the logs are equal"""
+    return model.same_logs(model.chosen(one)[1], model.chosen(other)[1])
+
+
+def second_first(one, other):
+    """alike gives the second card's refusal first"""
+    return real_alike(one, other) if model.chosen(other)[0] == 0 else (model.chosen(other)[0], 0)
+
+
 real_get, real_recover, real_unnumbered = model.get, model.recover, model.unnumbered
 real_sync_cost, real_apply_cost, real_recover_cost = model.sync_cost, model.apply_cost, model.recover_cost
 real_tear, real_wrong_marks, real_cut = model.tear, model.wrong_marks, Witness.cut
 real_c_call, real_in_use, real_cause, real_format, real_follow = model.c_call, model.in_use, model.cause, model.format, Bench.follow
-real_data_sum = model.data_sum
+real_data_sum, real_alike = model.data_sum, model.alike
 real_get_list, real_wrong_list, real_plain_list = model.get_list, model.wrong_list, Plain.get_list
 
 # What each replaces: the function of its name in the model, unless a pair says otherwise.
@@ -367,13 +455,16 @@ LISTED = {**dict.fromkeys((once, first_slots, group_first, log_first, sorted_out
                           (model, "get_list")),
           **dict.fromkeys((one_more, half_addresses, longer_buffer), (model, "wrong_list")), first_address: (model, "cause"),
           counted_by_list: (Plain, "get_list")}
-IMPOSTORS = (checkpoint, log_sum, choice, get, recover, unnumbered, sync_cost, apply_cost, recover_cost, *TORN, *USED, *SUMMED, *LISTED)
+ALIKE = {**dict.fromkeys((data_alone, counts_alone, addresses_alone, blocks_alone, any_order, without_counts, without_last_slot),
+                         (model, "same_logs")),
+         **dict.fromkeys((beyond_count, headers_list, fallback_apart, saves_too, homes_too, logs_only, second_first), (model, "alike"))}
+IMPOSTORS = (checkpoint, log_sum, choice, get, recover, unnumbered, sync_cost, apply_cost, recover_cost, *TORN, *USED, *SUMMED, *LISTED, *ALIKE)
 
 
 @contextmanager
 def planted(impostor):
     """The model, the plain disk, the witness or the bench with one of its functions replaced."""
-    owner, name = {**TORN, **USED, **SUMMED, **LISTED}.get(impostor, (model, impostor.__name__))
+    owner, name = {**TORN, **USED, **SUMMED, **LISTED, **ALIKE}.get(impostor, (model, impostor.__name__))
     real = getattr(owner, name)
     setattr(owner, name, impostor)
     try:

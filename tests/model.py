@@ -1,5 +1,5 @@
-"""Document 01's twelve calls, with W-201, the three inquiries of W-202, the torn cut of W-204, the refusal of W-205 and the list of gets of
-W-207 of document 02, on plain Python values, written from the papers and not from the code of the crates.
+"""Document 01's twelve calls, with W-201, the three inquiries of W-202, the torn cut of W-204, the refusal of W-205, the list of gets of
+W-207 and the alike of W-208 of document 02, on plain Python values, written from the papers and not from the code of the crates.
 
 Buffers are bytearrays. A call of the ten returns its number and the record that it leaves; sync, apply and recover their orders
 between. An inquiry returns its number and its four figures, tally and alike their number and what they found, a list of gets its number and
@@ -466,11 +466,16 @@ def tally(settled):
     return answer, 0 if answer else data_sum(settled, listed)
 
 
+def same_logs(listed, others):
+    """W-208: the same count, and the same entry in each slot. They are the lists chosen, whatever the headers count."""
+    return len(listed) == len(others) and all(entry == twin for entry, twin in zip(listed, others))
+
+
 def alike(one, other):
     (first, listed), (second, others) = chosen(one), chosen(other)
     if first or second:
         return first or second, 0
-    return 0, int(len(one) == len(other) and laid(one, listed) == laid(other, others))
+    return 0, int(len(one) == len(other) and same_logs(listed, others) and laid(one, listed) == laid(other, others))
 
 
 # ---- what C sees
