@@ -943,34 +943,48 @@ static void demonstrated(void)
     numbered(2);
 }
 
-/* Only the header of the next save is kept: a stale slot with the same entry makes up for the lost log block, and else the save is lost. */
-static void header_kept(uint32_t orders, uint64_t offset, uint8_t byte)
+/* The next save is cut off before its flush: its log block, its descriptor and its header are kept or lost by the digits. */
+static void cut_off(const char *digits)
 {
     put(TRAPCARD_FIRST, 8);
     done(COMMIT, 0, 0);
     done(POWER, 3, 0);
     gone(SYNC, 3);
-    cut("001");
+    cut(digits);
+}
+
+/* Only the header of the next save is kept: a stale slot with the same entry makes up for the lost log block, and else the save is lost. */
+static void header_kept(uint32_t orders, uint64_t offset, uint8_t byte)
+{
+    cut_off("001");
     done(POWER, 2, 0);
     done(RECOVER, 0, orders);
     got(TRAPCARD_FIRST, TRAPCARD_IN_SETTLED, offset, byte);
 }
 
-/* Alike cards give the same answers while no power is cut, and may differ after a cut in a save. */
+/* Alike cards may differ after a cut in a save: here the same save was cut off before, and left its entry. */
 static void after_a_cut(void)
 {
-    demonstrated();
+    start_with(TRAPCARD_LEAST);
+    cut_off("110");
+    done(RECOVER, 0, 0);
     memcpy(first_card, c.settled, length[1]);
     header_kept(0, 2 * TRAPCARD_BLOCK, 8);
     start_with(TRAPCARD_LEAST);
-    numbered(0);
     kept_alike(1);
     header_kept(2, DATA, 0);
+}
 
+/* They give the same answers while no power is cut, whatever their save numbers are. */
+static void without_a_cut(void)
+{
     demonstrated();
+    memcpy(first_card, c.settled, length[1]);
     save(TRAPCARD_FIRST, 8);
     got(TRAPCARD_FIRST, TRAPCARD_IN_SETTLED, 2 * TRAPCARD_BLOCK, 8);
     start_with(TRAPCARD_LEAST);
+    numbered(0);
+    kept_alike(1);
     save(TRAPCARD_FIRST, 8);
     got(TRAPCARD_FIRST, TRAPCARD_IN_SETTLED, 2 * TRAPCARD_BLOCK, 8);
 }
@@ -1024,6 +1038,7 @@ int main(void)
     list_of_largest();
     inspections();
     after_a_cut();
+    without_a_cut();
     nearly_full(TRAPCARD_SLOTS - 1);
     nearly_full(TRAPCARD_SLOTS);
     printf("boundary: the sixteen functions answer through the header, and write nothing else\n");
