@@ -1,5 +1,6 @@
 /* The card store in plain C, written from document 01, with W-201, W-204, W-205, W-207 and W-208 of document 02, and not from the Rattle
- * sources: what the bench measures the store against. It makes the same checks (rows 1 to 10, 12 and 13 of the table of causes) and leaves the same bytes. */
+ * sources: what the bench measures the store against. It makes the same checks (rows 1 to 10, 12 and 13 of the table of causes) and leaves
+ * the same bytes. */
 #include "plain.h"
 
 #include <stdbool.h>

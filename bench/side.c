@@ -56,6 +56,9 @@ static uint32_t draw(uint32_t below)
     return (uint32_t)(state >> 33) % below;
 }
 
+/* The kind of an alike, for which the other card is drawn as well. */
+enum { ALIKE = 17 };
+
 /* A call's kind and its arguments, drawn once and given to both. */
 struct drawn {
     uint32_t kind, address, value, power;
@@ -113,7 +116,7 @@ static void give(struct side *s, const struct drawn *d)
     case 11: case 12: case 13: s->number = c->commit(CARD(s)); break;
     case 14: case 15: s->number = c->get(CARD(s), d->address, &s->buffer, &s->offset); break;
     case 16: s->number = c->tally(s->settled, s->settled_len, &s->sum); break;
-    case 17: s->number = c->alike(s->settled, s->settled_len, s->other, s->settled_len, &s->yes); break;
+    case ALIKE: s->number = c->alike(s->settled, s->settled_len, s->other, s->settled_len, &s->yes); break;
     case 18: case 19: case 20: s->number = c->get_list(CARD(s), d->list, d->list_len, s->screen, d->screen_len, &s->slots); break;
     default: s->number = c->put(CARD(s), d->address, d->block, sizeof d->block); break;
     }
@@ -183,7 +186,7 @@ long random_calls(long n)
         if (draw(50) == 0)
             damage(&a, &b);
         struct drawn d = draw_call(trapcard_record_number(a.record, TRAPCARD_RECORD_WAITING));
-        if (d.kind == 17)
+        if (d.kind == ALIKE)
             draw_other(&a, &b);
         give(&a, &d);
         give(&b, &d);

@@ -210,11 +210,11 @@ uint32_t trapcard_cut(uint8_t *record, size_t record_len, uint8_t *settled, size
 /* The sum of all data bytes after the log is laid over, from the settled bytes alone. Returns 0, 1, 8 or 9. Changes nothing. */
 uint32_t trapcard_tally(const uint8_t *settled, size_t settled_len, uint64_t *sum);
 
-/* Whether two cards are the same to whoever goes on with them: *yes is 1 if N is equal, the logs that a recovery would take have the same
- * count and the same address and block in each slot, and all data blocks after the log is laid over are equal; else 0. The save
- * number takes no part, nor do slots beyond the count or home blocks that the log replaces. Returns 0, 1, 8 or 9, the first card's
- * refusal first. Changes nothing. Cards of which this is 1, recovered and given the same power, come to the same at every call until
- * the next cut or the largest save number. */
+/* Whether two cards are the same but for save number and leftovers: *yes is 1 if N is equal, the logs that a recovery would take have
+ * the same count and the same address and block in each slot, and all data blocks after the log is laid over are equal; else 0. The
+ * save number takes no part, nor do slots beyond the count or home blocks that the log replaces. Returns 0, 1, 8 or 9, the first card's
+ * refusal first. Changes nothing. Cards of which this is 1, recovered and given the same power, give the same answers, orders and
+ * blocks at every call until the next cut or the largest save number. */
 uint32_t trapcard_alike(const uint8_t *settled_a, size_t settled_a_len, const uint8_t *settled_b, size_t settled_b_len,
                         uint32_t *yes);
 

@@ -943,36 +943,30 @@ static void demonstrated(void)
     numbered(2);
 }
 
-/* The next save is cut off before its flush: its log block, its descriptor and its header are kept or lost by the digits. */
-static void cut_off(const char *digits)
+/* The descriptor of the next save is lost: a stale address makes up for it, and else the save is lost. */
+static void descriptor_lost(uint32_t orders, uint64_t offset, uint8_t byte)
 {
     put(TRAPCARD_FIRST, 8);
     done(COMMIT, 0, 0);
     done(POWER, 3, 0);
     gone(SYNC, 3);
-    cut(digits);
-}
-
-/* Only the header of the next save is kept: a stale slot with the same entry makes up for the lost log block, and else the save is lost. */
-static void header_kept(uint32_t orders, uint64_t offset, uint8_t byte)
-{
-    cut_off("001");
+    cut("101");
     done(POWER, 2, 0);
     done(RECOVER, 0, orders);
     got(TRAPCARD_FIRST, TRAPCARD_IN_SETTLED, offset, byte);
 }
 
-/* Alike cards may differ after a cut in a save: here the same save was cut off before, and left its entry. */
+/* Alike cards may differ after a cut in a save: here zeros were saved over zeros and applied, which left the address in slot 0. */
 static void after_a_cut(void)
 {
     start_with(TRAPCARD_LEAST);
-    cut_off("110");
-    done(RECOVER, 0, 0);
+    save(TRAPCARD_FIRST, 0);
+    done(APPLY, 0, 4);
     memcpy(first_card, c.settled, length[1]);
-    header_kept(0, 2 * TRAPCARD_BLOCK, 8);
+    descriptor_lost(0, 2 * TRAPCARD_BLOCK, 8);
     start_with(TRAPCARD_LEAST);
     kept_alike(1);
-    header_kept(2, DATA, 0);
+    descriptor_lost(2, DATA, 0);
 }
 
 /* They give the same answers while no power is cut, whatever their save numbers are. */
@@ -989,17 +983,22 @@ static void without_a_cut(void)
     got(TRAPCARD_FIRST, TRAPCARD_IN_SETTLED, 2 * TRAPCARD_BLOCK, 8);
 }
 
-/* Two blocks are saved next. */
-static void next_save(uint32_t orders)
+/* Two blocks are saved next, with power for so many orders: enough, or all but one. */
+static void next_save(uint32_t orders, uint32_t power)
 {
     put(TRAPCARD_FIRST, 1);
     put(TRAPCARD_FIRST + 1, 2);
     done(COMMIT, 0, 0);
-    done(SYNC, 0, orders);
+    done(POWER, power, 0);
+    if (orders > power)
+        gone(SYNC, power);
+    else
+        done(SYNC, 0, orders);
 }
 
-/* The same data, with so many entries in the log: after an apply the cards are not alike, and the next save takes fewer orders. */
-static void nearly_full(uint32_t entries)
+/* The same data, with so many entries in the log: after an apply the cards are not alike, and the next save takes fewer orders. So with power
+ * that is one order short for the one it is done on the other. */
+static void nearly_full(uint32_t entries, uint32_t power)
 {
     for (int applied = 0; applied < 2; applied++) {
         start_with(TRAPCARD_LEAST + 1);
@@ -1011,7 +1010,7 @@ static void nearly_full(uint32_t entries)
         }
         memcpy(first_card, c.settled, length[1]);
         kept_alike(1);
-        next_save(5 + (applied ? 0 : entries + 3));
+        next_save(5 + (applied ? 0 : entries + 3), power);
     }
 }
 
@@ -1039,8 +1038,9 @@ int main(void)
     inspections();
     after_a_cut();
     without_a_cut();
-    nearly_full(TRAPCARD_SLOTS - 1);
-    nearly_full(TRAPCARD_SLOTS);
+    nearly_full(TRAPCARD_SLOTS - 1, 39);
+    nearly_full(TRAPCARD_SLOTS - 1, 38);
+    nearly_full(TRAPCARD_SLOTS, 40);
     printf("boundary: the sixteen functions answer through the header, and write nothing else\n");
     return 0;
 }

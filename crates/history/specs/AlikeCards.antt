@@ -1,5 +1,5 @@
 -- W-208: what alike promises of the calls to come. "two that read alike behaved differently on the next save since one log was nearly full": two
--- cards that are alike come to the same at every call, and stay alike, until a cut.
+-- cards that are alike come to the same at every call, and stay alike, until a cut or the largest save number.
 use Prim.Native.Nat.{ℕ, _≤_}
 use mathlib.Core.Path.{_≡_}
 use mathlib.Core.Logic.{_≢_, _↔_}
@@ -39,7 +39,7 @@ module _ (geo : Geometry) where
   left [] st = st
   left (c ∷ cs) st = left cs (dispatch geo c st .state)
 
-  -- it goes without a cut: none of it is accepted
+  -- it goes without a cut: no cut in it is accepted
   abbrev pub Uncut : List Call → State → Type 0
   Uncut [] st = Unit {0}
   Uncut (c ∷ cs) st = ((ms : List ℕ) → c ≡ cut ms → dispatch geo c st .answer ≢ 0) × Uncut cs (dispatch geo c st .state)
