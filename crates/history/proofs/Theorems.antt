@@ -52,6 +52,7 @@ use Rattle.history.proofs.Boundary.Formats as FormatsProof
 use Rattle.history.proofs.Boundary.Guards as Guards
 use Rattle.history.proofs.Boundary.Costs as CostsProof
 use Rattle.history.proofs.Boundary.GetLists as GetListsProof
+use Rattle.history.proofs.Twins.Recovered as RecoveredProof
 use Rattle.history.proofs.Twins.AlikeCards as AlikeCardsProof
 use Rattle.history.proofs.Boundary.Links as Links
 use Rattle.history.proofs.Boundary.Scripts as ScriptsProof
@@ -199,7 +200,13 @@ module _ (geo : Geometry) where
   -- ---- Cards that are alike
 
   pub all-alike : AllAlike geo
-  all-alike = record { told = AlikeCardsProof.told geo; cards = AlikeCardsProof.alike-cards geo }
+  all-alike = record {
+    told = AlikeCardsProof.told geo;
+    told-no = AlikeCardsProof.told-no geo;
+    cards = AlikeCardsProof.alike-cards geo;
+    recovers = RecoveredProof.recovers geo;
+    runs = AlikeCardsProof.runs geo;
+  }
 
   -- ---- Through C
 

@@ -3,4 +3,6 @@ pub mod Regrouped
 pub mod Reopens
 pub mod LastNumber
 pub mod Pairs
+pub mod Shows
+pub mod Recovered
 pub mod AlikeCards

@@ -1,10 +1,11 @@
 -- W-208: what alike promises of the calls to come. "two that read alike behaved differently on the next save since one log was nearly full": two
--- cards that are alike come to the same at every call, and stay alike, until a cut or the largest save number.
-use Prim.Native.Nat.{ℕ, _≤_}
+-- cards that are alike come to the same at every call, and are alike again while open, until a cut or the largest save number.
+use Prim.Native.Nat.{ℕ, _+_, _≤_, _<_}
 use mathlib.Core.Path.{_≡_}
 use mathlib.Core.Logic.{_≢_, _↔_}
 use mathlib.Core.Bool.{true}
 use mathlib.Core.List.{List, [], _∷_}
+use lib.ListN.{length}
 use Rattle.cells.specs.Little.{Bytes}
 use Rattle.journal.specs.Geometry.{Geometry}
 use Rattle.journal.specs.Header.{mostSave}
@@ -13,14 +14,16 @@ use Rattle.store.specs.Get.{blockOf}
 use Rattle.store.specs.GetList.{listing}
 use Rattle.store.specs.Save.{Save}
 use Rattle.store.specs.Cost.{costOf}
+use Rattle.inspect.specs.Reading.{inspection}
 use Rattle.inspect.specs.Alike.{alikeOf, Same}
 use Rattle.firmware.specs.Face.{comparedOf, compared}
 use Rattle.history.specs.Call.{Call, power, recover, cut}
 use Rattle.history.specs.Dispatch.{dispatch}
 use Rattle.history.specs.Cuts.{firstRows}
+use Rattle.history.specs.History.{World, after}
 
 module _ (geo : Geometry) where
-  -- a card lent with a closed record that passes 1 and 2
+  -- a card lent with a closed record that passes 1 and 2; what is lent are bytes
   pub record Shut (st : State) : Type 0 where
     pub mode : st .rec .mode ≡ closed
     pub passes : firstRows geo st ≡ 0
@@ -52,7 +55,7 @@ module _ (geo : Geometry) where
   pub record Reaches (k : ℕ) (cs : List Call) (st : State) : Type 0 where
     pub done : dispatch geo recover st .answer ≡ 0
     pub uncut : Uncut cs (recovered k st)
-    pub number : left cs (recovered k st) .rec .save ≢ mostSave
+    pub numbered : left cs (recovered k st) .rec .save ≢ mostSave
 
   -- ---- what is the same
 
@@ -78,7 +81,24 @@ module _ (geo : Geometry) where
     pub still : (k : ℕ) (cs : List Call) → Reaches k cs a → Reaches k cs b → left cs (recovered k a) .rec .mode ≡ openMode
         → StillAlike (left cs (recovered k a)) (left cs (recovered k b))
 
+  -- ---- that there are such cards and such lists
+
+  -- no call of the list is a cut
+  abbrev pub NoCut : List Call → Type 0
+  NoCut [] = Unit {0}
+  NoCut (c ∷ cs) = ((ms : List ℕ) → c ≢ cut ms) × NoCut cs
+
+  pub record Recovers (st : State) : Type 0 where
+    -- a recover that is done leaves a card that is alike the one it met, also where it fell back: "The save number takes no part"
+    pub alike : alikeOf geo (st .settled) (dispatch geo recover st .state .settled) .yes ≡ true
+    -- behind it, any list of calls in which there is no cut, as long as the number found and the calls do not make up the largest
+    pub reaches : (k : ℕ) (cs : List Call) → NoCut cs → dispatch geo recover st .state .rec .save + length cs < mostSave → Reaches k cs st
+
   pub record AllAlike : Type 0 where
-    -- "alike is yes exactly if": what C is told of two cards, number 0 and 1 for yes
+    -- "alike is yes exactly if": what C is told of two cards, number 0 and 1 for yes; 0 for no, where neither is refused
     pub told : (a b : List ℕ) → (compared geo a b ≡ comparedOf 0 1) ↔ Same geo a b
+    pub told-no : (a b : List ℕ) → inspection geo a ≡ 0 → inspection geo b ≡ 0 → (Same geo a b → ⊥) → compared geo a b ≡ comparedOf 0 0
     pub cards : (a b : State) → Clones a b → AlikeCards a b
+    pub recovers : (st : State) → Shut st → dispatch geo recover st .answer ≡ 0 → Recovers st
+    -- what a list leaves is what it leaves in a history
+    pub runs : (cs : List Call) (w : World) → after geo cs w .store ≡ left cs (w .store)

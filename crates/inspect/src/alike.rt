@@ -65,7 +65,6 @@ fn same_block(a: &[u8], b: &[u8], x: u32, n: u32) -> bool
 
 // Whether all data blocks of two cards are equal, the same n entries laid over both.
 fn same_data(a: &[u8], b: &[u8], blocks: u32, n: u32) -> bool
-    requires { ⌜ firstData trap < blocks ⌝ }
     requires { ⌜ blocks ≡ blocksIn (now a) ⌝ }
     requires { ⌜ blocks ≡ blocksIn (now b) ⌝ }
     requires { ⌜ n ≤ trap .slots ⌝ }

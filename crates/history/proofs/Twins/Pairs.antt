@@ -1,5 +1,5 @@
--- Two stores in the relation with one ledger and one plain disk, but for the number of groups laid into it: every call comes to the same on
--- both, and leaves two such stores, until a cut is accepted.
+-- Two stores in the relation with one ledger and one plain disk, but for the number of groups laid into it: as long as neither number is the
+-- largest every call comes to the same on both, and one that is no accepted cut leaves two such stores.
 use Prim.Native.Nat.{ℕ, _≤_}
 use mathlib.Core.Path.{_≡_, refl, ap, sym, subst, _∙_}
 use mathlib.Core.Logic.{_≢_, _⊎_}
@@ -33,7 +33,7 @@ use Rattle.history.proofs.Steps.Shown.{WorldSim, same-cause, entered-re
 use Rattle.history.proofs.Steps.Local.{is-open}
 use Rattle.history.proofs.Steps.ListInduction.{step, next-sim}
 use Rattle.history.proofs.Twins.Regrouped.{regrouped, same-refusal, same-answer, same-plain}
-use Rattle.history.proofs.Twins.LastNumber.{cut-accepted, recover-closed, goes, stays-last}
+use Rattle.history.proofs.Twins.LastNumber.{cut-accepted, recover-refused, goes, stays-last}
 
 -- ---- the headers of a save, by what they are computed from
 
@@ -46,11 +46,11 @@ module _ (geo : Geometry) where
   headers-same Save.recover a b z n m l g = absurd (z refl)
 
   -- no exception but at an accepted cut
-  no-exception : (c : Call) (w : World) → ((ms : List ℕ) → c ≡ cut ms → dispatch geo c (w .store) .answer ≢ 0) → exception geo c w ≡ false
+  uncut-clean : (c : Call) (w : World) → ((ms : List ℕ) → c ≡ cut ms → dispatch geo c (w .store) .answer ≢ 0) → exception geo c w ≡ false
   unfolding exception acceptedCut
-  no-exception (local c) w u = refl
-  no-exception (save c) w u = refl
-  no-exception (cut ms) w u = rw (ne-eqb (dispatch geo (cut ms) (w .store) .answer) 0 (u ms refl))
+  uncut-clean (local c) w u = refl
+  uncut-clean (save c) w u = refl
+  uncut-clean (cut ms) w u = rw (ne-eqb (dispatch geo (cut ms) (w .store) .answer) 0 (u ms refl))
 
   -- ---- the relation
 
@@ -61,9 +61,8 @@ module _ (geo : Geometry) where
     pub plain : v .plain ≡ regrouped groups (w .plain)
     pub ledger : w .ledger ≡ v .ledger
     pub first-mode : w .store .rec .mode ≢ closed
-    pub second-mode : v .store .rec .mode ≢ closed
 
-  open-sim : (w : World) → WorldSim geo w → w .store .rec .mode ≡ openMode → OpenSim geo (w .store) (w .ledger) (w .plain)
+  pub open-sim : (w : World) → WorldSim geo w → w .store .rec .mode ≡ openMode → OpenSim geo (w .store) (w .ledger) (w .plain)
   open-sim w m e = go (m .phase)
     where
       go : OpenSim geo (w .store) (w .ledger) (w .plain) ⊎ (ClosedSim geo (w .store) (w .ledger) (w .plain) ⊎ DownSim geo (w .store) (w .ledger) (w .plain)) → OpenSim geo (w .store) (w .ledger) (w .plain)
@@ -168,7 +167,7 @@ module _ (geo : Geometry) where
       unfolding entered
       saved-ledger Save.sync h = by-headers Save.sync (λ e. let z : _≡_ {A = ℕ} 0 1 = cc in omega arith) (is-open geo (w .store) (w .ledger) d (t .first) Request.sync refl (cause-passes geo Request.sync (w .store) h) .mode)
       saved-ledger Save.apply h = by-headers Save.apply (λ e. let z : _≡_ {A = ℕ} 0 1 = cc in omega arith) (is-open geo (w .store) (w .ledger) d (t .first) Request.apply refl (cause-passes geo Request.apply (w .store) h) .mode)
-      saved-ledger Save.recover h = absurd (recover-closed geo (w .store) (t .first-mode) h)
+      saved-ledger Save.recover h = absurd (recover-refused geo (w .store) (t .first-mode) h)
 
       served-ledger : (c : Call) → cause geo (requestOf c) (w .store) ≡ 0 → ((ms : List ℕ) → c ≡ cut ms → dispatch geo c (w .store) .answer ≢ 0)
           → entered geo c (w .store) (v .ledger) ≡ entered geo c (v .store) (v .ledger)
@@ -199,13 +198,12 @@ module _ (geo : Geometry) where
         twins-next =
             let r = same-plain geo (t .groups) d modes below c (foundWritten geo c w) (foundWritten geo c v) (λ ms e z. refused-cut ms e z) in
             record {
-              first = next-sim geo c w (t .first) (no-exception c w u);
-              second = next-sim geo c v (t .second) (no-exception c v uncut-second);
+              first = next-sim geo c w (t .first) (uncut-clean c w u);
+              second = next-sim geo c v (t .second) (uncut-clean c v uncut-second);
               groups = r .0;
               plain = as-first (λ (p : Plain). plainStep geo c (foundWritten geo c v) p .plain) ∙ r .1;
               ledger = next-ledger;
-              first-mode = goes geo (w .store) (t .first-mode) c u .0;
-              second-mode = goes geo (v .store) (t .second-mode) c uncut-second .0;
+              first-mode = goes geo (w .store) (t .first-mode) c u .mode;
             }
 
 -- ---- a list of calls
@@ -228,7 +226,7 @@ module _ (geo : Geometry) where
     other-ledger = v .ledger;
     plain = w .plain;
     other-plain = v .plain;
-    twins = record { first = t .first; second = t .second; groups = t .groups; plain = t .plain; ledger = t .ledger; first-mode = t .first-mode; second-mode = t .second-mode };
+    twins = record { first = t .first; second = t .second; groups = t .groups; plain = t .plain; ledger = t .ledger; first-mode = t .first-mode };
   }
 
   pub twins-left : (cs : List Call) (a b : State) → TwinsOf a b → Uncut geo cs a → Uncut geo cs b → left geo cs a .rec .save ≢ mostSave → left geo cs b .rec .save ≢ mostSave
@@ -239,5 +237,5 @@ module _ (geo : Geometry) where
       let w = worldOf a (t .ledger) (t .plain) in
       let v = worldOf b (t .other-ledger) (t .other-plain) in
       twins-left cs (dispatch geo c a .state) (dispatch geo c b .state)
-      (twins-of (next geo c w) (next geo c v) (twins-next geo w v (t .twins) (λ z. x (stays-last geo (c ∷ cs) a (t .twins .first-mode) p z)) (λ z. y (stays-last geo (c ∷ cs) b (t .twins .second-mode) q z)) c (p .0)))
+      (twins-of (next geo c w) (next geo c v) (twins-next geo w v (t .twins) (λ z. x (stays-last geo (c ∷ cs) a (t .twins .first-mode) p z)) (λ z. y (stays-last geo (c ∷ cs) b (λ e. t .twins .first-mode (same-mode geo w v (t .twins) ∙ e)) q z)) c (p .0)))
       (p .1) (q .1) x y

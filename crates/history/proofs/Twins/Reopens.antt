@@ -270,8 +270,8 @@ module _ (geo : Geometry) where
         go false false false a b c = absurd (let k : _≡_ {A = ℕ} 9 0 = sym (ap choiceNumber (choose-neither geo N s h refl a b c)) ∙ z in omega arith)
 
     -- with power for two orders it is done
-    pub two-suffice : choiceNumber (choose geo N s) ≡ 0 → 2 ≤ st .rec .power → dispatch geo recover st .answer ≡ 0
-    two-suffice z l = go (choose geo N s) refl
+    pub two-enough : choiceNumber (choose geo N s) ≡ 0 → 2 ≤ st .rec .power → dispatch geo recover st .answer ≡ 0
+    two-enough z l = go (choose geo N s) refl
       where
         by : (c : Choice) → choose geo N s ≡ c → choiceNumber c ≡ 0 → length (recoverOrders N c) ≤ st .rec .power → dispatch geo recover st .answer ≡ 0
         by c e k w = ap (λ (o : Outcome). o .answer) (call c e k ∙ carried-done (recoverOrders N c) _ _ st w)

@@ -17,7 +17,7 @@ returns c = slots-unlike trap _ _ _ _ _ (c .before .same-slots .ensures) (not-tr
 
 same-data-requires : tie.Need-same-data-requires
 same-data-requires c κs =
-    (omega arith, (omega arith, (omega arith, (omega arith, sym (c .before .same-slots .ensures) ∙ not-false _ (c .if1 .left)))))
+    (omega arith, (omega arith, (omega arith, sym (c .before .same-slots .ensures) ∙ not-false _ (c .if1 .left))))
 
 returns-2 : tie.Need-returns-2
 returns-2 c = slots-same trap _ _ _ _ _ _ (c .same-data .ensures) (c .before .before .same-slots .ensures) (not-false _ (c .before .if1 .left))

@@ -15,7 +15,7 @@ use Rattle.inspect.proofs.alike.same_data.Statement.{statement}
 use Rattle.inspect.proofs.alike.same_data.Tie as tie
 
 abbrev Inv-loop : tie.InvT-loop
-Inv-loop a b blocks n x₀ x = (firstData trap ≤ x) × (x ≤ blocks) × (sameData trap (laid trap a n) (laid trap b n) (dataBlocks trap x) ≡ true)
+Inv-loop a b blocks n x₀ x = (firstData trap ≤ x) × (dataBlocks trap x ≤ dataBlocks trap blocks) × (sameData trap (laid trap a n) (laid trap b n) (dataBlocks trap x) ≡ true)
 
 abbrev μ-loop : tie.MeasureT-loop
 μ-loop a b blocks n x₀ x = blocks - x
@@ -34,7 +34,7 @@ loop-holds c =
 same-block-requires : tie.Need-same-block-requires Inv-loop μ-loop
 same-block-requires c κs =
     let start = c .before .before .before .before in
-    (omega arith, (omega arith, (omega arith, start .pre .1 .1 .1)))
+    (omega arith, (omega arith, (omega arith, start .pre .1 .1)))
 
 returns : tie.Need-returns Inv-loop μ-loop
 returns c =
@@ -58,7 +58,7 @@ returns-2 : tie.Need-returns-2 Inv-loop μ-loop
 returns-2 c =
     let l = c .before .loop in
     let g = c .before .before .before .before .args in
-    let over : l .x ≡ g .blocks = omega arith in
+    let over : dataBlocks trap (l .x) ≡ dataBlocks trap (g .blocks) = omega arith in
     sym (rw over at (l .inv .2))
 
 pub same-data-spec : {M : Type 1} → statement M
