@@ -204,7 +204,7 @@ module _ (geo : Geometry) where
     told = AlikeCardsProof.told geo;
     told-no = AlikeCardsProof.told-no geo;
     cards = AlikeCardsProof.alike-cards geo;
-    recovers = RecoveredProof.recovers geo;
+    recovery = RecoveredProof.recovery geo;
     runs = AlikeCardsProof.runs geo;
   }
 

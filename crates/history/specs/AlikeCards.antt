@@ -88,7 +88,7 @@ module _ (geo : Geometry) where
   NoCut [] = Unit {0}
   NoCut (c ∷ cs) = ((ms : List ℕ) → c ≢ cut ms) × NoCut cs
 
-  pub record Recovers (st : State) : Type 0 where
+  pub record Recovery (st : State) : Type 0 where
     -- a recover that is done leaves a card that is alike the one it met, also where it fell back: "The save number takes no part"
     pub alike : alikeOf geo (st .settled) (dispatch geo recover st .state .settled) .yes ≡ true
     -- behind it, any list of calls in which there is no cut, as long as the number found and the calls do not make up the largest
@@ -99,6 +99,6 @@ module _ (geo : Geometry) where
     pub told : (a b : List ℕ) → (compared geo a b ≡ comparedOf 0 1) ↔ Same geo a b
     pub told-no : (a b : List ℕ) → inspection geo a ≡ 0 → inspection geo b ≡ 0 → (Same geo a b → ⊥) → compared geo a b ≡ comparedOf 0 0
     pub cards : (a b : State) → Clones a b → AlikeCards a b
-    pub recovers : (st : State) → Shut st → dispatch geo recover st .answer ≡ 0 → Recovers st
+    pub recovery : (st : State) → Shut st → dispatch geo recover st .answer ≡ 0 → Recovery st
     -- what a list leaves is what it leaves in a history
     pub runs : (cs : List Call) (w : World) → after geo cs w .store ≡ left cs (w .store)

@@ -28,7 +28,7 @@ use Rattle.history.specs.Plain.{refusal, plainStep}
 use Rattle.history.specs.Dispatch.{dispatch}
 use Rattle.history.specs.Ledger.{settledBy, entered}
 use Rattle.history.specs.History.{World, next, acceptedCut, exception}
-use Rattle.history.specs.AlikeCards.{Shut, Uncut, recovered, NoCut, Recovers}
+use Rattle.history.specs.AlikeCards.{Shut, Uncut, recovered, NoCut, Recovery}
 use Rattle.history.proofs.Relation.CauseLaws.{record-facts, cause-passes}
 use Rattle.history.proofs.Relation.Sim.{OpenSim, Sim}
 use Rattle.history.proofs.Steps.Shown.{dispatch-refused}
@@ -144,8 +144,8 @@ module _ (geo : Geometry) (st : State) (f : Shut geo st) (done : dispatch geo re
   uncut [] h t = tt
   uncut (c ∷ cs) h t = ((λ ms e. absurd (h .0 ms e)), uncut cs (h .1) (dispatch geo c t .state))
 
-  pub recovers : Recovers geo st
-  recovers = record {
+  pub recovery : Recovery geo st
+  recovery = record {
     alike = met-again;
     reaches = λ k cs h l.
         let u = uncut cs h (recovered geo k st) in
