@@ -84,15 +84,15 @@ module _ (geo : Geometry) where
   -- ---- that there are such cards and such lists
 
   -- no call of the list is a cut
-  abbrev pub NoCut : List Call → Type 0
-  NoCut [] = Unit {0}
-  NoCut (c ∷ cs) = ((ms : List ℕ) → c ≢ cut ms) × NoCut cs
+  abbrev pub CutFree : List Call → Type 0
+  CutFree [] = Unit {0}
+  CutFree (c ∷ cs) = ((ms : List ℕ) → c ≢ cut ms) × CutFree cs
 
   pub record Recovery (st : State) : Type 0 where
     -- a recover that is done leaves a card that is alike the one it met, also where it fell back: "The save number takes no part"
     pub alike : alikeOf geo (st .settled) (dispatch geo recover st .state .settled) .yes ≡ true
     -- behind it, any list of calls in which there is no cut, as long as the number found and the calls do not make up the largest
-    pub reaches : (k : ℕ) (cs : List Call) → NoCut cs → dispatch geo recover st .state .rec .save + length cs < mostSave → Reaches k cs st
+    pub reaches : (k : ℕ) (cs : List Call) → CutFree cs → dispatch geo recover st .state .rec .save + length cs < mostSave → Reaches k cs st
 
   pub record AllAlike : Type 0 where
     -- "alike is yes exactly if": what C is told of two cards, number 0 and 1 for yes; 0 for no, where neither is refused

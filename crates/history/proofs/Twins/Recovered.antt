@@ -28,7 +28,7 @@ use Rattle.history.specs.Plain.{refusal, plainStep}
 use Rattle.history.specs.Dispatch.{dispatch}
 use Rattle.history.specs.Ledger.{settledBy, entered}
 use Rattle.history.specs.History.{World, next, acceptedCut, exception}
-use Rattle.history.specs.AlikeCards.{Shut, Uncut, recovered, NoCut, Recovery}
+use Rattle.history.specs.AlikeCards.{Shut, Uncut, recovered, CutFree, Recovery}
 use Rattle.history.proofs.Relation.CauseLaws.{record-facts, cause-passes}
 use Rattle.history.proofs.Relation.Sim.{OpenSim, Sim}
 use Rattle.history.proofs.Steps.Shown.{dispatch-refused}
@@ -140,7 +140,7 @@ module _ (geo : Geometry) (st : State) (f : Shut geo st) (done : dispatch geo re
   not-closed : (k : ℕ) → recovered geo k st .rec .mode ≢ closed
   not-closed k z = let r = opens geo st f met k n (laidOver geo (st .settled)) refl (λ x q. refl) done in omega (arith, r .1 .basics .mirrors .mode, z)
 
-  uncut : (cs : List Call) → NoCut geo cs → (t : State) → Uncut geo cs t
+  uncut : (cs : List Call) → CutFree geo cs → (t : State) → Uncut geo cs t
   uncut [] h t = tt
   uncut (c ∷ cs) h t = ((λ ms e. absurd (h .0 ms e)), uncut cs (h .1) (dispatch geo c t .state))
 
