@@ -7,35 +7,19 @@
  *                         passes.c.
  */
 #define _POSIX_C_SOURCE 199309L
-#include <stdio.h>
-#include <stdlib.h>
-#include <string.h>
-
+#include "jumping.h"
 #include "pass.h"
 #include "timing.h"
-#include "trapcard.h"
 
-enum { MOST_ROUNDS = 2001, STEP = 1571, DATA = TRAPCARD_FIRST * TRAPCARD_BLOCK, MOST_SPANS = TRAPCARD_SLOTS + 3 };
+enum { MOST_ROUNDS = 2001, MOST_SPANS = TRAPCARD_SLOTS + 3 };
 
-static uint8_t record[TRAPCARD_RECORD], waiting[TRAPCARD_WAITING], work[TRAPCARD_WORK];
-static uint8_t settled[TRAPCARD_MOST * TRAPCARD_BLOCK], other[TRAPCARD_MOST * TRAPCARD_BLOCK];
-static size_t settled_len;
+static uint8_t other[TRAPCARD_MOST * TRAPCARD_BLOCK];
 
 /* The data blocks that the log has, in order, and what is compared: from which byte, and how many. */
 static uint32_t logged[TRAPCARD_SLOTS], log_count, span_count;
 static struct {
     size_t at, length;
 } spans[MOST_SPANS];
-
-#define CARD record, sizeof record, settled, settled_len, waiting, sizeof waiting, work, sizeof work
-
-static void must(uint32_t number, const char *call)
-{
-    if (number != TRAPCARD_DONE) {
-        fprintf(stderr, "alikes: %s answered %u\n", call, number);
-        exit(1);
-    }
-}
 
 static int by_address(const void *a, const void *b)
 {
@@ -62,23 +46,14 @@ static void find_spans(void)
     add_span(from, settled_len);
 }
 
-/* Two equal cards of N blocks with any bytes at home and n entries in the log, whose addresses jump about. */
+/* Two equal cards of N blocks with n entries in the log. */
 static void prepare(uint32_t blocks, uint32_t n)
 {
     uint8_t block[TRAPCARD_BLOCK];
-    uint32_t orders;
-    settled_len = (size_t)blocks * TRAPCARD_BLOCK;
-    memset(settled, 0, TRAPCARD_BLOCK);
-    must(trapcard_format(CARD), "format");
-    for (size_t i = DATA; i < settled_len; i++)
-        settled[i] = (uint8_t)(i * 2654435761u >> 13);
-    for (uint32_t i = 0; i < n; i++) {
-        logged[i] = TRAPCARD_FIRST + (200 + i) * STEP % (blocks - TRAPCARD_FIRST);
-        memset(block, (int)(200 + i), sizeof block);
-        must(trapcard_put(CARD, logged[i], block, sizeof block), "put");
-    }
-    must(trapcard_commit(CARD), "commit");
-    must(trapcard_sync(CARD, &orders), "sync");
+    make_card(blocks);
+    for (uint32_t i = 0; i < n; i++)
+        logged[i] = put_entry(block, i);
+    save_entries();
     memcpy(other, settled, settled_len);
     log_count = n;
     qsort(logged, n, sizeof *logged, by_address);
@@ -165,8 +140,7 @@ static void measure_size(uint32_t blocks, int rounds)
 int main(int argc, char **argv)
 {
     unsigned first = argc > 1 ? (unsigned)atoi(argv[1]) : 0, count = argc > 2 ? (unsigned)atoi(argv[2]) : 0;
-    if (argc == 3 && first >= TRAPCARD_FIRST + TRAPCARD_SLOTS && first <= TRAPCARD_MOST && (first - TRAPCARD_FIRST) % STEP != 0 &&
-        count <= TRAPCARD_SLOTS) {
+    if (argc == 3 && jumps(first) && count <= TRAPCARD_SLOTS) {
         prepare(first, count);
         return !alike();
     }

@@ -6,49 +6,23 @@
  *                         are as many data blocks as slots and their number is no multiple of STEP, which is asked.
  */
 #define _POSIX_C_SOURCE 199309L
-#include <stdio.h>
-#include <stdlib.h>
-#include <string.h>
-
+#include "jumping.h"
 #include "pass.h"
 #include "timing.h"
-#include "trapcard.h"
 
-enum { MOST_ROUNDS = 2001, STEP = 1571, DATA = TRAPCARD_FIRST * TRAPCARD_BLOCK };
+enum { MOST_ROUNDS = 2001 };
 
-static uint8_t record[TRAPCARD_RECORD], waiting[TRAPCARD_WAITING], work[TRAPCARD_WORK];
-static uint8_t settled[TRAPCARD_MOST * TRAPCARD_BLOCK];
-static size_t settled_len;
-
-#define CARD record, sizeof record, settled, settled_len, waiting, sizeof waiting, work, sizeof work
-
-static void must(uint32_t number, const char *call)
-{
-    if (number != TRAPCARD_DONE) {
-        fprintf(stderr, "passes: %s answered %u\n", call, number);
-        exit(1);
-    }
-}
-
-/* A card of N blocks with any bytes at home and n entries in the log, whose addresses jump about. The sum of its data bytes. */
+/* A card of N blocks with n entries in the log. The sum of its data bytes. */
 static uint64_t prepare(uint32_t blocks, uint32_t n)
 {
     uint8_t block[TRAPCARD_BLOCK];
-    uint32_t orders;
-    settled_len = (size_t)blocks * TRAPCARD_BLOCK;
-    memset(settled, 0, TRAPCARD_BLOCK);
-    must(trapcard_format(CARD), "format");
-    for (size_t i = DATA; i < settled_len; i++)
-        settled[i] = (uint8_t)(i * 2654435761u >> 13);
+    make_card(blocks);
     uint64_t sum = pass_row(settled + DATA, settled_len - DATA);
     for (uint32_t i = 0; i < n; i++) {
-        uint32_t address = TRAPCARD_FIRST + (200 + i) * STEP % (blocks - TRAPCARD_FIRST);
-        memset(block, (int)(200 + i), sizeof block);
-        must(trapcard_put(CARD, address, block, sizeof block), "put");
+        uint32_t address = put_entry(block, i);
         sum += pass_row(block, sizeof block) - pass_row(settled + (size_t)address * TRAPCARD_BLOCK, TRAPCARD_BLOCK);
     }
-    must(trapcard_commit(CARD), "commit");
-    must(trapcard_sync(CARD, &orders), "sync");
+    save_entries();
     return sum;
 }
 
@@ -88,8 +62,7 @@ static void measure(uint32_t blocks, uint32_t n, int rounds)
 int main(int argc, char **argv)
 {
     unsigned first = argc > 1 ? (unsigned)atoi(argv[1]) : 0, count = argc > 2 ? (unsigned)atoi(argv[2]) : 0;
-    if (argc == 3 && first >= TRAPCARD_FIRST + TRAPCARD_SLOTS && first <= TRAPCARD_MOST && (first - TRAPCARD_FIRST) % STEP != 0 &&
-        count <= TRAPCARD_SLOTS) {
+    if (argc == 3 && jumps(first) && count <= TRAPCARD_SLOTS) {
         uint64_t sum = prepare(first, count);
         return tally(settled + DATA, settled_len - DATA) != sum;
     }

@@ -73,7 +73,7 @@ module _ (geo : Geometry) where
     pub rec : withSave 0 (a .rec) ≡ withSave 0 (b .rec)
 
   pub record AlikeCards (a b : State) : Type 0 where
-    -- with power enough, two orders always, both are recovered
+    -- with power for two orders, which is always enough, each is recovered
     pub recovers : (2 ≤ a .rec .power → dispatch geo recover a .answer ≡ 0) × (2 ≤ b .rec .power → dispatch geo recover b .answer ≡ 0)
     -- then, with the same power and behind the same calls, every call comes to the same, a cut too
     pub same : (k : ℕ) (cs : List Call) → Reaches k cs a → Reaches k cs b → (c : Call) → SameAt c (left cs (recovered k a)) (left cs (recovered k b))
