@@ -1,4 +1,4 @@
--- "The card is two lent buffers: the settled bytes, N blocks; and the waiting writes, 34 places of 516 bytes, each a 4-byte
+-- "The card is two lent buffers: the settled bytes, N blocks; and the waiting writes, […] places of 516 bytes, each a 4-byte
 -- address and a block, oldest first." The power count says how many orders still happen.
 use Prim.Native.Nat.{ℕ, suc, _+_, _-_, _/_}
 use mathlib.Core.Bool.{cond}

@@ -15,7 +15,7 @@ use Rattle.journal.proofs.OrderLists.{applyCount, syncCount, length-app
 abbrev right : Case → Bool
 right (emptySum v) = eqb start v
 right (sumStep h b v) = eqb (bitXor h b * prime % 2 ^ 64) v
-right (syncTakes n m v) = eqb (syncCount trap n m) v
+right (syncTakes n m v) = eqb (syncCount trap 0 n m) v
 right (applyTakes n v) = eqb (applyCount n) v
 right (slotStarts i v) = eqb (placeOf (slotAt trap i)) v
 right (blockStarts a v) = eqb (placeOf a) v
@@ -31,7 +31,7 @@ claim : (c : Case) → T (right c) → Claim c
 unfolding step
 claim (emptySum v) t = sum-nil ∙ eqb→eq start v t
 claim (sumStep h b v) t = eqb→eq (bitXor h b * prime % 2 ^ 64) v t
-claim (syncTakes n m v) t = λ N h c s es e. length-sync trap N s n h c es ∙ ap (syncCount trap n) e ∙ eqb→eq (syncCount trap n m) v t
+claim (syncTakes n m v) t = λ N h c s es e. length-sync trap N s 0 n h c es ∙ ap (syncCount trap 0 n) e ∙ eqb→eq (syncCount trap 0 n m) v t
 claim (applyTakes n v) t = λ N c s. length-apply trap N s n c ∙ eqb→eq (applyCount n) v t
 claim (slotStarts i v) t = eqb→eq (placeOf (slotAt trap i)) v t
 claim (blockStarts a v) t = eqb→eq (placeOf a) v t

@@ -23,7 +23,7 @@ use Rattle.journal.specs.declared.header.Header.{Header}
 use Rattle.journal.specs.Layout.{headerAt, descriptorAt, slotAt, firstData}
 use Rattle.journal.specs.Header.{encode, header, emptyHeader}
 use Rattle.journal.specs.Log.{slotEntry, entries, sumOf}
-use Rattle.journal.specs.Orders.{headerWrite, slotWrites, describe, descriptorEntry, descriptors, appendOrders, checkpointOrders, fallbackOrders, applyOrders, syncOrders}
+use Rattle.journal.specs.Orders.{headerWrite, barrier, slotWrites, describe, descriptorEntry, descriptors, appendOrders, checkpointOrders, fallbackOrders, applyOrders, syncOrders}
 pub use Rattle.journal.proofs.Descriptors.{length-describe, describe-afresh}
 use Rattle.journal.proofs.Phases.{below-card}
 
@@ -172,6 +172,14 @@ length-fallback N p h c = refl
 abbrev pub applyCount : ℕ → ℕ
 applyCount n = cond (eqb n 0) 0 (n + 3)
 
+pub length-barrier : (w : ℕ) → length (barrier w) ≡ cond (eqb w 0) 0 1
+unfolding barrier
+length-barrier w = go (eqb w 0)
+  where
+    go : (t : Bool) → length (cond t [] (flush ∷ [])) ≡ cond t 0 1
+    go true = refl
+    go false = refl
+
 module _ (geo : Geometry) where
   pub length-apply : (N : ℕ) (s : List ℕ) (n c : ℕ) → length (applyOrders geo N s n c) ≡ applyCount n
   unfolding applyOrders
@@ -181,17 +189,17 @@ module _ (geo : Geometry) where
       go true = refl
       go false = length-checkpoint N c (entries geo s n) ∙ ap (λ (k : ℕ). k + 3) (length-upTo (slotEntry geo s) n)
 
-  -- "m = 0: done, no orders. If n+m > 32, apply runs first and n is then 0 […] m+3 orders"
-  abbrev pub syncCount : ℕ → ℕ → ℕ
-  syncCount n m = cond (eqb m 0) 0 (cond (leb (n + m) (geo .slots)) (m + geo .descriptors + 2) (n + 3 + (m + geo .descriptors + 2)))
+  -- "flushes if anything waits, one order; otherwise none. If n+m > 32, apply runs first and n is then 0 […] m+3 orders"
+  abbrev pub syncCount : ℕ → ℕ → ℕ → ℕ
+  syncCount w n m = cond (eqb m 0) (cond (eqb w 0) 0 1) (cond (leb (n + m) (geo .slots)) (m + geo .descriptors + 2) (n + 3 + (m + geo .descriptors + 2)))
 
-  pub length-sync : (N : ℕ) (s : List ℕ) (n h c : ℕ) (es : List Entry) → length (syncOrders geo N s n h c es) ≡ syncCount n (length es)
+  pub length-sync : (N : ℕ) (s : List ℕ) (w n h c : ℕ) (es : List Entry) → length (syncOrders geo N s w n h c es) ≡ syncCount w n (length es)
   unfolding syncOrders
-  length-sync N s n h c es = go (eqb (length es) 0) (leb (n + length es) (geo .slots))
+  length-sync N s w n h c es = go (eqb (length es) 0) (leb (n + length es) (geo .slots))
     where
       go : (t u : Bool)
-          → length (cond t [] (cond u (appendOrders geo N s n h (c + 1) es) (checkpointOrders N c (entries geo s n) ++ appendOrders geo N s 0 start (c + 1) es)))
-          ≡ cond t 0 (cond u (length es + geo .descriptors + 2) (n + 3 + (length es + geo .descriptors + 2)))
-      go true u = refl
+          → length (cond t (barrier w) (cond u (appendOrders geo N s n h (c + 1) es) (checkpointOrders N c (entries geo s n) ++ appendOrders geo N s 0 start (c + 1) es)))
+          ≡ cond t (cond (eqb w 0) 0 1) (cond u (length es + geo .descriptors + 2) (n + 3 + (length es + geo .descriptors + 2)))
+      go true u = length-barrier w
       go false true = length-append-orders geo N s n h (c + 1) es
       go false false = rw (length-append, length-checkpoint, length-upTo, length-append-orders geo)

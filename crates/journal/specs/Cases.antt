@@ -20,11 +20,11 @@ pub data Case : Type 0 where
   addressIs : ℕ → ℕ → Bool → Case
 
 -- what a case claims, its last number being the value; orders are those on any card, with any sum and save number and any group of m
--- entries
+-- entries, where nothing waits
 abbrev pub Claim : Case → Type 0
 Claim (emptySum v) = sum [] ≡ v
 Claim (sumStep h b v) = step h b ≡ v
-Claim (syncTakes n m v) = (N h c : ℕ) (s : List ℕ) (es : List Entry) → length es ≡ m → length (syncOrders trap N s n h c es) ≡ v
+Claim (syncTakes n m v) = (N h c : ℕ) (s : List ℕ) (es : List Entry) → length es ≡ m → length (syncOrders trap N s 0 n h c es) ≡ v
 Claim (applyTakes n v) = (N c : ℕ) (s : List ℕ) → length (applyOrders trap N s n c) ≡ v
 Claim (slotStarts i v) = placeOf (slotAt trap i) ≡ v
 Claim (blockStarts a v) = placeOf a ≡ v

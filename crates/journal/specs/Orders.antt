@@ -41,6 +41,10 @@ checkpointOrders N c es = map write es ++ (flush ∷ headerWrite (emptyHeader N 
 unfoldable pub fallbackOrders : ℕ → ℕ → ℕ → ℕ → List Order
 fallbackOrders N p sum c = headerWrite (header N p sum p sum c) ∷ flush ∷ []
 
+-- W-209: w writes wait: "flushes if anything waits, one order; otherwise none"
+unfoldable pub barrier : ℕ → List Order
+barrier w = cond (eqb w 0) [] (flush ∷ [])
+
 module _ (geo : Geometry) where
   -- "the descriptor": its blocks in turn, one at the trap
   abbrev pub descriptors : List ℕ → ℕ → List Entry → List Entry
@@ -65,12 +69,12 @@ module _ (geo : Geometry) where
   unfoldable pub applyOrders : ℕ → List ℕ → ℕ → ℕ → List Order
   applyOrders N s n c = cond (eqb n 0) [] (checkpointOrders N c (entries geo s n))
 
-  -- sync of the group es: "m = 0: done, no orders. If n+m > 32, apply runs first and n is then 0." The slots that a checkpoint
-  -- leaves in the descriptor play no part at n = 0. c is the record's save number: W-201: "one more with each sync that writes its own
-  -- header; apply keeps it"
-  unfoldable pub syncOrders : ℕ → List ℕ → ℕ → ℕ → ℕ → List Entry → List Order
-  syncOrders N s n h c es =
-      cond (eqb (length es) 0) []
+  -- sync of the group es, where w writes wait. W-209: "A sync with an empty group flushes if anything waits, one order; otherwise none."
+  -- "If n+m > 32, apply runs first and n is then 0." The slots that a checkpoint leaves in the descriptor play no part at n = 0. c is the
+  -- record's save number: W-201: "one more with each sync that writes its own header; apply keeps it"
+  unfoldable pub syncOrders : ℕ → List ℕ → ℕ → ℕ → ℕ → ℕ → List Entry → List Order
+  syncOrders N s w n h c es =
+      cond (eqb (length es) 0) (barrier w)
       (cond (leb (n + length es) (geo .slots))
       (appendOrders N s n h (c + 1) es)
       (checkpointOrders N c (entries geo s n) ++ appendOrders N s 0 start (c + 1) es))

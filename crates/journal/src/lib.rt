@@ -9,12 +9,15 @@ pub mod lookup;
 pub mod size;
 pub mod wanted;
 
-// The geometry of the trap, as `trap` of specs/Geometry.antt has it: slots, descriptor blocks, places of the queue.
+// The geometry of the trap, as `trap` of specs/Geometry.antt has it: slots, descriptor blocks, direct writes that may wait in an open record,
+// places of the queue.
 pub const SLOTS: u32 = 32;
 
 pub const DESCRIPTORS: u32 = 1;
 
-pub const PLACES: usize = 34;
+pub const DIRECT: u32 = 32;
+
+pub const PLACES: usize = 66;
 
 // Block 0 is the header, block 1 the descriptor, then block by block the slots.
 pub const HEADER_AT: u32 = 0;

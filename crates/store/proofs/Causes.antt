@@ -25,8 +25,8 @@ use Rattle.store.specs.State.{State, closed, openMode, down}
 use Rattle.store.specs.Lists.{openFrom, groupFrom, listed, find}
 use Rattle.store.specs.Local as Local
 use Rattle.store.specs.Save as Save
-use Rattle.store.specs.Request.{Request, format, local, save, cut, power, abandon}
-use Rattle.store.specs.Causes.{waitingBytes, workBytes, Row, wrongSizes, some, wrongCounts, wrongWaiting, isFound, wrongLists, wrongRecord, downRow, openRow, Rules, ofBytes, ofRecord, ofOpen, rules, ownSize, wrongBlock, first, causeBy, cause}
+use Rattle.store.specs.Request.{Request, format, local, direct, save, cut, power, abandon}
+use Rattle.store.specs.Causes.{waitingBytes, workBytes, mostWaiting, Row, wrongSizes, some, wrongCounts, wrongWaiting, isFound, wrongLists, wrongRecord, downRow, openRow, Rules, ofBytes, ofRecord, ofOpen, rules, ownSize, wrongBlock, first, causeBy, cause}
 
 -- ---- a search of n places from the last one down, i of them left
 
@@ -128,9 +128,23 @@ module _ (geo : Geometry) where
     pub open-count : st .rec .opened ≤ geo .slots
     pub group-count : st .rec .grouped ≤ geo .slots
     pub log-count : st .rec .logged ≤ geo .slots
-    pub waiting-count : st .rec .waiting ≤ geo .places
-    pub waiting-down : st .rec .waiting ≢ 0 → st .rec .mode ≡ down
+    pub waiting-count : st .rec .waiting ≤ mostWaiting geo (st .rec .mode)
     pub blocks : st .rec .blocks ≡ blocksIn (st .settled)
+
+  -- what may wait, by the mode
+  pub open-waits : (st : State) → CountFacts st → st .rec .mode ≡ openMode → st .rec .waiting ≤ geo .direct
+  open-waits st f o = rw o at (f .waiting-count)
+
+  pub closed-waits : (st : State) → CountFacts st → st .rec .mode ≡ closed → st .rec .waiting ≡ 0
+  closed-waits st f o = let l : st .rec .waiting ≤ 0 = rw o at (f .waiting-count) in omega arith
+
+  pub any-waits : (st : State) → CountFacts st → st .rec .waiting ≤ geo .places
+  any-waits st f = go (eqb (st .rec .mode) closed) (eqb (st .rec .mode) openMode) (f .waiting-count)
+    where
+      go : (t u : Bool) → st .rec .waiting ≤ cond t 0 (cond u (geo .direct) (geo .places)) → st .rec .waiting ≤ geo .places
+      go true u l = omega arith
+      go false true l = omega (arith, geo .queued)
+      go false false l = l
 
   pub counts-facts : (st : State) → wrongCounts geo st ≡ false → CountFacts st
   unfolding wrongCounts
@@ -140,14 +154,12 @@ module _ (geo : Geometry) where
       let c = neither _ _ (b .0) in
       let d = neither _ _ (c .0) in
       let f = neither _ _ (d .0) in
-      let g = neither _ _ (f .0) in
       record {
-        mode = ltb-false _ _ (g .0);
-        open-count = ltb-false _ _ (g .1);
-        group-count = ltb-false _ _ (f .1);
-        log-count = ltb-false _ _ (d .1);
-        waiting-count = ltb-false _ _ (c .1);
-        waiting-down = λ p. eqb-true _ _ (not-false _ (other _ _ (b .1) (ap not (ne-eqb _ _ p))));
+        mode = ltb-false _ _ (f .0);
+        open-count = ltb-false _ _ (f .1);
+        group-count = ltb-false _ _ (d .1);
+        log-count = ltb-false _ _ (c .1);
+        waiting-count = ltb-false _ _ (b .1);
         blocks = eqb-true _ _ (not-false _ (a .1));
       }
 

@@ -15,17 +15,18 @@ use Rattle.journal.specs.Layout.{isData, wrongSize}
 use Rattle.journal.specs.Header.{mostSave}
 use Rattle.journal.specs.Log.{entries, allData}
 use Rattle.journal.specs.Wanted.{wantedBytes, wantedCount, wantedAt}
+use Rattle.journal.specs.Lookup.{lastSlot}
 use Rattle.journal.specs.Choice.{choose, inUse, choiceNumber}
 use Rattle.store.specs.State.{State, closed, openMode, down, cardIn}
 use Rattle.store.specs.Lists.{openFrom, groupFrom, listed, find}
 use Rattle.store.specs.Local as Local
 use Rattle.store.specs.Save as Save
-use Rattle.store.specs.Request.{Request, format, local, save, cut}
+use Rattle.store.specs.Request.{Request, format, local, direct, save, cut}
 
 -- ---- the sizes
 
 module _ (geo : Geometry) where
-  -- "34 places of 516 bytes (17,544 in all)"
+  -- "places of 516 bytes"; W-209: "66 places (34,056 bytes)"
   abbrev pub waitingBytes : ℕ
   waitingBytes = entryBytes * geo .places
 
@@ -64,15 +65,18 @@ some f zero = false
 some f (suc n) = some f n || f n
 
 module _ (geo : Geometry) where
-  -- "mode over 2, open, group or log count over 32, waiting over 34, waiting not 0 unless down, N not the buffer's"
+  -- W-209: "An open record may have up to 32 waiting writes, a down one up to 66; closed stays 0."
+  abbrev pub mostWaiting : ℕ → ℕ
+  mostWaiting mode = cond (eqb mode closed) 0 (cond (eqb mode openMode) (geo .direct) (geo .places))
+
+  -- "mode over 2, open, group or log count over 32, waiting over" what the mode allows, "N not the buffer's"
   unfoldable pub wrongCounts : State → Bool
   wrongCounts st =
       ltb down (st .rec .mode)
       || ltb (geo .slots) (st .rec .opened)
       || ltb (geo .slots) (st .rec .grouped)
       || ltb (geo .slots) (st .rec .logged)
-      || ltb (geo .places) (st .rec .waiting)
-      || (not (eqb (st .rec .waiting) 0) && not (eqb (st .rec .mode) down))
+      || ltb (mostWaiting (st .rec .mode)) (st .rec .waiting)
       || not (eqb (st .rec .blocks) (blocksIn (st .settled)))
 
 -- "a listed or waiting address out of place": "waiting ones below N"
@@ -114,7 +118,7 @@ pub record Row : Type 0 where
   pub behind : 2 < number
   pub test : State → Bool
 
--- ---- 3: "mode closed (put, get, commit, abandon, sync, apply)"
+-- ---- 3: "mode closed (put, get, commit, abandon, sync, apply)"; W-209: "A direct write refuses as put does up to 6"
 
 abbrev pub closedRow : Row
 closedRow = record { number = 3; behind = lib.Dec.lit< tt; test = λ st. eqb (st .rec .mode) closed }
@@ -181,6 +185,19 @@ module _ (geo : Geometry) where
   abbrev pub inUseRow : Row
   inUseRow = record { number = 13; behind = lib.Dec.lit< tt; test = λ st. inUse geo (blocksIn (st .settled)) (st .settled) }
 
+-- ---- 14: W-209: "when a direct write's address is in open, group or log, checked after 6"
+
+module _ (geo : Geometry) where
+  abbrev pub listedRow : ℕ → Row
+  listedRow a = record {
+    number = 14;
+    behind = lib.Dec.lit< tt;
+    test = λ st.
+        isFound (find (st .work) openFrom (st .rec .opened) a)
+        || isFound (find (st .work) (groupFrom geo) (st .rec .grouped) a)
+        || isFound (lastSlot (st .settled) a (st .rec .logged));
+  }
+
 -- ---- the rows of a call
 
 -- what a call has of the rows that calls share, by what it reads; with it, what its own arguments have wrong in row 1, and the rows that
@@ -199,12 +216,13 @@ module _ (geo : Geometry) where
   rules (local (Local.getList xs bs)) = ofOpen (wrongList xs bs) (addressesRow geo xs ∷ [])
   rules (local Local.commit) = ofOpen false (groupFullRow geo ∷ [])
   rules (local Local.abandon) = ofOpen false []
+  rules (direct a b) = ofOpen (not (eqb (length b) blockBytes)) (addressRow geo a ∷ listedRow geo a ∷ [])
   rules (save Save.sync) = ofOpen false (lastSaveRow ∷ [])
   rules (save Save.apply) = ofOpen false []
   rules (save Save.recover) = ofRecord false (downRow ∷ openRow ∷ foreignRow geo ∷ unsoundRow geo ∷ [])
   rules (cut ms) = ofRecord false (marksRow ms ∷ [])
 
--- the call's own arguments have a wrong size: "a put block not 512 bytes"; W-207: a list of addresses or its buffer
+-- the call's own arguments have a wrong size: "a put block not 512 bytes", and a direct write's; W-207: a list of addresses or its buffer
 abbrev pub ownSize : Rules → Bool
 ownSize (ofBytes own rest) = own
 ownSize (ofRecord own rest) = own

@@ -8,7 +8,7 @@ use Rattle.fnv.specs.Fnv.{start}
 use Rattle.card.specs.Card.{blocksIn}
 use Rattle.journal.specs.Layout.{mostBlocks}
 use Rattle.store.specs.declared.place.Place.{Place}
-use Rattle.store.specs.declared.place.Place.the-variants.{Settled, Work, Nowhere}
+use Rattle.store.specs.declared.place.Place.the-variants.{Settled, Waiting, Work, Nowhere}
 use Rattle.store.specs.declared.record.Record.{Record}
 use Rattle.store.specs.State.{State, Outcome, openMode}
 
@@ -23,8 +23,9 @@ fresh N = record { mode = openMode; blocks = N; opened = 0; grouped = 0; logged 
 abbrev pub outcomeOf : ℕ → ℕ → Record → List ℕ → List ℕ → List ℕ → Outcome
 outcomeOf number orders r settled waiting work = record { answer = number; orders = orders; state = stateOf r settled waiting work }
 
--- a place that holds a whole block: one of the settled blocks, or that of an entry in work memory
-abbrev pub HoldsBlock : Place → List ℕ → List ℕ → Type 0
-HoldsBlock (Settled o) settled work = (o % blockBytes ≡ 0) × (o / blockBytes < blocksIn settled) × (o / blockBytes < mostBlocks)
-HoldsBlock (Work o) settled work = (o % entryBytes ≡ 4) × (entryBytes * (o / entryBytes) + entryBytes ≤ length work)
-HoldsBlock Nowhere settled work = Unit {0}
+-- a place that holds a whole block: one of the settled blocks, or that of an entry in the waiting bytes or in work memory
+abbrev pub HoldsBlock : Place → List ℕ → List ℕ → List ℕ → Type 0
+HoldsBlock (Settled o) settled waiting work = (o % blockBytes ≡ 0) × (o / blockBytes < blocksIn settled) × (o / blockBytes < mostBlocks)
+HoldsBlock (Waiting o) settled waiting work = (o % entryBytes ≡ 4) × (entryBytes * (o / entryBytes) + entryBytes ≤ length waiting)
+HoldsBlock (Work o) settled waiting work = (o % entryBytes ≡ 4) × (entryBytes * (o / entryBytes) + entryBytes ≤ length work)
+HoldsBlock Nowhere settled waiting work = Unit {0}

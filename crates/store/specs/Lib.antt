@@ -15,5 +15,6 @@ pub mod Get
 pub mod GetList
 pub mod Commit
 pub mod Saves
+pub mod Direct
 pub mod Cost
 pub mod Cut

@@ -1,4 +1,4 @@
--- A call with its own arguments, as the table of causes tells them apart: format, a local call, a save, or a cut.
+-- A call with its own arguments, as the table of causes tells them apart: format, a local call, a direct write (W-209), a save, or a cut.
 use Prim.Native.Nat.{ℕ}
 use mathlib.Core.List.{List}
 use Rattle.store.specs.Local as Local
@@ -9,6 +9,7 @@ use Rattle.store.specs.Save.{Save}
 pub data Request : Type 0 where
   format : Request
   local : Local → Request
+  direct : ℕ → List ℕ → Request
   save : Save → Request
   cut : List ℕ → Request
 

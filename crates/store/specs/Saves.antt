@@ -59,7 +59,7 @@ module _ (geo : Geometry) where
 
 module _ (geo : Geometry) where
   abbrev pub saveOrders : Save → State → List Order
-  saveOrders Save.sync st = syncOrders geo (st .rec .blocks) (st .settled) (st .rec .logged) (st .rec .sum) (st .rec .save) (groupOf geo st)
+  saveOrders Save.sync st = syncOrders geo (st .rec .blocks) (st .settled) (st .rec .waiting) (st .rec .logged) (st .rec .sum) (st .rec .save) (groupOf geo st)
   saveOrders Save.apply st = applyOrders geo (st .rec .blocks) (st .settled) (st .rec .logged) (st .rec .save)
   saveOrders Save.recover st = recoverOrders (st .rec .blocks) (choose geo (st .rec .blocks) (st .settled))
 

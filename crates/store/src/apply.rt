@@ -7,6 +7,7 @@ ghost use mathlib.Core.List.{List};
 ghost use Prim.Native.Nat.{ℕ, _≤_, _<_};
 ghost use lib.ListN.{length};
 ghost use Rattle.card.specs.Card.{blocksIn};
+ghost use Rattle.card.specs.CodeQueue.{Below};
 ghost use Rattle.journal.specs.Geometry.{trap};
 ghost use Rattle.journal.specs.Layout.{firstData};
 ghost use Rattle.journal.specs.Log.{slotAddress};
@@ -33,8 +34,9 @@ impl Record {
         requires { ⌜ firstData trap < blocksIn (now settled) ⌝ }
         requires { ⌜ self .logged ≤ trap .slots ⌝ }
         requires { ⌜ ((i : ℕ) → i < self .logged → slotAddress (now settled) i < blocksIn (now settled)) ⌝ }
-        requires { ⌜ self .waiting ≡ 0 ⌝ }
+        requires { ⌜ self .waiting ≤ trap .direct ⌝ }
         requires { ⌜ waitingBytes trap ≤ length (now waiting) ⌝ }
+        requires { ⌜ Below (blocksIn (now settled)) (now waiting) (self .waiting) ⌝ }
         ensures { λ r. ⌜ ((k : List ℕ) → stateOf r (now (settled .exit)) (now (waiting .exit)) k ≡ emptying trap (stateOf self (now (settled .entry)) (now (waiting .entry)) k) .state) ⌝ }
     {
         let ordered = checkpoint(

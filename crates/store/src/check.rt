@@ -10,6 +10,7 @@ use crate::record::DOWN;
 use crate::record::OPEN_MODE;
 use crate::record::Record;
 use card::settled::blocks_in;
+use journal::DIRECT;
 use journal::PLACES;
 use journal::SLOTS;
 use journal::log::all_data;
@@ -98,6 +99,19 @@ fn twice(work: &[u8], from: usize, n: u32) -> bool
 }
 
 impl Record {
+    // How many writes may wait, by the mode.
+    fn most_waiting(self) -> usize
+        ensures { λ r. ⌜ r ≡ Causes.mostWaiting trap (self .mode) ⌝ }
+    {
+        if self.mode == CLOSED {
+            return 0;
+        }
+        if self.mode == OPEN_MODE {
+            return DIRECT as usize;
+        }
+        PLACES
+    }
+
     // Row 2: the mode, the counts, and N.
     fn wrong_counts(self, settled: &[u8]) -> bool
         ensures { λ r. ⌜ ((w k : List ℕ) → r ≡ Causes.wrongCounts trap (stateOf self (now (settled .entry)) w k)) ⌝ }
@@ -114,10 +128,7 @@ impl Record {
         if SLOTS < self.logged {
             return true;
         }
-        if PLACES < self.waiting as usize {
-            return true;
-        }
-        if self.waiting != 0 && self.mode != DOWN {
+        if self.most_waiting() < self.waiting as usize {
             return true;
         }
         self.blocks as usize != blocks_in(settled)

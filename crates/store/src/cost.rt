@@ -55,7 +55,9 @@ impl Record {
             return Cost::refusal(number);
         }
         if self.grouped == 0 {
-            return self.cost(0, false, self.waiting);
+            // A flush, if anything waits.
+            let orders = (self.waiting != 0) as u32;
+            return self.cost(orders, false, self.waiting);
         }
         // Its own writes: log blocks, descriptor, header.
         let writes = self.grouped + DESCRIPTORS + 1;

@@ -5,6 +5,7 @@ mod check;
 pub mod commit;
 pub mod cost;
 pub mod cut;
+pub mod direct;
 pub mod format;
 pub mod get;
 pub mod get_list;

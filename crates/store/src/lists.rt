@@ -1,4 +1,4 @@
-// The lists in work memory: open, and group behind it.
+// The lists of entries: open in work memory, group behind it, and the waiting writes in bytes of their own.
 use cells::ADDRESS;
 use cells::BLOCK;
 use cells::ENTRY;
@@ -24,6 +24,8 @@ ghost use Rattle.store.specs.Get.{listedPlace};
 pub const OPEN: usize = 0;
 
 pub const GROUP: usize = SLOTS as usize;
+
+pub const WAITING_FROM: usize = 0;
 
 // The address of the i-th entry of the list that starts at from.
 pub(crate) fn address(work: &[u8], from: usize, i: u32) -> u32

@@ -11,19 +11,22 @@ use journal::append::append;
 use journal::header::LAST_SAVE;
 ghost use mathlib.Core.Path.{_≡_};
 ghost use mathlib.Core.Logic.{_≢_};
+ghost use mathlib.Core.List.{List};
 ghost use Prim.Native.Nat.{ℕ, _+_, _≤_, _<_};
 ghost use lib.Dec.{leb};
 ghost use lib.ListN.{length};
 ghost use Rattle.card.specs.Card.{blocksIn};
 ghost use Rattle.journal.specs.Geometry.{trap};
 ghost use Rattle.journal.specs.Layout.{firstData};
+ghost use Rattle.card.specs.CodeQueue.{Below};
 ghost use Rattle.journal.specs.Header.{mostSave};
 ghost use Rattle.journal.specs.Log.{slotAddress};
+ghost use Rattle.journal.specs.Orders.{barrier};
 ghost use Rattle.store.specs.State.{openMode};
 ghost use Rattle.store.specs.CodeState.{stateOf, outcomeOf};
 ghost use Rattle.store.specs.Request as Request;
 ghost use Rattle.store.specs.Causes.{cause, waitingBytes, workBytes};
-ghost use Rattle.store.specs.Saves.{appending, syncing, syncCall};
+ghost use Rattle.store.specs.Saves.{carried, appending, syncing, syncCall};
 
 impl Record {
     pub fn sync(self, settled: &mut [u8], waiting: &mut [u8], work: &[u8]) -> Saved
@@ -53,10 +56,11 @@ impl Record {
         0
     }
 
-    // Its orders: none for an empty group; an apply first where the log has no room.
+    // Its orders: for an empty group a flush, if anything waits; an apply first where the log has no room.
     fn synced(self, settled: &mut [u8], waiting: &mut [u8], work: &[u8]) -> Record
         requires { ⌜ firstData trap < blocksIn (now settled) ⌝ }
-        requires { ⌜ (self .mode ≡ openMode) × (self .waiting ≡ 0) ⌝ }
+        requires { ⌜ (self .mode ≡ openMode) × (self .waiting ≤ trap .direct) ⌝ }
+        requires { ⌜ Below (blocksIn (now settled)) (now waiting) (self .waiting) ⌝ }
         requires { ⌜ (self .grouped ≤ trap .slots) × (self .logged ≤ trap .slots) ⌝ }
         requires { ⌜ ((i : ℕ) → i < self .logged → slotAddress (now settled) i < blocksIn (now settled)) ⌝ }
         requires { ⌜ (waitingBytes trap ≤ length (now waiting)) × (workBytes trap ≤ length (now work)) ⌝ }
@@ -64,7 +68,7 @@ impl Record {
         ensures { λ r. ⌜ stateOf r (now (settled .exit)) (now (waiting .exit)) (now (work .entry)) ≡ syncing trap (stateOf self (now (settled .entry)) (now (waiting .entry)) (now (work .entry))) .state ⌝ }
     {
         if self.grouped == 0 {
-            return self;
+            return self.flushed(settled, waiting);
         }
         if self.fits() {
             return self.appended(settled, waiting, work);
@@ -74,6 +78,19 @@ impl Record {
             return emptied;
         }
         emptied.appended(settled, waiting, work)
+    }
+
+    // A barrier: what waits is settled. No order where nothing waits.
+    fn flushed(self, settled: &mut [u8], waiting: &[u8]) -> Record
+        requires { ⌜ (self .mode ≡ openMode) × (self .waiting ≤ trap .direct) ⌝ }
+        requires { ⌜ waitingBytes trap ≤ length (now waiting) ⌝ }
+        requires { ⌜ Below (blocksIn (now settled)) (now waiting) (self .waiting) ⌝ }
+        ensures { λ r. ⌜ ((k : List ℕ) → stateOf r (now (settled .exit)) (now (waiting .entry)) k ≡ carried (barrier (self .waiting)) self self (stateOf self (now (settled .entry)) (now (waiting .entry)) k) .state) ⌝ }
+    {
+        if self.waiting == 0 {
+            return self;
+        }
+        self.after(self.queue().flush(settled, waiting), self)
     }
 
     // Whether the log has room for the group; if not, an apply comes first.
@@ -88,8 +105,9 @@ impl Record {
     fn appended(self, settled: &mut [u8], waiting: &mut [u8], work: &[u8]) -> Record
         requires { ⌜ firstData trap < blocksIn (now settled) ⌝ }
         requires { ⌜ self .logged + self .grouped ≤ trap .slots ⌝ }
-        requires { ⌜ self .waiting ≡ 0 ⌝ }
+        requires { ⌜ self .waiting ≤ trap .direct ⌝ }
         requires { ⌜ waitingBytes trap ≤ length (now waiting) ⌝ }
+        requires { ⌜ Below (blocksIn (now settled)) (now waiting) (self .waiting) ⌝ }
         requires { ⌜ workBytes trap ≤ length (now work) ⌝ }
         requires { ⌜ self .save ≢ mostSave ⌝ }
         ensures { λ r. ⌜ stateOf r (now (settled .exit)) (now (waiting .exit)) (now (work .entry)) ≡ appending trap (stateOf self (now (settled .entry)) (now (waiting .entry)) (now (work .entry))) .state ⌝ }
