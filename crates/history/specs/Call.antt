@@ -1,5 +1,5 @@
 -- "The list holds power, put, get, commit, abandon, sync, apply, recover and cut in any order, with any arguments, refused ones too."
--- W-207: and lists of gets.
+-- W-207: and lists of gets. W-209: and direct writes.
 use Prim.Native.Nat.{ℕ}
 use mathlib.Core.List.{List}
 use Rattle.store.specs.Local as Local
@@ -8,9 +8,10 @@ use Rattle.store.specs.Save as Save
 use Rattle.store.specs.Save.{Save}
 use Rattle.store.specs.Request as Request
 
--- a call is local (power, put, get, a list of gets, commit, abandon), a save (sync, apply, recover) or a cut
+-- a call is local (power, put, get, a list of gets, commit, abandon), a direct write, a save (sync, apply, recover) or a cut
 pub data Call : Type 0 where
   local : Local → Call
+  direct : ℕ → List ℕ → Call
   save : Save → Call
   cut : List ℕ → Call
 
@@ -49,6 +50,7 @@ ofGet (local (Local.get a)) f x = f a
 ofGet (local (Local.getList xs bs)) f x = x
 ofGet (local Local.commit) f x = x
 ofGet (local Local.abandon) f x = x
+ofGet (direct a b) f x = x
 ofGet (save c) f x = x
 ofGet (cut ms) f x = x
 
@@ -60,11 +62,13 @@ ofList (local (Local.get a)) f x = x
 ofList (local (Local.getList xs bs)) f x = f xs bs
 ofList (local Local.commit) f x = x
 ofList (local Local.abandon) f x = x
+ofList (direct a b) f x = x
 ofList (save c) f x = x
 ofList (cut ms) f x = x
 
 -- a call of the list with its own arguments: every call of the store but format
 abbrev pub requestOf : Call → Request.Request
 requestOf (local c) = Request.local c
+requestOf (direct a b) = Request.direct a b
 requestOf (save c) = Request.save c
 requestOf (cut ms) = Request.cut ms

@@ -65,10 +65,10 @@ module _ (geo : Geometry) where
   abbrev pub Takes : Save → State → ℕ → Bool → ℕ → Type 0
   Takes c st orders applies peak = (costOf geo c st .orders ≡ orders) × (costOf geo c st .applies ≡ applies) × (costOf geo c st .peak ≡ peak)
 
-  -- n entries in the log, m in the group: "m+3 orders" of a sync, "n+3 orders" of an apply, one descriptor block at the trap. What waits
-  -- before is 0 wherever no cause refuses: writes wait only in a down record
+  -- n entries in the log, m in the group: "m+3 orders" of a sync, "n+3 orders" of an apply, one descriptor block at the trap. W-209: a sync
+  -- with an empty group is a flush if anything waits; behind it a sync that applies has none of the earlier writes
   pub record ClosedForms (st : State) : Type 0 where
-    pub sync-none : cause geo (save Save.sync) st ≡ 0 → st .rec .grouped ≡ 0 → Takes Save.sync st 0 false (st .rec .waiting)
+    pub sync-none : cause geo (save Save.sync) st ≡ 0 → st .rec .grouped ≡ 0 → Takes Save.sync st (cond (eqb (st .rec .waiting) 0) 0 1) false (st .rec .waiting)
     pub sync-room : cause geo (save Save.sync) st ≡ 0 → st .rec .grouped ≢ 0 → st .rec .logged + st .rec .grouped ≤ geo .slots
         → Takes Save.sync st (st .rec .grouped + geo .descriptors + 2) false (st .rec .waiting + (st .rec .grouped + geo .descriptors + 1))
     pub sync-applies : cause geo (save Save.sync) st ≡ 0 → geo .slots < st .rec .logged + st .rec .grouped

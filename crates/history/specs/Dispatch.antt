@@ -7,7 +7,7 @@ use Rattle.store.specs.Local as Local
 use Rattle.store.specs.Local.{Local}
 use Rattle.store.specs.Save as Save
 use Rattle.store.specs.Save.{Save}
-use Rattle.store.specs.Request.{Request, format, local, save, cut, power, put, get, getList, commit, abandon, sync, apply, recover}
+use Rattle.store.specs.Request.{Request, format, local, direct, save, cut, power, put, get, getList, commit, abandon, sync, apply, recover}
 use Rattle.store.specs.State.{State, Outcome}
 use Rattle.store.specs.Causes.{cause}
 use Rattle.store.specs.Outcomes.{completed, unless}
@@ -18,6 +18,7 @@ use Rattle.store.specs.Abandon.{abandoned, abandonCall}
 use Rattle.store.specs.GetList.{listing}
 use Rattle.store.specs.Commit.{committed, commitCall}
 use Rattle.store.specs.Saves.{syncing, syncCall, applying, applyCall, recovering, recoverCall}
+use Rattle.store.specs.Direct.{directing, directCall}
 use Rattle.store.specs.Cut.{cutting, cutCall}
 use Rattle.journal.specs.Geometry.{Geometry}
 use Rattle.journal.specs.Choice.{choose}
@@ -43,6 +44,7 @@ module _ (geo : Geometry) where
   abbrev pub served : Request → State → Outcome
   served format st = completed (formatted st)
   served (local c) st = completed (servedLocal c st)
+  served (direct a b) st = directing geo a b st
   served (save c) st = servedSave c st
   served (cut ms) st = completed (cutting ms st)
 
@@ -64,6 +66,7 @@ module _ (geo : Geometry) where
     pub lists : (xs bs : List ℕ) (st : State) → called (getList xs bs) st ≡ record { answer = listing geo xs bs st .number; orders = 0; state = st }
     pub commits : commitCall geo ≡ called commit
     pub abandons : abandonCall geo ≡ called abandon
+    pub directs : (a : ℕ) (b : List ℕ) → directCall geo a b ≡ called (direct a b)
     pub syncs : syncCall geo ≡ called sync
     pub applies : applyCall geo ≡ called apply
     pub recovers : recoverCall geo ≡ called recover

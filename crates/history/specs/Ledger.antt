@@ -16,7 +16,7 @@ use Rattle.store.specs.Save as Save
 use Rattle.store.specs.Save.{Save}
 use Rattle.store.specs.State.{State}
 use Rattle.store.specs.Saves.{groupOf, applies}
-use Rattle.history.specs.Call.{Call, local, save, cut}
+use Rattle.history.specs.Call.{Call, local, direct, save, cut}
 use Rattle.history.specs.Dispatch.{dispatch}
 
 -- a header that a call writes: which of the call's orders writes it (the next one flushes), its place in the queue then, and the
@@ -39,17 +39,21 @@ abbrev pub applyHeader : State → PlannedHeader
 applyHeader st = record { at = st .rec .logged + 1; place = 0; list = [] }
 
 module _ (geo : Geometry) where
-  -- behind the log blocks and the descriptor
+  -- W-209: the writes that wait where a sync's own part begins: none after its apply
+  abbrev pub waitingMet : State → ℕ
+  waitingMet st = cond (applies geo st) 0 (st .rec .waiting)
+
+  -- behind these, the log blocks and the descriptor
   abbrev pub ownHeader : State → PlannedHeader
-  ownHeader st = record { at = inner geo st + (st .rec .grouped + geo .descriptors); place = st .rec .grouped + geo .descriptors; list = standing geo st ++ groupOf geo st }
+  ownHeader st = record { at = inner geo st + (st .rec .grouped + geo .descriptors); place = waitingMet st + (st .rec .grouped + geo .descriptors); list = standing geo st ++ groupOf geo st }
 
   -- the list that a recovery takes
   abbrev pub taken : State → List Entry
   taken st = entries geo (st .settled) (takenCount (choose geo (st .rec .blocks) (st .settled)))
 
-  -- the headers that a sync, an apply and a recover write if all their orders happen, in turn
+  -- the headers that a sync, an apply and a recover write if all their orders happen, in turn; a sync with an empty group writes none
   unfoldable pub syncHeaders : State → List PlannedHeader
-  syncHeaders st = cond (applies geo st) (applyHeader st ∷ ownHeader st ∷ []) (ownHeader st ∷ [])
+  syncHeaders st = cond (eqb (st .rec .grouped) 0) [] (cond (applies geo st) (applyHeader st ∷ ownHeader st ∷ []) (ownHeader st ∷ []))
 
 unfoldable pub applyHeaders : State → List PlannedHeader
 applyHeaders st = applyHeader st ∷ []
@@ -103,6 +107,7 @@ module _ (geo : Geometry) where
   -- a call of the list, with what it came to
   unfoldable pub entered : Call → State → Ledger → Ledger
   entered (local c) st l = l
+  entered (direct a b) st l = l
   entered (save c) st l = noted (headersOf geo c st) (dispatch geo (save c) st .orders) l
   entered (cut ms) st l =
       cond (eqb (dispatch geo (cut ms) st .answer) 0) (settledBy (resolved ms (l .pending) (l .written))) l

@@ -1,4 +1,4 @@
--- Refusals (demand 1): over the ten calls and lists of gets (W-207), the script's lines, tally and alike, what C sees of them and of the
+-- Refusals (demand 1): over the ten calls, lists of gets (W-207) and direct writes (W-209), the script's lines, tally and alike, what C sees of them and of the
 -- inquiries (W-202), and any inputs whatever.
 use Prim.Native.Nat.{ℕ, _+_, _≤_}
 use mathlib.Core.Path.{_≡_}
@@ -9,8 +9,9 @@ use denote.Ref.{RefT}
 use lib.Dec.{eqb, leb}
 use lib.ListN.{length, take}
 use Rattle.cells.specs.Little.{Bytes}
+use Rattle.cells.specs.Entry.{Entry}
 use Rattle.fnv.specs.Fnv.{start}
-use Rattle.card.specs.Card.{Order, write, flush, blockAt, run}
+use Rattle.card.specs.Card.{Order, write, flush, queue, blockAt, run}
 use Rattle.journal.specs.Geometry.{Geometry}
 use Rattle.journal.specs.Layout.{wrongSize}
 use Rattle.journal.specs.Choice.{choiceNumber}
@@ -22,6 +23,7 @@ use Rattle.store.specs.Causes.{cause}
 use Rattle.store.specs.Outcomes.{refused}
 use Rattle.store.specs.Get.{getPlace, partAt, blockOf}
 use Rattle.store.specs.Saves.{saveOrders, applies}
+use Rattle.store.specs.Direct.{directOrders}
 use Rattle.store.specs.GetList.{listingOf, listing}
 use Rattle.store.specs.Cost.{costOf}
 use Rattle.inspect.specs.Reading.{chosen, inspection}
@@ -37,14 +39,20 @@ module _ (geo : Geometry) where
   abbrev pub ordersOf : Request.Request → State → List Order
   ordersOf Request.format st = []
   ordersOf (Request.local c) st = []
+  ordersOf (Request.direct a b) st = directOrders geo a b st
   ordersOf (Request.save c) st = saveOrders geo c st
   ordersOf (Request.cut ms) st = []
 
--- no order writes to the block
-unfoldable pub untouched : ℕ → List Order → Bool
-untouched x [] = true
-untouched x (write e ∷ os) = not (eqb x (e .address)) && untouched x os
-untouched x (flush ∷ os) = untouched x os
+-- no order writes to the block, and none flushes it: the writes q wait before the orders. W-209: a flush touches every block whose waiting
+-- write it settles, also one of an earlier call
+unfoldable pub besides : ℕ → List Entry → Bool
+besides x [] = true
+besides x (e ∷ q) = not (eqb x (e .address)) && besides x q
+
+unfoldable pub untouched : ℕ → List Entry → List Order → Bool
+untouched x q [] = true
+untouched x q (write e ∷ os) = not (eqb x (e .address)) && untouched x q os
+untouched x q (flush ∷ os) = besides x q && untouched x [] os
 
 module _ (geo : Geometry) where
   -- "a sync's apply", and "all that apply's orders happened": n+3 of them
@@ -69,7 +77,7 @@ module _ (geo : Geometry) where
     pub open-count : called geo q st .state .rec .opened ≡ st .rec .opened
     pub group-count : called geo q st .state .rec .grouped ≡ st .rec .grouped
     pub card : cardIn (called geo q st .state) ≡ run (ordersOf geo q st) (cardIn st)
-    pub blocks : (x : ℕ) → untouched x (take (st .rec .power) (ordersOf geo q st)) ≡ true → blockAt (called geo q st .state .settled) x ≡ blockAt (st .settled) x
+    pub blocks : (x : ℕ) → untouched x (queue (cardIn st)) (take (st .rec .power) (ordersOf geo q st)) ≡ true → blockAt (called geo q st .state .settled) x ≡ blockAt (st .settled) x
     pub powerless : st .rec .power ≡ 0 → called geo q st .state ≡ withRecord (withMode down (st .rec)) st
 
   -- the answer is the number of the first row that applies, which leaves everything; 4 if an order is reached that can't happen; else 0
@@ -82,7 +90,7 @@ module _ (geo : Geometry) where
   -- "A refused get hands out a part of no bytes": the part that get promises, of whatever slices
   pub record NoPart (a : ℕ) (st : State) : Type 0 where
     pub block : cause geo (Request.get a) st ≢ 0 → blockOf geo a st ≡ []
-    pub part : cause geo (Request.get a) st ≢ 0 → (settled work : RefT (List ℕ)) → partAt (getPlace geo a st) settled work .bytes ≡ []
+    pub part : cause geo (Request.get a) st ≢ 0 → (settled waiting work : RefT (List ℕ)) → partAt (getPlace geo a st) settled waiting work .bytes ≡ []
 
   -- ---- tally and alike: "refuse 1, 8, 9", and "the first one's refusal first"
 

@@ -1,17 +1,17 @@
 -- What is promised of every list of calls, from what a format answering 0 left. Each statement is one type; its proof is the theorem
 -- of the same name in proofs/Theorems.antt.
-use Prim.Native.Nat.{ℕ, _+_, _≤_}
+use Prim.Native.Nat.{ℕ, _+_, _*_, _≤_, _<_}
 use mathlib.Core.Path.{_≡_}
 use mathlib.Core.Logic.{_≢_, _⊎_}
 use mathlib.Core.Bool.{Bool, true, false, cond, not, _&&_, _||_}
 use mathlib.Core.List.{List, [], _∷_, _++_}
 use lib.Dec.{eqb}
-use lib.ListN.{length, take}
-use Rattle.cells.specs.Entry.{Entry}
+use lib.ListN.{length, getD, take, drop}
+use Rattle.cells.specs.Entry.{blockBytes, Entry}
 use Rattle.fnv.specs.Fnv.{start}
 use Rattle.card.specs.Disk.{Disk}
 use Rattle.crash.specs.Laid.{Laid, layOver}
-use Rattle.card.specs.Card.{blocksIn, blockAt}
+use Rattle.card.specs.Card.{queue, blocksIn, blockAt}
 use Rattle.card.specs.Marks.{keptAt, allKept}
 use Rattle.journal.specs.Geometry.{Geometry}
 use Rattle.journal.specs.Layout.{headerAt, isData}
@@ -20,17 +20,17 @@ use Rattle.journal.specs.Header.{encode, header}
 use Rattle.journal.specs.Log.{headerOf, entries, sumOf}
 use Rattle.journal.specs.Choice.{choose}
 use Rattle.store.specs.Save as Save
-use Rattle.store.specs.State.{State, closed, openMode}
+use Rattle.store.specs.State.{State, closed, openMode, cardIn}
 use Rattle.store.specs.Causes.{wrongSizes, wrongBlock, wrongRecord}
 use Rattle.store.specs.Format.{formatCall}
 use Rattle.store.specs.Get.{blockOf}
 use Rattle.store.specs.GetList.{listing}
 use Rattle.store.specs.Saves.{groupOf}
-use Rattle.history.specs.Call.{Call, requestOf, local, save, cut, get, sync, recover}
-use Rattle.history.specs.Plain.{plainStep, plainGet, plainListing}
+use Rattle.history.specs.Call.{Call, requestOf, local, direct, save, cut, get, sync, recover}
+use Rattle.history.specs.Plain.{among, addresses, drawn, plainStep, plainGet, plainListing}
 use Rattle.history.specs.Dispatch.{dispatch}
-use Rattle.history.specs.Ledger.{standing, inner, logFound, sameLog}
-use Rattle.history.specs.History.{World, begun, next, after, storeNext, foundWritten, acceptedCut}
+use Rattle.history.specs.Ledger.{standing, inner, waitingMet, logFound, sameLog}
+use Rattle.history.specs.History.{World, begun, next, after, storeNext, foundWritten, fed, acceptedCut}
 
 -- ---- Safety, exceptions included
 
@@ -56,14 +56,17 @@ module _ (geo : Geometry) where
   -- "At each call of a list the store gives the plain disk's answer, orders handed back […], block from a get and, when open, n". W-201:
   -- when open, the record's save number is the number of nonempty groups laid into S; it is "0 after a cut", until a recover is done
   pub record Agrees (c : Call) (w : World) : Type 0 where
-    pub answer : dispatch geo c (w .store) .answer ≡ plainStep geo c (foundWritten geo c w) (w .plain) .answer
-    pub orders : dispatch geo c (w .store) .orders ≡ plainStep geo c (foundWritten geo c w) (w .plain) .orders
+    pub answer : dispatch geo c (w .store) .answer ≡ plainStep geo c (fed geo c w) (w .plain) .answer
+    pub orders : dispatch geo c (w .store) .orders ≡ plainStep geo c (fed geo c w) (w .plain) .orders
     pub block : (a : ℕ) → c ≡ get a → dispatch geo c (w .store) .answer ≡ 0 → blockOf geo a (w .store) ≡ plainGet a (w .plain)
-    pub mode : storeNext geo c w .rec .mode ≡ plainStep geo c (foundWritten geo c w) (w .plain) .plain .mode
-    pub power : storeNext geo c w .rec .power ≡ plainStep geo c (foundWritten geo c w) (w .plain) .plain .power
-    pub waiting : storeNext geo c w .rec .waiting ≡ plainStep geo c (foundWritten geo c w) (w .plain) .plain .waiting
-    pub n : storeNext geo c w .rec .mode ≡ openMode → storeNext geo c w .rec .logged ≡ plainStep geo c (foundWritten geo c w) (w .plain) .plain .n
-    pub save : storeNext geo c w .rec .mode ≡ openMode → storeNext geo c w .rec .save ≡ plainStep geo c (foundWritten geo c w) (w .plain) .plain .S .groups
+    pub mode : storeNext geo c w .rec .mode ≡ plainStep geo c (fed geo c w) (w .plain) .plain .mode
+    pub power : storeNext geo c w .rec .power ≡ plainStep geo c (fed geo c w) (w .plain) .plain .power
+    pub waiting : storeNext geo c w .rec .waiting ≡ plainStep geo c (fed geo c w) (w .plain) .plain .waiting
+    pub n : storeNext geo c w .rec .mode ≡ openMode → storeNext geo c w .rec .logged ≡ plainStep geo c (fed geo c w) (w .plain) .plain .n
+    pub save : storeNext geo c w .rec .mode ≡ openMode → storeNext geo c w .rec .save ≡ plainStep geo c (fed geo c w) (w .plain) .plain .S .groups
+    -- W-209: when open, it "keeps the log's and the waiting addresses"
+    pub log : storeNext geo c w .rec .mode ≡ openMode → addresses (entries geo (storeNext geo c w .settled) (storeNext geo c w .rec .logged)) ≡ plainStep geo c (fed geo c w) (w .plain) .plain .log
+    pub writes : storeNext geo c w .rec .mode ≡ openMode → addresses (queue (cardIn (storeNext geo c w))) ≡ plainStep geo c (fed geo c w) (w .plain) .plain .writes
     pub no-save : storeNext geo c w .rec .mode ≡ closed → storeNext geo c w .rec .save ≡ 0
 
   -- W-207: and a list of gets that is made there, whatever it lists, the plain disk's number, slots counted and blocks
@@ -130,6 +133,7 @@ module _ (geo : Geometry) where
   -- a finished sync or recovery
   unfoldable pub finished : Call → World → Bool
   finished (local c) w = false
+  finished (direct a b) w = false
   finished (save Save.sync) w = eqb (dispatch geo sync (w .store) .answer) 0
   finished (save Save.apply) w = false
   finished (save Save.recover) w = eqb (dispatch geo recover (w .store) .answer) 0
@@ -147,6 +151,7 @@ module _ (geo : Geometry) where
   -- a sync that ran out of power itself
   unfoldable pub shortSync : Call → World → Bool
   shortSync (local c) w = false
+  shortSync (direct a b) w = false
   shortSync (save Save.sync) w = eqb (w .store .rec .mode) openMode && eqb (dispatch geo sync (w .store) .answer) 4
   shortSync (save Save.apply) w = false
   shortSync (save Save.recover) w = false
@@ -162,8 +167,8 @@ pub data Fate : Type 0 where
   quiet : Fate
   decided : List Entry → Bool → Bool → Fate
 
--- along the list: known; or still undecided, with the group of the sync, the place in the queue of its own header and whether that
--- header was written
+-- along the list: known; or still undecided, with the group of the sync, the place in the queue of the first of its own writes and whether
+-- its own header was written
 pub data Progress : Type 0 where
   known : Fate → Progress
   undecided : List Entry → ℕ → Bool → Progress
@@ -173,19 +178,21 @@ module _ (geo : Geometry) where
   abbrev pub headed : World → Bool
   headed w = eqb (dispatch geo sync (w .store) .orders) (inner geo (w .store) + (w .store .rec .grouped + geo .descriptors + 1))
 
-  -- at an accepted cut: its header kept, and the log found is the log written
+  -- at an accepted cut: its header, behind log blocks and descriptor, kept, and the log found is the log written. W-209: its own writes are
+  -- those from the place `from` on
   abbrev pub atCut : Call → World → List Entry → ℕ → Bool → Progress
-  atCut (local c) w G place made = undecided G place made
-  atCut (save c) w G place made = undecided G place made
-  atCut (cut ms) w G place made =
+  atCut (local c) w G from made = undecided G from made
+  atCut (direct a b) w G from made = undecided G from made
+  atCut (save c) w G from made = undecided G from made
+  atCut (cut ms) w G from made =
       cond (acceptedCut geo (cut ms) w)
-      (known (decided G (made && keptAt ms place && foundWritten geo (cut ms) w) (made && allKept ms)))
-      (undecided G place made)
+      (known (decided G (made && keptAt ms (from + (length G + geo .descriptors)) && foundWritten geo (cut ms) w) (made && allKept (drop (blockBytes * from) ms))))
+      (undecided G from made)
 
   unfoldable pub observe : Call → World → Progress → Progress
-  observe c w (known quiet) = cond (shortSync geo c w) (undecided (groupOf geo (w .store)) (w .store .rec .grouped + geo .descriptors) (headed w)) (known quiet)
+  observe c w (known quiet) = cond (shortSync geo c w) (undecided (groupOf geo (w .store)) (waitingMet geo (w .store)) (headed w)) (known quiet)
   observe c w (known (decided G laid all)) = known (decided G laid all)
-  observe c w (undecided G place made) = atCut c w G place made
+  observe c w (undecided G from made) = atCut c w G from made
 
   unfoldable pub fate : List Call → World → Progress → Progress
   fate [] w f = f
@@ -196,18 +203,19 @@ module _ (geo : Geometry) where
 -- a sync cut short that is not decided yet; one that is, is watched no longer
 abbrev pub stillUndecided : Progress → Progress
 stillUndecided (known f) = known quiet
-stillUndecided (undecided G place made) = undecided G place made
+stillUndecided (undecided G from made) = undecided G from made
 
 -- decided, and new
 abbrev pub madeNew : Progress → Bool
 madeNew (known quiet) = false
 madeNew (known (decided G laid all)) = laid
-madeNew (undecided G place made) = false
+madeNew (undecided G from made) = false
 
 module _ (geo : Geometry) where
   -- a finished sync of a nonempty group
   unfoldable pub saved : Call → World → Bool
   saved (local c) w = false
+  saved (direct a b) w = false
   saved (save Save.sync) w = finished geo sync w && not (eqb (w .store .rec .grouped) 0)
   saved (save Save.apply) w = false
   saved (save Save.recover) w = false
@@ -231,19 +239,105 @@ abbrev pub WholeIsNew : Fate → Type 0
 WholeIsNew quiet = Unit {0}
 WholeIsNew (decided G laid all) = all ≡ true → laid ≡ true
 
+-- ---- W-209: direct writes along a list
+
+-- of the direct writes to a block that wait: what S had there before the first of them, and their blocks, oldest first
+pub record Photo : Type 0 where
+  pub before : List ℕ
+  pub blocks : List (List ℕ)
+
+abbrev pub noPhoto : Photo
+noPhoto = record { before = []; blocks = [] }
+
+-- one more, over a block s of S
+abbrev pub photographed : List ℕ → List ℕ → Photo → Photo
+photographed b s p = record { before = cond (eqb (length (p .blocks)) 0) s (p .before); blocks = p .blocks ++ (b ∷ []) }
+
 module _ (geo : Geometry) where
-  -- the disk found: every data block as the store's own get hands it out on what the recover left
-  abbrev pub FoundIs : ℕ → State → Disk → Type 0
-  FoundIs N r d = (x : ℕ) → isData geo N x ≡ true → (dispatch geo (get x) r .answer ≡ 0) × (blockOf geo x r ≡ d x)
+  -- a direct write that is done
+  unfoldable pub directDone : Call → World → Bool
+  directDone (local c) w = false
+  directDone (direct a b) w = eqb (dispatch geo (direct a b) (w .store) .answer) 0
+  directDone (save c) w = false
+  directDone (cut ms) w = false
+
+  -- the entry of a direct write, what it has, and what every other call has
+  abbrev pub ofDirect : {A : Type 0} → Call → (Entry → A) → A → A
+  ofDirect (local c) f x = x
+  ofDirect (direct a b) f x = f (record { address = a; block = b })
+  ofDirect (save c) f x = x
+  ofDirect (cut ms) f x = x
+
+  -- those of a list that are done, laid over in turn
+  abbrev pub drawnBy : Call → World → Laid → Laid
+  drawnBy c w S = cond (directDone c w) (ofDirect c (λ e. drawn e S) S) S
+
+  unfoldable pub drawnOver : List Call → World → Laid → Laid
+  drawnOver [] w S = S
+  drawnOver (c ∷ cs) w S = drawnOver cs (next geo c w) (drawnBy c w S)
+
+  -- none of them is to the block x
+  unfoldable pub neverDirect : ℕ → List Call → World → Bool
+  neverDirect x [] w = true
+  neverDirect x (c ∷ cs) w = not (directDone c w && ofDirect c (λ e. eqb (e .address) x) false) && neverDirect x cs (next geo c w)
+
+  -- along a list, those to the block x that wait: "with 32 waiting it flushes first", so that no earlier one waits; and wherever the address
+  -- does not wait, none does
+  abbrev pub photoBy : ℕ → Call → World → Photo → Photo
+  photoBy x c w p =
+      let q = cond (directDone c w && eqb (w .store .rec .waiting) (geo .direct)) noPhoto p in
+      cond (among x (next geo c w .plain .writes))
+      (cond (directDone c w) (ofDirect c (λ e. cond (eqb (e .address) x) (photographed (e .block) (w .plain .S .disk x) q) q) q) q)
+      noPhoto
+
+  unfoldable pub photo : ℕ → List Call → World → Photo → Photo
+  photo x [] w p = p
+  photo x (c ∷ cs) w p = photo x cs (next geo c w) (photoBy x c w p)
+
+-- byte j is as it was before, or as one of the writes has it
+abbrev pub OneOf : ℕ → ℕ → Photo → Type 0
+OneOf j y p = (y ≡ getD (p .before) j 0) ⊎ ((i : ℕ) × (i < length (p .blocks)) × (y ≡ getD (getD (p .blocks) i []) j 0))
+
+module _ (geo : Geometry) where
+  -- a get of the block is answered with these bytes
+  abbrev pub Shows : State → ℕ → List ℕ → Type 0
+  Shows r x b = (dispatch geo (get x) r .answer ≡ 0) × (blockOf geo x r ≡ b)
+
+  -- the disk found: data blocks as the store's own get hands them out on what the recover left; those of them that X holds of
+  abbrev pub FoundIs : (ℕ → Type 0) → ℕ → State → Disk → Type 0
+  FoundIs X N r d = (x : ℕ) → isData geo N x ≡ true → X x → Shows r x (d x)
+
+  -- W-209: the block x waited at the first accepted cut of b, made in the world v: "byte by byte as settled or as one of its waiting writes". As
+  -- it was settled there is what S had before the first of these writes
+  pub record Loosened (r : State) (b : List Call) (w : World) (x : ℕ) : Type 0 where
+    pub before : List Call
+    pub ms : List ℕ
+    pub behind : List Call
+    pub split : b ≡ before ++ (cut ms ∷ behind)
+    pub uncut : noCut geo before w ≡ true
+    pub accepted : acceptedCut geo (cut ms) (after geo before w) ≡ true
+    pub waited : among x (after geo before w .plain .writes) ≡ true
+    pub settled : blockAt (after geo before w .store .settled) x ≡ photo geo x before w noPhoto .before
+    pub answer : dispatch geo (get x) r .answer ≡ 0
+    pub size : length (blockOf geo x r) ≡ blockBytes
+    pub bytes : (j : ℕ) → j < blockBytes → OneOf j (getD (blockOf geo x r) j 0) (photo geo x before w noPhoto)
 
   -- W-201: "recover hands back in it the number found"
   abbrev pub numberFound : World → ℕ
   numberFound w = storeNext geo recover w .rec .save
 
+-- the group of a sync that is found new has the block
+abbrev pub newHas : Fate → ℕ → Bool
+newHas quiet x = false
+newHas (decided G laid all) x = laid && among x (addresses G)
+
+module _ (geo : Geometry) where
   -- A recover behind the list cs. The list is a, then b: a is empty or ends in a finished sync or recovery, and b holds none. b holds at
-  -- most one sync cut short, and what became of it is known. The disk found is old, the plain disk's S after a, or new, old with that
-  -- sync's group over it: new exactly if the next accepted cut kept that sync's own header and the log found there is the log written.
-  -- W-201: the save number found is old's, or one more if new; and it is the number of nonempty groups laid along all of cs
+  -- most one sync cut short, and what became of it is known. The disk found is old or new. Old is the plain disk's S after a, with the direct
+  -- writes of b laid over it; new is old with that sync's group over it: new exactly if the next accepted cut kept that sync's own header and
+  -- the log found there is the log written. W-209: so it is at every block that is not loose at that recover, and at a loose one that the
+  -- group of a sync found new has; any other loose one is found byte by byte. W-201: the save number found is old's, or one more if new; and
+  -- it is the number of nonempty groups laid along all of cs
   pub record Atomic (st : State) (cs : List Call) : Type 0 where
     pub a : List Call
     pub b : List Call
@@ -253,10 +347,15 @@ module _ (geo : Geometry) where
     pub one : countShort geo b (after geo a (begun geo st)) ≤ 1
     pub end : Fate
     pub fated : fate geo b (after geo a (begun geo st)) (known quiet) ≡ known end
-    pub found : FoundIs (blocksIn (st .settled)) (storeNext geo recover (after geo cs (begun geo st))) (outcome end (after geo a (begun geo st) .plain .S) .disk)
+    pub found : FoundIs geo (λ x. (among x (after geo cs (begun geo st) .plain .loose) ≡ false) ⊎ (newHas end x ≡ true)) (blocksIn (st .settled)) (storeNext geo recover (after geo cs (begun geo st)))
+        (outcome end (drawnOver geo b (after geo a (begun geo st)) (after geo a (begun geo st) .plain .S)) .disk)
+    pub loosened : (x : ℕ) → isData geo (blocksIn (st .settled)) x ≡ true → among x (after geo cs (begun geo st) .plain .loose) ≡ true → newHas end x ≡ false
+        → Loosened geo (storeNext geo recover (after geo cs (begun geo st))) b (after geo a (begun geo st)) x
+    -- "Blocks never written directly are found as before"
+    pub never : FoundIs geo (λ x. neverDirect geo x cs (begun geo st) ≡ true) (blocksIn (st .settled)) (storeNext geo recover (after geo cs (begun geo st))) (outcome end (after geo a (begun geo st) .plain .S) .disk)
     pub whole : WholeIsNew end
-    pub number : numberFound (after geo cs (begun geo st)) ≡ outcome end (after geo a (begun geo st) .plain .S) .groups
-    pub counted : numberFound (after geo cs (begun geo st)) ≡ groupsLaid geo cs (begun geo st) (known quiet)
+    pub number : numberFound geo (after geo cs (begun geo st)) ≡ outcome end (after geo a (begun geo st) .plain .S) .groups
+    pub counted : numberFound geo (after geo cs (begun geo st)) ≡ groupsLaid geo cs (begun geo st) (known quiet)
 
   -- At every place of every list at which a recover answers 0 with no exception at a cut before it; cs is the list before that place,
   -- and what follows plays no part
