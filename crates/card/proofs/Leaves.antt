@@ -1,5 +1,5 @@
 -- What a cut may leave of a disk: four laws. The crash theory goes by these, and by no more of what a cut does.
-use Prim.Native.Nat.{ℕ, suc, _+_, _≤_, _<_}
+use Prim.Native.Nat.{ℕ, suc, _+_, _*_, _≤_, _<_}
 use mathlib.Core.Path.{_≡_, refl, ap, sym, subst, _∙_}
 use mathlib.Core.Bool.{Bool, true, false, cond, not, _&&_, _||_, true≢false}
 use mathlib.Core.Logic.{_≢_, _⊎_}
@@ -9,18 +9,18 @@ use native.Mathlib.Omega.{arith}
 use native.Mathlib.Decide.{decLt, ℕ-discrete}
 use borrow.Author.Tests.{eqb-true, eq-eqb, ne-eqb}
 use lib.Dec.{eqb}
-use lib.ListN.{length, getD, List·getD-eq-default}
+use lib.ListN.{length, getD, drop, length-append, List·getD-eq-default}
 use lib.Seq.{ext-getD}
 use Rattle.cells.specs.Cell.Laws.{length-cell}
 use Rattle.cells.specs.Entry.{Entry, blockBytes}
 use Rattle.card.specs.Disk.{Disk, overlay}
 use Rattle.card.specs.Card.{Card, queue, settle, cut, blockAt, blocksIn}
 use Rattle.card.specs.Marks.{marksAt, keptAt, lostAt, allKept, wholeAt, wholeBlock, headersWhole, marksFit}
-use Rattle.card.proofs.All.{All, all-map, Any}
+use Rattle.card.proofs.All.{All, all-right, all-map, Any}
 use Rattle.card.proofs.Overlays.{overlay-keeps}
 use Rattle.card.proofs.Runs.{Whole, length-settle, settle-overlay}
-use Rattle.card.proofs.Torn.{newestCell, newest-none, newest-either, newest-all}
-use Rattle.card.proofs.MarkLaws.{both, fits-headers, kept-marks, lost-marks, all-marks}
+use Rattle.card.proofs.Torn.{newestCell, newest-none, newest-append, newest-either, newest-all}
+use Rattle.card.proofs.MarkLaws.{both, fits-headers, kept-marks, lost-marks, all-marks, tail-marks}
 use Rattle.card.proofs.Spreads.{ones, ones-fit, ones-kept}
 use Rattle.card.proofs.Cuts.{cut-length, cut-byte}
 
@@ -87,8 +87,12 @@ pub record Leaves (N : ℕ) (ms : List ℕ) (q : List Entry) (s t : Disk) : Type
   pub long : (a : ℕ) → a < N → length (t a) ≡ blockBytes
   -- (iii) block 0 is whole: the newest kept write to it, old exactly if none is kept
   pub header : t 0 ≡ newestKept (keptAt ms) 0 q (s 0)
-  -- (iv) all kept means all settled
-  pub whole : allKept ms ≡ true → (a : ℕ) → a < N → t a ≡ overlay q s a
+  -- (iv) all kept from a place on means all settled from there on, at a block that no earlier write is addressed to
+  pub whole : (es fs : List Entry) → q ≡ es ++ fs → allKept (drop (blockBytes * length es) ms) ≡ true → (a : ℕ) → a < N → All (λ e. a ≢ e .address) es → t a ≡ overlay fs s a
+
+-- all kept, from the first place on
+pub whole-all : {N : ℕ} {ms : List ℕ} {q : List Entry} {s t : Disk} → Leaves N ms q s t → allKept ms ≡ true → (a : ℕ) → a < N → t a ≡ overlay q s a
+whole-all {q = q} v k a h = v .whole [] q refl k a h tt
 
 -- a write to block 0 that is kept, every later one lost, is what stands there
 pub kept-header : {N : ℕ} {ms : List ℕ} {q : List Entry} {s t : Disk} → Leaves N ms q s t → (es fs : List Entry) (e : Entry) → q ≡ es ++ (e ∷ fs)
@@ -140,9 +144,16 @@ byte-leaves N ms q s t some f w old new bytes = record {
   long = new;
   header = equal 0 some (newestKept (keptAt ms) 0 q (s 0)) (newest-long (keptAt ms) q (s 0) w (old 0 some))
       (λ j l. header-byte (keptAt ms) ms 0 j q (s 0) (λ k. ap (keptAt ms) (sym (zero-add k))) (fits-headers ms q f) l);
-  whole = λ k a h.
-      equal a h (overlay q s a) (overlay-keeps (λ b. length b ≡ blockBytes) q s a (old a h) (all-map Whole (λ e. e .address ≡ a → Whole e) (λ e p z. p) q w))
-      (λ j l. newest-all ms 0 a j q s (λ i b. ap (λ (p : ℕ). getD (marksAt ms p) j 0) (zero-add i) ∙ all-marks ms q i j f k b l));
+  whole = λ es fs p k a h o.
+      let parts : All Whole (es ++ fs) = subst (All Whole) p w in
+      let size : length q ≡ length es + length fs = ap length p ∙ length-append es fs in
+      equal a h (overlay fs s a)
+      (overlay-keeps (λ b. length b ≡ blockBytes) fs s a (old a h) (all-map Whole (λ e. e .address ≡ a → Whole e) (λ e x z. x) fs (all-right Whole es fs parts)))
+      (λ j l.
+      ap (λ (u : List Entry). newestCell ms 0 a j u (getD (s a) j 0)) p
+      ∙ newest-append ms 0 a j es fs (getD (s a) j 0)
+      ∙ ap (λ (x : ℕ). newestCell ms (0 + length es) a j fs x) (newest-none ms 0 a j es (getD (s a) j 0) o)
+      ∙ newest-all ms (0 + length es) a j fs s (λ i b. tail-marks ms q (length es) (0 + length es + i) j f k (omega arith) (omega arith) l));
 }
   where
     -- blocks that are equal byte by byte

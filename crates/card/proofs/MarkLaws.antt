@@ -10,8 +10,8 @@ use native.Mathlib.Omega.{arith}
 use native.Mathlib.Decide.{ℕ-discrete}
 use borrow.Author.Tests.{eqb-true, eqb-false, eq-eqb, ne-eqb, ltb-false, le-ltb, not-true}
 use lib.Dec.{eqb, ltb}
-use lib.ListN.{length, getD, replicate, length-append, length-replicate, getD-replicate}
-use lib.Seq.{ext-getD, take-at, drop-append-add}
+use lib.ListN.{length, getD, drop, replicate, length-append, length-drop, length-replicate, getD-replicate}
+use lib.Seq.{ext-getD, getD-drop, take-at, drop-append-add}
 use Rattle.cells.specs.Cell.Laws.{cell-part, length-cell, getD-cell}
 use Rattle.cells.specs.Same.{same}
 use Rattle.cells.specs.Same.Laws.{same-equal, same-self}
@@ -166,16 +166,35 @@ unfolding allKept
 all-ones [] h = tt
 all-ones (m ∷ ms) h = let p = both (eqb m 1) (allKept ms) h in (eqb-true _ _ (p .0), all-ones ms (p .1))
 
-pub all-marks : (ms : List ℕ) (q : List Entry) (i j : ℕ) → marksFit ms q ≡ true → allKept ms ≡ true → i < length q → j < blockBytes → getD (marksAt ms i) j 0 ≡ 1
-all-marks ms q i j f h l k =
+pub kept-drop : (n : ℕ) (ms : List ℕ) → allKept ms ≡ true → allKept (drop n ms) ≡ true
+unfolding allKept
+kept-drop zero ms h = h
+kept-drop (suc n) [] h = h
+kept-drop (suc n) (m ∷ ms) h = kept-drop n ms (both (eqb m 1) (allKept ms) h .1)
+
+-- every write from place n on is kept
+pub tail-marks : (ms : List ℕ) (q : List Entry) (n i j : ℕ) → marksFit ms q ≡ true → allKept (drop (blockBytes * n) ms) ≡ true → n ≤ i → i < length q → j < blockBytes → getD (marksAt ms i) j 0 ≡ 1
+tail-marks ms q n i j f h m l k =
     let size : length ms ≡ blockBytes * length q = fits-length ms q f in
-    getD-cell blockBytes ms i j k ∙ all-at (λ m. m ≡ 1) ms (blockBytes * i + j) 0 (omega arith) (all-ones ms h)
+    let rest : length (drop (blockBytes * n) ms) ≡ length ms - blockBytes * n = length-drop (blockBytes * n) ms in
+    let at : blockBytes * n + (blockBytes * (i - n) + j) ≡ blockBytes * i + j = omega arith in
+    getD-cell blockBytes ms i j k
+    ∙ ap (λ (x : ℕ). getD ms x 0) (sym at)
+    ∙ sym (getD-drop (blockBytes * n) ms (blockBytes * (i - n) + j) 0)
+    ∙ all-at (λ m. m ≡ 1) (drop (blockBytes * n) ms) (blockBytes * (i - n) + j) 0 (omega arith) (all-ones (drop (blockBytes * n) ms) h)
+
+pub tail-kept-at : (ms : List ℕ) (q : List Entry) (n i : ℕ) → marksFit ms q ≡ true → n ≤ i → i < length q → allKept (drop (blockBytes * n) ms) ≡ true → keptAt ms i ≡ true
+unfolding keptAt
+tail-kept-at ms q n i f m l h =
+    let size : length ms ≡ blockBytes * length q = fits-length ms q f in
+    filled-at 1 ms i (omega arith) (λ j k. tail-marks ms q n i j f h m l k)
+
+-- every write is
+pub all-marks : (ms : List ℕ) (q : List Entry) (i j : ℕ) → marksFit ms q ≡ true → allKept ms ≡ true → i < length q → j < blockBytes → getD (marksAt ms i) j 0 ≡ 1
+all-marks ms q i j f h l k = tail-marks ms q 0 i j f h (omega arith) l k
 
 pub all-kept-at : (ms : List ℕ) (q : List Entry) (i : ℕ) → marksFit ms q ≡ true → i < length q → allKept ms ≡ true → keptAt ms i ≡ true
-unfolding keptAt
-all-kept-at ms q i f l h =
-    let size : length ms ≡ blockBytes * length q = fits-length ms q f in
-    filled-at 1 ms i (omega arith) (λ j k. all-marks ms q i j f h l k)
+all-kept-at ms q i f l h = tail-kept-at ms q 0 i f (omega arith) l h
 
 -- ---- marks in front of others
 

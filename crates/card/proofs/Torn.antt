@@ -106,7 +106,7 @@ newest-none ms i a j [] x o = refl
 newest-none ms i a j (e ∷ q) x o = rw (ne-eqb _ _ (o .0)) (newest-none ms (suc i) a j q x (o .1))
 
 -- write behind write
-newest-append : (ms : List ℕ) (i a j : ℕ) (es fs : List Entry) (x : ℕ) → newestCell ms i a j (es ++ fs) x ≡ newestCell ms (i + length es) a j fs (newestCell ms i a j es x)
+pub newest-append : (ms : List ℕ) (i a j : ℕ) (es fs : List Entry) (x : ℕ) → newestCell ms i a j (es ++ fs) x ≡ newestCell ms (i + length es) a j fs (newestCell ms i a j es x)
 unfolding newestCell
 newest-append ms i a j [] fs x = rw (add-zero i)
 newest-append ms i a j (e ∷ es) fs x = let z : i + suc (length es) ≡ suc i + length es = omega arith in rw z (newest-append ms (suc i) a j es fs _)

@@ -1,25 +1,25 @@
 -- What an append leaves when a cut keeps some of its writes.
-use Prim.Native.Nat.{ℕ, zero, suc, _+_, _-_, _/_, _≤_, _<_}
+use Prim.Native.Nat.{ℕ, zero, suc, _+_, _*_, _-_, _/_, _≤_, _<_}
 use mathlib.Core.Path.{_≡_, refl, ap, ap₂, sym, _∙_}
 use mathlib.Core.Logic.{_≢_}
 use mathlib.Core.Bool.{true, false}
 use mathlib.Core.List.{List, [], _∷_, _++_, append-assoc}
 use native.Mathlib.Omega.{arith}
 use native.Mathlib.Decide.{ℕ-discrete}
-use lib.ListN.{length, getD, take, length-append}
+use lib.ListN.{length, getD, take, drop, length-append}
 use lib.Seq.{ext-getD, take-append-le}
 use Rattle.cells.specs.Cell.{cell}
 use Rattle.cells.specs.Little.{num, le}
 use Rattle.cells.specs.Little.Laws.{num-le}
 use Rattle.cells.specs.Upto.{upTo}
 use Rattle.cells.specs.Upto.Laws.{length-upTo, getD-upTo, upTo-add}
-use Rattle.cells.specs.Entry.{Entry}
+use Rattle.cells.specs.Entry.{blockBytes, Entry}
 use Rattle.cells.specs.Entry.Laws.{entry-eq}
 use Rattle.card.specs.Disk.{Disk, lay, overlay}
 use Rattle.card.specs.Card.{blockAt}
 use Rattle.card.specs.Marks.{keptAt, allKept}
 use Rattle.card.proofs.All.{All, all-append, all-map, all-take, all-at, all-upTo}
-use Rattle.card.proofs.Overlays.{lay-same, lay-other, overlay-append, overlay-agree, overlay-other}
+use Rattle.card.proofs.Overlays.{lay-same, lay-other, overlay-append, overlay-other}
 use Rattle.card.proofs.Runs.{Whole, NarrowAddress}
 use Rattle.card.proofs.MarkLaws.{HeaderLast}
 use Rattle.card.proofs.Leaves.{Leaves, only-lost, kept-header, lost-header}
@@ -174,16 +174,13 @@ row-laid f b at (suc k) j d h =
     go (yes e) more = lay-same (f k) (overlay (upTo f k) d) (b + j) (ap (λ (i : ℕ). b + i) e ∙ sym (at k)) ∙ ap (λ (i : ℕ). f i .block) (sym e)
     go (no e) more = lay-other (f k) (overlay (upTo f k) d) (b + j) (λ z. e (omega (arith, at k))) ∙ more (omega arith)
 
--- ---- all of them kept: the log found is the log written
+-- ---- all of them kept, whatever became of q₀: the log found is the log written
 
 module _ (geo : Geometry) (N : ℕ) (s : List ℕ) (n h c : ℕ) (G : List Entry) (room : n + length G ≤ geo .slots) (big : firstData geo < N) (size : Sized N (blockAt s)) (low : All NarrowAddress G)
-    (ms : List ℕ) (q₀ : List Entry) (off : KeepOff geo q₀) (e : Disk) (v : Leaves N ms (q₀ ++ appendWrites geo N s n h c G) (blockAt s) e) (all : allKept ms ≡ true) where
+    (ms : List ℕ) (q₀ : List Entry) (off : KeepOff geo q₀) (e : Disk) (v : Leaves N ms (q₀ ++ appendWrites geo N s n h c G) (blockAt s) e) (all : allKept (drop (blockBytes * length q₀) ms) ≡ true) where
   -- what q₀ wrote plays no part below the data blocks
   over : (a : ℕ) → a < firstData geo → e a ≡ overlay (appendWrites geo N s n h c G) (blockAt s) a
-  over a b =
-      v .whole all a (omega arith)
-      ∙ ap (λ (f : Disk). f a) (overlay-append q₀ (appendWrites geo N s n h c G) (blockAt s))
-      ∙ overlay-agree (appendWrites geo N s n h c G) (overlay q₀ (blockAt s)) (blockAt s) a (overlay-other q₀ (blockAt s) a (off-low geo q₀ off a b))
+  over a b = v .whole q₀ (appendWrites geo N s n h c G) refl all a (omega arith) (off-low geo q₀ off a b)
 
   -- the log blocks, under descriptor and header
   abbrev blocks : Disk

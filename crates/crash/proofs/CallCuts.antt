@@ -1,19 +1,19 @@
 -- A call cut short, and then the cut: what it leads to, by the orders carried out and the mark of the header.
-use Prim.Native.Nat.{ℕ, _+_, _^_, _≤_, _<_}
+use Prim.Native.Nat.{ℕ, _+_, _*_, _^_, _≤_, _<_}
 use mathlib.Core.Path.{_≡_, ap, sym, _∙_}
 use mathlib.Core.Bool.{Bool, true, false, cond, not}
 use mathlib.Core.List.{List, [], _∷_, _++_}
 use native.Mathlib.Omega.{arith}
-use lib.ListN.{length, take, length-append}
+use lib.ListN.{length, take, drop, length-append}
 use lib.Seq.{take-all}
-use Rattle.cells.specs.Entry.{Entry}
+use Rattle.cells.specs.Entry.{blockBytes, Entry}
 use Rattle.card.specs.Disk.{Disk}
 use Rattle.card.specs.Card.{Card, cut, settle, blockAt, blocksIn}
 use Rattle.card.specs.Marks.{marksFit, keptAt, allKept}
 use Rattle.card.proofs.All.{All, all-append, all-take}
 use Rattle.card.proofs.Runs.{Whole}
 use Rattle.card.proofs.Leaves.{Leaves, cut-leaves, settle-leaves}
-use Rattle.card.proofs.MarkLaws.{all-kept-at}
+use Rattle.card.proofs.MarkLaws.{all-kept-at, kept-drop}
 use Rattle.card.proofs.Spreads.{ones, ones-fit, ones-kept}
 use Rattle.journal.specs.Geometry.{Geometry}
 use Rattle.journal.specs.Layout.{firstData, isData}
@@ -81,12 +81,12 @@ module _ (geo : Geometry) where
     done-leaves = settled-leaves (q₀ ++ W) s N some (x .behind .size) (all-append Whole q₀ W (x .behind .whole) whole-writes)
 
     pub done-card : WholeCard geo Y N (blockAt (settle (q₀ ++ W) s)) (logD geo (blockAt s) n ++ G) (layOver G S) (n + length G)
-    done-card = append-all geo x (settle (q₀ ++ W) s) (ones (q₀ ++ W)) done-leaves (ones-kept (q₀ ++ W))
+    done-card = append-all geo x (settle (q₀ ++ W) s) (ones (q₀ ++ W)) done-leaves (kept-drop (blockBytes * length q₀) (ones (q₀ ++ W)) (ones-kept (q₀ ++ W)))
 
     pub done-append : Appended geo Y N (blockAt s) (blockAt (settle (q₀ ++ W) s)) n h (S .groups) G
     done-append =
         on-card geo x (settle (q₀ ++ W) s) (ones (q₀ ++ W)) done-leaves
-        (kept-top geo x (settle (q₀ ++ W) s) (ones (q₀ ++ W)) done-leaves (ones-kept (q₀ ++ W)))
+        (kept-top geo x (settle (q₀ ++ W) s) (ones (q₀ ++ W)) done-leaves (kept-drop (blockBytes * length q₀) (ones (q₀ ++ W)) (ones-kept (q₀ ++ W))))
 
     -- cut short after k writes
     module _ (c r : Card) (k : ℕ) (left : Left c r s (q₀ ++ take k W) 0) (ms : List ℕ) (fit : marksFit ms (q₀ ++ take k W) ≡ true) where
@@ -117,11 +117,11 @@ module _ (geo : Geometry) where
             → Leads geo Y N (cut ms r .settled) (logD geo (blockAt s) n ++ G) S n true
         append-cuts-old z q = append-old geo x (cut ms r .settled) ms all-left z q
 
-        -- every write kept: so is the header, and the log found is the log written
-        pub append-cuts-kept : allKept ms ≡ true → keptAt ms (ownPlace geo x) ≡ true
+        -- every write of its own kept: so is the header, and the log found is the log written
+        pub append-cuts-kept : allKept (drop (blockBytes * length q₀) ms) ≡ true → keptAt ms (ownPlace geo x) ≡ true
         append-cuts-kept all = kept-top geo x (cut ms r .settled) ms all-left all
 
-        pub append-cuts-whole : allKept ms ≡ true → sameLog (foundIn geo (cut ms r .settled)) (logD geo (blockAt s) n ++ G) ≡ true
+        pub append-cuts-whole : allKept (drop (blockBytes * length q₀) ms) ≡ true → sameLog (foundIn geo (cut ms r .settled)) (logD geo (blockAt s) n ++ G) ≡ true
         append-cuts-whole all = append-whole geo x (cut ms r .settled) ms all-left all
 
   -- ---- a checkpoint

@@ -1,6 +1,6 @@
 -- What every cut leads to, behind any queue that keeps off header and log: settled bytes s on which the header's list is w, and S, n and F
 -- that belong to it; collisions apart.
-use Prim.Native.Nat.{ℕ, _+_, _^_, _≤_, _<_}
+use Prim.Native.Nat.{ℕ, _+_, _*_, _^_, _≤_, _<_}
 use mathlib.Core.Path.{_≡_, refl, ap, ap₂, sym, _∙_}
 use mathlib.Core.Logic.{_≢_}
 use mathlib.Core.Bool.{Bool, true, false, true≢false, _&&_}
@@ -9,9 +9,9 @@ use native.Mathlib.Omega.{arith}
 use native.Mathlib.Decide.{ℕ-discrete}
 use borrow.Author.Tests.{eq-eqb, eqb-true}
 use lib.Dec.{eqb}
-use lib.ListN.{length, take, length-append}
+use lib.ListN.{length, take, drop, length-append}
 use Rattle.cells.specs.Upto.Laws.{length-upTo}
-use Rattle.cells.specs.Entry.{Entry}
+use Rattle.cells.specs.Entry.{blockBytes, Entry}
 use Rattle.cells.specs.Entry.Laws.{entry-eq}
 use Rattle.cells.specs.Same.{same}
 use Rattle.cells.specs.Same.Laws.{same-equal, same-self}
@@ -22,8 +22,8 @@ use Rattle.card.specs.Marks.{keptAt, allKept}
 use Rattle.card.proofs.All.{All, all-append, all-take}
 use Rattle.card.proofs.Overlays.{overlay-append, overlay-agree, overlay-other}
 use Rattle.card.proofs.Runs.{Whole, NarrowAddress}
-use Rattle.card.proofs.Leaves.{Leaves, only-lost, kept-header, lost-header}
-use Rattle.card.proofs.MarkLaws.{all-kept-at}
+use Rattle.card.proofs.Leaves.{Leaves, whole-all, only-lost, kept-header, lost-header}
+use Rattle.card.proofs.MarkLaws.{tail-kept-at}
 use Rattle.journal.specs.declared.header.Header.{Header}
 use Rattle.journal.specs.Geometry.{Geometry}
 use Rattle.journal.specs.Layout.{headerAt, firstData, isData}
@@ -169,7 +169,7 @@ module _ (geo : Geometry) where
       covered (logD geo (blockAt s) n) (λ P h. h) v,
       λ a q y.
           b .card .disk a q (b .spared a y .0)
-          ∙ sym (v .whole all a (data-below geo N a q)
+          ∙ sym (whole-all v all a (data-below geo N a q)
           ∙ ap (λ (f : Disk). f a) (overlay-append q₀ (logD geo (blockAt s) n) (blockAt s))
           ∙ overlay-agree (logD geo (blockAt s) n) (overlay q₀ (blockAt s)) (blockAt s) a (overlay-other q₀ (blockAt s) a (b .spared a y .1))),
     )
@@ -258,13 +258,13 @@ module _ (geo : Geometry) where
                   let e : eqb (sumOf start (foundIn t)) (sumOf start (logD geo (blockAt s) n ++ G)) ≡ false = other-sums (foundIn t) (logD geo (blockAt s) n ++ G) q long-as c in
                   rw (← found-log, ← append-sum geo Y N (blockAt s) (blockAt t) n h (S .groups) G on-card, e)
 
-        -- every write is kept
-        module _ (all : allKept ms ≡ true) where
+        -- every write is kept, whatever became of q₀
+        module _ (all : allKept (drop (blockBytes * length q₀) ms) ≡ true) where
           pub kept-top : keptAt ms ownPlace ≡ true
           kept-top =
               let e : length W ≡ length G + geo .descriptors + 1 = length-append-writes geo N s n h (S .groups + 1) G in
               let m : length (q₀ ++ W) ≡ length q₀ + length W = length-append q₀ W in
-              all-kept-at ms (q₀ ++ W) ownPlace (v .fits) (omega arith) all
+              tail-kept-at ms (q₀ ++ W) (length q₀) ownPlace (v .fits) (omega arith) (omega arith) all
 
           found : logD geo (blockAt t) (n + length G) ≡ logD geo (blockAt s) n ++ G
           found = found-written geo N s n h (S .groups + 1) G (x .room) big sized (x .narrow) ms q₀ (x .behind .off) (blockAt t) v all
