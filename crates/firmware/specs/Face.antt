@@ -8,7 +8,7 @@ use lib.ListN.{length, getD}
 use Rattle.cells.specs.Row.{Field, row, valuesFrom}
 use Rattle.store.specs.declared.cost.Cost.{Cost}
 use Rattle.store.specs.declared.place.Place.{Place}
-use Rattle.store.specs.declared.place.Place.the-variants.{Settled, Work, Nowhere}
+use Rattle.store.specs.declared.place.Place.the-variants.{Settled, Waiting, Work, Nowhere}
 use Rattle.store.specs.declared.record.Record.{Record}
 use Rattle.store.specs.State.{State, Outcome}
 use Rattle.store.specs.CodeState.{stateOf}
@@ -80,16 +80,19 @@ handed o = faceOf (o .answer) (o .orders) (encodeRecord (o .state .rec)) (o .sta
 unfoldable pub faced : (State → Outcome) → List ℕ → List ℕ → List ℕ → List ℕ → Face
 faced call r s w k = cond (eqb (length r) recordBytes) (handed (call (stateOf (decodeRecord r) s w k))) (faceOf 1 0 r s w k)
 
--- ---- get: "handed out as a part of work memory or of the card". C is told the buffer and the byte in it where the part starts.
+-- ---- get: "handed out as a part of work memory or of the card"; W-209: or "a part of the queue". C is told the buffer and the byte in it
+-- where the part starts.
 
 abbrev pub bufferNumber : Place → ℕ
 bufferNumber (Settled o) = 1
 bufferNumber (Work o) = 2
+bufferNumber (Waiting o) = 3
 bufferNumber Nowhere = 0
 
 abbrev pub bufferOffset : Place → ℕ
 bufferOffset (Settled o) = o
 bufferOffset (Work o) = o
+bufferOffset (Waiting o) = o
 bufferOffset Nowhere = 0
 
 pub record Got : Type 0 where

@@ -1,10 +1,11 @@
-// The calls that give orders: sync, apply, recover.
+// The calls that give orders: sync, apply, recover, a direct write.
 use crate::record::RECORD;
 use crate::record::SIZE;
 use crate::record::decode;
 use crate::record::encode;
 ghost use mathlib.Core.Path.{_≡_};
 ghost use Rattle.store.specs.Saves.{syncCall, applyCall, recoverCall};
+ghost use Rattle.store.specs.Direct.{directCall};
 ghost use Rattle.journal.specs.Geometry.{trap};
 ghost use Rattle.firmware.specs.Face.{faceOf, faced};
 
@@ -69,4 +70,27 @@ pub extern "C" fn trapcard_recover(
     encode(rec, left);
     *orders = recovered.orders;
     recovered.number
+}
+
+#[no_mangle]
+pub extern "C" fn trapcard_direct(
+    rec: &mut [u8],
+    settled: &mut [u8],
+    waiting: &mut [u8],
+    work: &[u8],
+    address: u32,
+    block: &[u8],
+    orders: &mut u32,
+) -> u32
+    ensures { λ r. ⌜ faceOf r (now (orders .exit)) (now (rec .exit)) (now (settled .exit)) (now (waiting .exit)) (now (work .entry)) ≡ faced (directCall trap address (now (block .entry))) (now (rec .entry)) (now (settled .entry)) (now (waiting .entry)) (now (work .entry)) ⌝ }
+{
+    if rec.len() != RECORD {
+        *orders = 0;
+        return SIZE;
+    }
+    let written = decode(rec).direct(settled, waiting, work, address, block);
+    let left = written.rec;
+    encode(rec, left);
+    *orders = written.orders;
+    written.number
 }

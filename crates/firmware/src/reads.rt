@@ -16,12 +16,15 @@ const IN_SETTLED: u32 = 1;
 
 const IN_WORK: u32 = 2;
 
+const IN_WAITING: u32 = 3;
+
 fn buffer_number(place: Place) -> u32
     ensures { λ r. ⌜ r ≡ bufferNumber place ⌝ }
 {
     match place {
         Place::Settled(_) => IN_SETTLED,
         Place::Work(_) => IN_WORK,
+        Place::Waiting(_) => IN_WAITING,
         Place::Nowhere => NOWHERE,
     }
 }
@@ -32,6 +35,7 @@ fn buffer_offset(place: Place) -> u64
     match place {
         Place::Settled(at) => at as u64,
         Place::Work(at) => at as u64,
+        Place::Waiting(at) => at as u64,
         Place::Nowhere => 0,
     }
 }

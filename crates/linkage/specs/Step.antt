@@ -3,7 +3,7 @@
 use Prim.Native.Nat.{ℕ}
 use mathlib.Core.List.{List}
 use Rattle.firmware.specs.Face.{Face, Got, gotOf, got, listed, Asked, asked}
-use Rattle.history.specs.Call.{Call, cut, power, put, get, getList, commit, abandon, sync, apply, recover, ofGet, ofList}
+use Rattle.history.specs.Call.{Call, direct, cut, power, put, get, getList, commit, abandon, sync, apply, recover, ofGet, ofList}
 use Rattle.history.specs.Linked.{faceNext}
 use Rattle.store.specs.Save as Save
 use Rattle.store.specs.Save.{Save}
@@ -13,9 +13,10 @@ use Rattle.journal.specs.Geometry.{trap}
 use Rattle.linkage.specs.declared.ask.Inquiry.{Inquiry}
 use Rattle.linkage.specs.declared.ask.Inquiry.the-variants.{SyncCost, ApplyCost, RecoverCost}
 use Rattle.linkage.specs.declared.step.Code.{Code}
-use Rattle.linkage.specs.declared.step.Code.the-variants.{Power, Put, Get, GetList, Commit, Abandon, Sync, Apply, Recover, Cut}
+use Rattle.linkage.specs.declared.step.Code.the-variants.{Power, Put, Get, GetList, Commit, Abandon, Direct, Sync, Apply, Recover, Cut}
 
--- the call that the code's enum names: "put's block and cut's marks come in buffers of their own", and so do a list's addresses and blocks
+-- the call that the code's enum names: "put's block and cut's marks come in buffers of their own", and so do a direct write's block and a list's
+-- addresses and blocks
 abbrev pub callOf : Code → List ℕ → List ℕ → List ℕ → List ℕ → Call
 callOf (Power k) block marks xs bs = power k
 callOf (Put a) block marks xs bs = put a block
@@ -23,6 +24,7 @@ callOf (Get a) block marks xs bs = get a
 callOf GetList block marks xs bs = getList xs bs
 callOf Commit block marks xs bs = commit
 callOf Abandon block marks xs bs = abandon
+callOf (Direct a) block marks xs bs = direct a block
 callOf Sync block marks xs bs = sync
 callOf Apply block marks xs bs = apply
 callOf Recover block marks xs bs = recover

@@ -5,6 +5,7 @@ use firmware::calls::trapcard_cut;
 use firmware::calls::trapcard_power;
 use firmware::calls::trapcard_put;
 use firmware::orders::trapcard_apply;
+use firmware::orders::trapcard_direct;
 use firmware::orders::trapcard_recover;
 use firmware::orders::trapcard_sync;
 use firmware::reads::trapcard_get;
@@ -13,7 +14,7 @@ ghost use mathlib.Core.Path.{_≡_};
 ghost use Rattle.firmware.specs.Face.{faceOf};
 ghost use Rattle.linkage.specs.Step.{callOf, steppedOf, stepped};
 
-// The calls of a list; put's block, cut's marks and the two buffers of a list of gets stand beside it.
+// The calls of a list; the block of a put or a direct write, cut's marks and the two buffers of a list of gets stand beside it.
 pub enum Code {
     Power(u32),
     Put(u32),
@@ -21,6 +22,7 @@ pub enum Code {
     GetList,
     Commit,
     Abandon,
+    Direct(u32),
     Sync,
     Apply,
     Recover,
@@ -59,6 +61,9 @@ pub fn step(
         }
         Code::Commit => trapcard_commit(rec, settled, waiting, work),
         Code::Abandon => trapcard_abandon(rec, settled, waiting, work),
+        Code::Direct(address) => {
+            trapcard_direct(rec, settled, waiting, work, address, block, orders)
+        }
         Code::Sync => trapcard_sync(rec, settled, waiting, work, orders),
         Code::Apply => trapcard_apply(rec, settled, waiting, work, orders),
         Code::Recover => trapcard_recover(rec, settled, waiting, work, orders),
