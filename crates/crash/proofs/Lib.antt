@@ -6,4 +6,5 @@ pub mod Batches
 pub mod Plans
 pub mod Appends
 pub mod Leads
+pub mod Waiting
 pub mod CallCuts

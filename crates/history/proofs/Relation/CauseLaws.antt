@@ -26,11 +26,11 @@ use Rattle.store.specs.Save as Save
 use Rattle.store.specs.Request as Request
 use Rattle.store.specs.Request.{Request}
 use Rattle.store.specs.Causes as Causes
-use Rattle.store.specs.Causes.{wrongSizes, wrongList, wrongCounts, wrongWaiting, wrongLists, wrongRecord, Row, closedRow, downRow, addressRow, addressesRow, openFullRow, groupFullRow, lastSaveRow, Rules, ofBytes, ofRecord, ofOpen, rules, ownSize, wrongBlock, some, first, causeBy, cause}
+use Rattle.store.specs.Causes.{mostWaiting, wrongSizes, wrongList, wrongCounts, wrongWaiting, wrongLists, wrongRecord, Row, closedRow, downRow, addressRow, addressesRow, listedRow, openFullRow, groupFullRow, lastSaveRow, Rules, ofBytes, ofRecord, ofOpen, rules, ownSize, wrongBlock, some, first, causeBy, cause}
 use Rattle.store.proofs.Causes.{readsRecord, needsOpen, other, SizeFacts, sizes-facts, counts-facts, waiting-facts, Passes, cause-passes as Causes·cause-passes}
-use Rattle.history.specs.Call.{Call, requestOf, local, save, cut, recover}
-use Rattle.history.specs.Plain.{Plain, whenOpen, plainFit, refusal}
-use Rattle.history.proofs.Relation.Lists.{none-some, find-has, Distinct, twice-distinct, distinct-twice, Data, strays-all, all-strays}
+use Rattle.history.specs.Call.{Call, requestOf, local, direct, save, cut, recover}
+use Rattle.history.specs.Plain.{Plain, addresses, whenOpen, plainFit, refusal}
+use Rattle.history.proofs.Relation.Lists.{none-some, find-has, slot-among, Distinct, twice-distinct, distinct-twice, Data, strays-all, all-strays}
 use Rattle.history.proofs.Relation.WorkLists.{newcomers-merge}
 
 -- ---- 1: the sizes
@@ -57,8 +57,7 @@ module _ (geo : Geometry) where
     pub open-count : st .rec .opened ≤ geo .slots
     pub group-count : st .rec .grouped ≤ geo .slots
     pub log-count : st .rec .logged ≤ geo .slots
-    pub waiting-count : st .rec .waiting ≤ geo .places
-    pub waiting-down : st .rec .waiting ≢ 0 → st .rec .mode ≡ down
+    pub waiting-count : st .rec .waiting ≤ mostWaiting geo (st .rec .mode)
     pub blocks : st .rec .blocks ≡ blocksIn (st .settled)
     pub waiting-below : Below (st .rec .blocks) (st .waiting) (st .rec .waiting)
     pub lists : st .rec .mode ≡ openMode → ListFacts st
@@ -100,7 +99,6 @@ module _ (geo : Geometry) where
         group-count = c .group-count;
         log-count = c .log-count;
         waiting-count = c .waiting-count;
-        waiting-down = c .waiting-down;
         blocks = c .blocks;
         waiting-below = waiting-facts st (q .1);
         lists = λ p. lists-facts st (other _ _ (r .1) (eq-eqb _ _ p));
@@ -109,16 +107,9 @@ module _ (geo : Geometry) where
   pub facts-record : (st : State) → RecordFacts st → wrongRecord geo st ≡ false
   unfolding wrongCounts wrongWaiting
   facts-record st f =
-      rw (le-ltb _ _ (f .mode), le-ltb _ _ (f .open-count), le-ltb _ _ (f .group-count), le-ltb _ _ (f .log-count), le-ltb _ _ (f .waiting-count), waits, eq-eqb _ _ (f .blocks), addresses)
+      rw (le-ltb _ _ (f .mode), le-ltb _ _ (f .open-count), le-ltb _ _ (f .group-count), le-ltb _ _ (f .log-count), le-ltb _ _ (f .waiting-count), eq-eqb _ _ (f .blocks), addresses)
       (go (eqb (st .rec .mode) openMode) refl)
     where
-      waits : not (eqb (st .rec .waiting) 0) && not (eqb (st .rec .mode) down) ≡ false
-      waits = at (eqb (st .rec .waiting) 0) refl
-        where
-          at : (t : Bool) → eqb (st .rec .waiting) 0 ≡ t → not t && not (eqb (st .rec .mode) down) ≡ false
-          at true p = refl
-          at false p = ap not (eq-eqb _ _ (f .waiting-down (eqb-false _ _ p)))
-
       addresses : some (λ i. not (ltb (entryAt (st .waiting) i .address) (st .rec .blocks))) (st .rec .waiting) ≡ false
       addresses =
           none-some (λ i. not (ltb (entryAt (st .waiting) i .address) (st .rec .blocks))) (st .rec .waiting) (λ i p. ap not (lt-ltb _ _ (f .waiting-below i p)))
@@ -136,13 +127,12 @@ module _ (geo : Geometry) where
   pub sound-facts : (st : State) → wrongSizes geo st ≡ false → wrongRecord geo st ≡ false → SoundFacts st
   sound-facts st s r = record { sizes = sizes-facts geo st s; counts = record-facts st r }
 
-  -- only a record that is down waits
-  pub idle : (st : State) → RecordFacts st → st .rec .mode ≢ down → st .rec .waiting ≡ 0
-  idle st f h = go (eqb (st .rec .waiting) 0) refl
-    where
-      go : (t : Bool) → eqb (st .rec .waiting) 0 ≡ t → st .rec .waiting ≡ 0
-      go true p = eqb-true _ _ p
-      go false p = absurd (h (f .waiting-down (eqb-false _ _ p)))
+  -- a closed record has nothing that waits, an open one direct writes alone
+  pub idle : (st : State) → RecordFacts st → st .rec .mode ≡ closed → st .rec .waiting ≡ 0
+  idle st f h = let l : st .rec .waiting ≤ 0 = rw h at (f .waiting-count) in omega arith
+
+  pub few-wait : (st : State) → RecordFacts st → st .rec .mode ≡ openMode → st .rec .waiting ≤ geo .direct
+  few-wait st f h = rw h at (f .waiting-count)
 
   -- ---- the plain disk's refusal
 
@@ -154,6 +144,8 @@ module _ (geo : Geometry) where
     pub T : st .rec .mode ≡ openMode → d .T ≡ listOf (st .work) openFrom (st .rec .opened)
     pub G : st .rec .mode ≡ openMode → d .G ≡ listOf (st .work) (groupFrom geo) (st .rec .grouped)
     pub save : st .rec .mode ≡ openMode → d .S .groups ≡ st .rec .save
+    pub log : st .rec .mode ≡ openMode → d .log ≡ addresses (entries geo (st .settled) (st .rec .logged))
+    pub writes : st .rec .mode ≡ openMode → d .writes ≡ addresses (queue (cardIn st))
 
 -- tests behind the modes count when open
 when-open : (m x y : ℕ) → m ≤ down → (m ≡ openMode → x ≡ y) → cond (eqb m closed) 3 (cond (eqb m down) 4 x) ≡ cond (eqb m closed) 3 (cond (eqb m down) 4 y)
@@ -187,6 +179,9 @@ module _ (geo : Geometry) where
         open-refusal false (groupFullRow geo ∷ []) _
         (λ o. rw (newcomers-merge geo (st .work) (st .rec .grouped) (st .rec .opened) (record-facts geo st counts .lists o .open-distinct), m .T o, m .G o))
     cause-refusal (local Local.abandon) h f = open-refusal false [] 0 (λ o. refl)
+    cause-refusal (direct a b) h f =
+        open-refusal (not (eqb (length b) blockBytes)) (addressRow geo a ∷ listedRow geo a ∷ []) _
+        (λ o. rw (m .N, find-has (st .work) openFrom (st .rec .opened) a, find-has (st .work) (groupFrom geo) (st .rec .grouped) a, slot-among geo (st .settled) a (st .rec .logged), m .T o, m .G o, m .log o))
     cause-refusal (save Save.sync) h f =
         open-refusal false (lastSaveRow ∷ []) _
         (λ o. rw (m .save o, m .G o, length-upTo (listed (st .work) (groupFrom geo)) (st .rec .grouped)))

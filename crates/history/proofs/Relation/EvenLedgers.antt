@@ -11,7 +11,7 @@ use Rattle.card.specs.Marks.{keptAt}
 use Rattle.journal.specs.Geometry.{Geometry}
 use Rattle.journal.specs.Log.{sumOf}
 use Rattle.store.specs.State.{State}
-use Rattle.history.specs.Call.{Call, local, save, cut}
+use Rattle.history.specs.Call.{Call, local, direct, save, cut}
 use Rattle.history.specs.Dispatch.{dispatch}
 use Rattle.history.specs.Ledger.{PlannedHeader, Pending, nothing, waits, Ledger, settledBy, waitsBehind, headersOf, noted, resolved, entered}
 

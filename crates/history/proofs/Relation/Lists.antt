@@ -2,26 +2,29 @@
 use Prim.Native.Nat.{ℕ, zero, suc, _+_, _<_}
 use mathlib.Core.Path.{_≡_, refl, ap, ap₂, sym, _∙_}
 use mathlib.Core.Bool.{Bool, true, false, cond, not, _||_, or-true, or-false, or-assoc, or-self-left, false≢true}
-use mathlib.Core.List.{List, [], _∷_, _++_, append-nil}
+use mathlib.Core.Logic.{_≢_}
+use mathlib.Core.List.{List, [], _∷_, _++_, append-nil, map-append}
 use native.Mathlib.Nat.{add-zero, suc-add}
 use native.Mathlib.Omega.{arith}
 use borrow.Author.Tests.{eq-eqb, ne-eqb, eqb-true, eqb-false, not-false}
 use lib.Dec.{eqb}
-use lib.ListN.{length}
+use lib.ListN.{length, take, length-map}
 use Rattle.cells.specs.Upto.{upTo}
 use Rattle.cells.specs.Upto.Laws.{ext-upTo}
 use Rattle.cells.specs.Entry.{Entry}
 use Rattle.card.proofs.All.{All, all-upTo, upTo-all}
+use Rattle.card.proofs.Runs.{take-map}
 use Rattle.journal.specs.Geometry.{Geometry}
 use Rattle.journal.specs.declared.lookup.Found.the-variants.{At}
 use Rattle.journal.specs.Layout.{isData}
-use Rattle.journal.specs.Lookup.{lastOf}
+use Rattle.journal.specs.Log.{slotEntry, entries}
+use Rattle.journal.specs.Lookup.{lastOf, lastSlot}
 use Rattle.journal.proofs.Logs.{neither}
 use Rattle.store.specs.Lists.{listed, listOf, find}
 use Rattle.store.specs.Causes.{some, strays, isFound, twice}
 use Rattle.store.proofs.Causes.{some-none}
 use Rattle.store.proofs.Lookups.{last-at}
-use Rattle.history.specs.Plain.{has, insert, merge}
+use Rattle.history.specs.Plain.{has, among, addresses, insert, merge}
 
 -- ---- tests
 
@@ -60,6 +63,45 @@ last-has f a (suc n) = go (eqb (f n .address) a) (last-has f a n) ∙ sym (has-a
 
 pub find-has : (work : List ℕ) (from n a : ℕ) → isFound (find work from n a) ≡ has a (listOf work from n)
 find-has work from n a = last-has (listed work from) a n
+
+-- ---- by addresses
+
+pub has-among : (a : ℕ) (l : List Entry) → has a l ≡ among a (addresses l)
+unfolding has among addresses
+has-among a [] = refl
+has-among a (e ∷ l) = ap (λ (t : Bool). eqb (e .address) a || t) (has-among a l)
+
+pub slot-among : (geo : Geometry) (s : List ℕ) (a n : ℕ) → isFound (lastSlot s a n) ≡ among a (addresses (entries geo s n))
+unfolding slotEntry
+slot-among geo s a n = last-has (slotEntry geo s) a n ∙ has-among a (entries geo s n)
+
+pub among-append : (a : ℕ) (xs ys : List ℕ) → among a (xs ++ ys) ≡ among a xs || among a ys
+unfolding among
+among-append a [] ys = refl
+among-append a (x ∷ xs) ys = ap (λ (t : Bool). eqb x a || t) (among-append a xs ys) ∙ sym (or-assoc (eqb x a) (among a xs) (among a ys))
+
+-- a block that no write of the list is addressed to
+pub firm-besides : (a : ℕ) (l : List Entry) → among a (addresses l) ≡ false → All (λ e. a ≢ e .address) l
+unfolding among addresses
+firm-besides a [] h = tt
+firm-besides a (e ∷ l) h = let p = neither (eqb (e .address) a) (among a (addresses l)) h in ((λ z. eqb-false _ _ (p .0) (sym z)), firm-besides a l (p .1))
+
+pub besides-firm : (a : ℕ) (l : List Entry) → All (λ e. a ≢ e .address) l → among a (addresses l) ≡ false
+unfolding among addresses
+besides-firm a [] h = refl
+besides-firm a (e ∷ l) h = rw (ne-eqb (e .address) a (λ z. h .0 (sym z))) (besides-firm a l (h .1))
+
+pub addresses-append : (l m : List Entry) → addresses (l ++ m) ≡ addresses l ++ addresses m
+unfolding addresses
+addresses-append l m = map-append (λ (e : Entry). e .address) l m
+
+pub addresses-take : (n : ℕ) (l : List Entry) → addresses (take n l) ≡ take n (addresses l)
+unfolding addresses
+addresses-take n l = sym (take-map (λ (e : Entry). e .address) n l)
+
+pub length-addresses : (l : List Entry) → length (addresses l) ≡ length l
+unfolding addresses
+length-addresses l = rw (length-map)
 
 -- ---- a list that has no address twice
 

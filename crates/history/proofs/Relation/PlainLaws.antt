@@ -3,24 +3,25 @@ use Prim.Native.Nat.{ℕ, suc, _+_, _-_, _≤_, _<_}
 use mathlib.Core.Path.{_≡_, refl, ap, sym, _∙_}
 use mathlib.Core.Logic.{_≢_}
 use mathlib.Core.Bool.{Bool, true, false, cond, not, _&&_, _||_, or-false}
-use mathlib.Core.List.{List}
+use mathlib.Core.List.{List, [], _++_}
 use native.Mathlib.Omega.{arith}
 use native.Mathlib.Decide.{ℕ-discrete}
 use borrow.Author.Tests.{eq-eqb, ne-eqb, le-leb, lt-leb, lt-ltb, le-ltb}
 use lib.Dec.{eqb, leb, ltb}
 use lib.ListN.{length}
+use Rattle.card.specs.Disk.{Disk}
 use Rattle.card.specs.Marks.{keptAt}
 use Rattle.journal.specs.Geometry.{Geometry}
 use Rattle.journal.specs.Header.{mostSave}
 use Rattle.history.specs.Call.{sync}
-use Rattle.history.specs.Plain.{Plain, Done, none, ofSync, ofApply, ofRecover, applies, applyTakes, syncTakes, applyWaits, syncWaits, unchanged, Verdict, applyVerdict, ownVerdict, verdict, cutShort, plainSync, plainApply, plainRecover, headerKept, headerWaits, refusal, lastSave, done, still, synced, cleared, recovered}
+use Rattle.history.specs.Plain.{Plain, Done, none, ofSync, ofApply, ofRecover, ofDirect, applies, directTakes, directWaits, plainBarrier, plainDirect, flushed, spent, written, applyTakes, syncTakes, applyWaits, syncWaits, unchanged, Verdict, applyVerdict, ownVerdict, verdict, cutShort, plainSync, plainApply, plainRecover, headerKept, headerWaits, refusal, lastSave, done, still, synced, cleared, recovered}
 use Rattle.history.specs.Ledger.{Ledger}
 
 -- ---- equal field by field
 
 pub plain-eq : {d e : Plain} → d .N ≡ e .N → d .S ≡ e .S → d .G ≡ e .G → d .T ≡ e .T → d .n ≡ e .n → d .mode ≡ e .mode → d .power ≡ e .power → d .waiting ≡ e .waiting → d .short ≡ e .short
-    → d .F ≡ e .F → d ≡ e
-plain-eq N S G T n mode power waiting short F = λ i. record {
+    → d .F ≡ e .F → d .log ≡ e .log → d .writes ≡ e .writes → d .loose ≡ e .loose → d ≡ e
+plain-eq N S G T n mode power waiting short F log writes loose = λ i. record {
   N = N i;
   S = S i;
   G = G i;
@@ -31,6 +32,9 @@ plain-eq N S G T n mode power waiting short F = λ i. record {
   waiting = waiting i;
   short = short i;
   F = F i;
+  log = log i;
+  writes = writes i;
+  loose = loose i;
 }
 
 pub ledger-eq : {l m : Ledger} → l .written ≡ m .written → l .pending ≡ m .pending → l ≡ m
@@ -60,18 +64,18 @@ module _ (geo : Geometry) where
   pub do-apply : (n m : ℕ) → geo .slots < n + m → applies geo n m ≡ true
   do-apply n m h = rw (lt-leb _ _ h)
 
-pub waits-homes : (n k : ℕ) → k ≤ n → applyWaits n k ≡ k
-waits-homes n k h = rw (le-leb _ _ h)
+pub waits-homes : (w n k : ℕ) → k ≤ n → applyWaits w n k ≡ w + k
+waits-homes w n k h = rw (le-leb _ _ h)
 
-pub waits-flushed : (n k : ℕ) → k ≡ n + 1 → applyWaits n k ≡ 0
-waits-flushed n k h = rw (lt-leb k n (omega arith), ne-eqb k (n + 2) (λ e. omega arith))
+pub waits-flushed : (w n k : ℕ) → k ≡ n + 1 → applyWaits w n k ≡ 0
+waits-flushed w n k h = rw (lt-leb k n (omega arith), ne-eqb k (n + 2) (λ e. omega arith))
 
-pub waits-header : (n k : ℕ) → k ≡ n + 2 → applyWaits n k ≡ 1
-waits-header n k h = rw (lt-leb k n (omega arith), eq-eqb k (n + 2) h)
+pub waits-header : (w n k : ℕ) → k ≡ n + 2 → applyWaits w n k ≡ 1
+waits-header w n k h = rw (lt-leb k n (omega arith), eq-eqb k (n + 2) h)
 
 module _ (geo : Geometry) where
-  pub sync-waits-apply : (n m k : ℕ) → geo .slots < n + m → k < n + 3 → syncWaits geo n m k ≡ applyWaits n k
-  sync-waits-apply n m k h l = rw (do-apply geo n m h, lt-ltb k (n + 3) l)
+  pub sync-waits-apply : (w n m k : ℕ) → geo .slots < n + m → k < n + 3 → syncWaits geo w n m k ≡ applyWaits w n k
+  sync-waits-apply w n m k h l = rw (do-apply geo n m h, lt-ltb k (n + 3) l)
 
   -- ---- a sync: the orders of the apply inside, and n as its own part meets it
 
@@ -81,6 +85,10 @@ module _ (geo : Geometry) where
   abbrev pub countMet : ℕ → ℕ → ℕ
   countMet n m = cond (applies geo n m) 0 n
 
+  -- what waits there
+  abbrev pub waitsMet : ℕ → ℕ → ℕ → ℕ
+  waitsMet w n m = cond (applies geo n m) 0 w
+
   pub sync-takes : (n m : ℕ) → syncTakes geo n m ≡ innerTakes n m + (m + geo .descriptors + 2)
   sync-takes n m = go (applies geo n m)
     where
@@ -88,18 +96,38 @@ module _ (geo : Geometry) where
       go true = refl
       go false = omega arith
 
-  pub sync-waits-own : (n m k : ℕ) → innerTakes n m ≤ k → syncWaits geo n m k ≡ k - innerTakes n m
-  sync-waits-own n m k h = go (applies geo n m) h
+  pub sync-waits-own : (w n m k : ℕ) → innerTakes n m ≤ k → syncWaits geo w n m k ≡ waitsMet w n m + (k - innerTakes n m)
+  sync-waits-own w n m k h = go (applies geo n m) h
     where
-      go : (t : Bool) → cond t (n + 3) 0 ≤ k → cond t (cond (ltb k (n + 3)) (applyWaits n k) (k - (n + 3))) k ≡ k - cond t (n + 3) 0
-      go true l = rw (le-ltb k (n + 3) l)
+      go : (t : Bool) → cond t (n + 3) 0 ≤ k → cond t (cond (ltb k (n + 3)) (applyWaits w n k) (k - (n + 3))) (w + k) ≡ cond t 0 w + (k - cond t (n + 3) 0)
+      go true l = rw (le-ltb k (n + 3) l) (omega arith)
       go false l = omega arith
 
   -- ---- the steps
 
-  pub sync-nothing : (d : Plain) → length (d .G) ≡ 0 → plainSync geo d ≡ still d
+  pub sync-nothing : (d : Plain) → length (d .G) ≡ 0 → plainSync geo d ≡ plainBarrier geo d
   unfolding plainSync
   sync-nothing d h = rw (eq-eqb _ _ h)
+
+  pub barrier-none : (d : Plain) → d .waiting ≡ 0 → plainBarrier geo d ≡ still d
+  unfolding plainBarrier
+  barrier-none d h = rw (eq-eqb _ _ h)
+
+  pub barrier-done : (d : Plain) → d .waiting ≢ 0 → 1 ≤ d .power → plainBarrier geo d ≡ done 1 (flushed (spent 1 d))
+  unfolding plainBarrier
+  barrier-done d h p = rw (ne-eqb _ _ h, le-leb _ _ p)
+
+  pub barrier-short : (d : Plain) → d .waiting ≢ 0 → d .power < 1 → plainBarrier geo d ≡ cutShort geo (ofSync (d .power)) (d .waiting) d
+  unfolding plainBarrier
+  barrier-short d h p = rw (ne-eqb _ _ h, lt-leb _ _ p)
+
+  pub direct-done : (a : ℕ) (b : List ℕ) (d : Plain) → directTakes geo (d .waiting) ≤ d .power → plainDirect geo a b d ≡ done (directTakes geo (d .waiting)) (written geo a b d)
+  unfolding plainDirect
+  direct-done a b d p = rw (le-leb _ _ p)
+
+  pub direct-short : (a : ℕ) (b : List ℕ) (d : Plain) → d .power < directTakes geo (d .waiting) → plainDirect geo a b d ≡ cutShort geo (ofDirect (d .power)) (directWaits (d .waiting) (d .power)) d
+  unfolding plainDirect
+  direct-short a b d p = rw (lt-leb _ _ p)
 
   pub sync-finished : (d : Plain) → length (d .G) ≢ 0 → syncTakes geo (d .n) (length (d .G)) ≤ d .power
       → plainSync geo d ≡ done (syncTakes geo (d .n) (length (d .G))) (synced geo d)
@@ -107,36 +135,36 @@ module _ (geo : Geometry) where
   sync-finished d h p = rw (ne-eqb _ _ h, le-leb _ _ p)
 
   pub sync-short : (d : Plain) → length (d .G) ≢ 0 → d .power < syncTakes geo (d .n) (length (d .G))
-      → plainSync geo d ≡ cutShort (ofSync (d .power)) (syncWaits geo (d .n) (length (d .G)) (d .power)) d
+      → plainSync geo d ≡ cutShort geo (ofSync (d .power)) (syncWaits geo (d .waiting) (d .n) (length (d .G)) (d .power)) d
   unfolding plainSync
   sync-short d h p = rw (ne-eqb _ _ h, lt-leb _ _ p)
 
-pub apply-nothing : (d : Plain) → d .n ≡ 0 → plainApply d ≡ still d
-unfolding plainApply
-apply-nothing d h = rw (eq-eqb _ _ h)
+  pub apply-nothing : (d : Plain) → d .n ≡ 0 → plainApply geo d ≡ still d
+  unfolding plainApply
+  apply-nothing d h = rw (eq-eqb _ _ h)
 
-pub apply-finished : (d : Plain) → d .n ≢ 0 → d .n + 3 ≤ d .power
-    → plainApply d ≡ done (d .n + 3) (cleared d)
-unfolding plainApply
-apply-finished d h p = rw (ne-eqb _ _ h, le-leb _ _ p)
+  pub apply-finished : (d : Plain) → d .n ≢ 0 → d .n + 3 ≤ d .power
+      → plainApply geo d ≡ done (d .n + 3) (cleared d)
+  unfolding plainApply
+  apply-finished d h p = rw (ne-eqb _ _ h, le-leb _ _ p)
 
-pub apply-short : (d : Plain) → d .n ≢ 0 → d .power < d .n + 3 → plainApply d ≡ cutShort (ofApply (d .power)) (applyWaits (d .n) (d .power)) d
-unfolding plainApply
-apply-short d h p = rw (ne-eqb _ _ h, lt-leb _ _ p)
+  pub apply-short : (d : Plain) → d .n ≢ 0 → d .power < d .n + 3 → plainApply geo d ≡ cutShort geo (ofApply (d .power)) (applyWaits (d .waiting) (d .n) (d .power)) d
+  unfolding plainApply
+  apply-short d h p = rw (ne-eqb _ _ h, lt-leb _ _ p)
 
-pub recover-whole : (d : Plain) → d .F ≡ false
-    → plainRecover d ≡ done 0 (recovered 0 d)
-unfolding plainRecover
-recover-whole d h = rw (h, le-leb 0 (d .power) (omega arith))
+  pub recover-whole : (found : Disk) (d : Plain) → d .F ≡ false
+      → plainRecover geo found d ≡ done 0 (recovered 0 found d)
+  unfolding plainRecover
+  recover-whole found d h = rw (h, le-leb 0 (d .power) (omega arith))
 
-pub recover-fallback : (d : Plain) → d .F ≡ true → 2 ≤ d .power
-    → plainRecover d ≡ done 2 (recovered 2 d)
-unfolding plainRecover
-recover-fallback d h p = rw (h, le-leb 2 (d .power) p)
+  pub recover-fallback : (found : Disk) (d : Plain) → d .F ≡ true → 2 ≤ d .power
+      → plainRecover geo found d ≡ done 2 (recovered 2 found d)
+  unfolding plainRecover
+  recover-fallback found d h p = rw (h, le-leb 2 (d .power) p)
 
-pub recover-short : (d : Plain) → d .F ≡ true → d .power < 2 → plainRecover d ≡ cutShort (ofRecover (d .power)) (d .power) d
-unfolding plainRecover
-recover-short d h p = rw (h, lt-leb 2 (d .power) p)
+  pub recover-short : (found : Disk) (d : Plain) → d .F ≡ true → d .power < 2 → plainRecover geo found d ≡ cutShort geo (ofRecover (d .power)) (d .power) d
+  unfolding plainRecover
+  recover-short found d h p = rw (h, lt-leb 2 (d .power) p)
 
 -- ---- the choice at a cut
 
@@ -171,6 +199,10 @@ module _ (geo : Geometry) where
   pub choose-apply : (k n m : ℕ) (F kept found : Bool) → verdict geo (ofApply k) n m F kept found ≡ applyVerdict k n F kept
   unfolding verdict
   choose-apply k n m F kept found = refl
+
+  pub choose-direct : (k n m : ℕ) (F kept found : Bool) → verdict geo (ofDirect k) n m F kept found ≡ unchanged n F
+  unfolding verdict
+  choose-direct k n m F kept found = refl
 
   pub choose-recover-none : (n m : ℕ) (F kept found : Bool) → verdict geo (ofRecover 0) n m F kept found ≡ unchanged n F
   unfolding verdict
@@ -233,6 +265,10 @@ module _ (geo : Geometry) where
   unfolding headerWaits
   header-none n m = refl
 
+  pub header-direct : (k n m : ℕ) → headerWaits geo (ofDirect k) n m ≡ false
+  unfolding headerWaits
+  header-direct k n m = refl
+
   pub header-recover : (k n m : ℕ) → headerWaits geo (ofRecover k) n m ≡ eqb k 1
   unfolding headerWaits
   header-recover k n m = refl
@@ -270,37 +306,39 @@ own-laid n m true false = refl
 own-laid n m false u = refl
 
 module _ (geo : Geometry) where
-  pub sync-laid : (n m k : ℕ) (F found : Bool) (ms : List ℕ)
-      → verdict geo (ofSync k) n m F (headerKept ms (syncWaits geo n m k)) found .laid ≡ eqb k (innerTakes geo n m + (m + geo .descriptors + 1)) && keptAt ms (m + geo .descriptors) && found
-  sync-laid n m k F found ms = go (ℕ-discrete k (innerTakes geo n m + (m + geo .descriptors + 1)))
+  pub sync-laid : (w n m k : ℕ) (F found : Bool) (ms : List ℕ)
+      → verdict geo (ofSync k) n m F (headerKept ms (syncWaits geo w n m k)) found .laid ≡ eqb k (innerTakes geo n m + (m + geo .descriptors + 1)) && keptAt ms (waitsMet geo w n m + (m + geo .descriptors)) && found
+  sync-laid w n m k F found ms = go (ℕ-discrete k (innerTakes geo n m + (m + geo .descriptors + 1)))
     where
-      go : Dec (k ≡ innerTakes geo n m + (m + geo .descriptors + 1)) → verdict geo (ofSync k) n m F (headerKept ms (syncWaits geo n m k)) found .laid ≡ eqb k (innerTakes geo n m + (m + geo .descriptors + 1)) && keptAt ms (m + geo .descriptors) && found
+      go : Dec (k ≡ innerTakes geo n m + (m + geo .descriptors + 1)) → verdict geo (ofSync k) n m F (headerKept ms (syncWaits geo w n m k)) found .laid ≡ eqb k (innerTakes geo n m + (m + geo .descriptors + 1)) && keptAt ms (waitsMet geo w n m + (m + geo .descriptors)) && found
       go (yes e) =
-          let w : syncWaits geo n m k ≡ suc (m + geo .descriptors) = sync-waits-own geo n m k (omega arith) ∙ (omega arith) in
-          ap (λ (v : Verdict). v .laid) (choose-sync-own geo k n m F (headerKept ms (syncWaits geo n m k)) found e)
-          ∙ own-laid (countMet geo n m) m (headerKept ms (syncWaits geo n m k)) found
-          ∙ ap (λ (t : Bool). t && found) (kept-mark ms (syncWaits geo n m k) (m + geo .descriptors) w)
-          ∙ sym (ap (λ (t : Bool). t && keptAt ms (m + geo .descriptors) && found) (eq-eqb k (innerTakes geo n m + (m + geo .descriptors + 1)) e))
+          let q : syncWaits geo w n m k ≡ suc (waitsMet geo w n m + (m + geo .descriptors)) = sync-waits-own geo w n m k (omega arith) ∙ (omega arith) in
+          ap (λ (v : Verdict). v .laid) (choose-sync-own geo k n m F (headerKept ms (syncWaits geo w n m k)) found e)
+          ∙ own-laid (countMet geo n m) m (headerKept ms (syncWaits geo w n m k)) found
+          ∙ ap (λ (t : Bool). t && found) (kept-mark ms (syncWaits geo w n m k) (waitsMet geo w n m + (m + geo .descriptors)) q)
+          ∙ sym (ap (λ (t : Bool). t && keptAt ms (waitsMet geo w n m + (m + geo .descriptors)) && found) (eq-eqb k (innerTakes geo n m + (m + geo .descriptors + 1)) e))
       go (no e) =
-          sync-still geo k n m F (headerKept ms (syncWaits geo n m k)) found e
-          ∙ sym (ap (λ (t : Bool). t && keptAt ms (m + geo .descriptors) && found) (ne-eqb k (innerTakes geo n m + (m + geo .descriptors + 1)) e))
+          sync-still geo k n m F (headerKept ms (syncWaits geo w n m k)) found e
+          ∙ sym (ap (λ (t : Bool). t && keptAt ms (waitsMet geo w n m + (m + geo .descriptors)) && found) (ne-eqb k (innerTakes geo n m + (m + geo .descriptors + 1)) e))
 
--- ---- apply and recover leave S
+-- ---- what leaves S
 
-pub apply-S : (d : Plain) → plainApply d .plain .S ≡ d .S
-unfolding plainApply
-apply-S d = go (eqb (d .n) 0) (leb (d .n + 3) (d .power))
-  where
-    go : (s t : Bool)
-        → cond {A = Done} s (still d) (cond t (done (applyTakes (d .n)) (cleared d)) (cutShort (ofApply (d .power)) (applyWaits (d .n) (d .power)) d)) .plain .S ≡ d .S
-    go true t = refl
-    go false true = refl
-    go false false = refl
+module _ (geo : Geometry) where
+  pub apply-S : (d : Plain) → plainApply geo d .plain .S ≡ d .S
+  unfolding plainApply
+  apply-S d = go (eqb (d .n) 0) (leb (d .n + 3) (d .power))
+    where
+      go : (s t : Bool)
+          → cond {A = Done} s (still d) (cond t (done (applyTakes (d .n)) (cleared d)) (cutShort geo (ofApply (d .power)) (applyWaits (d .waiting) (d .n) (d .power)) d)) .plain .S ≡ d .S
+      go true t = refl
+      go false true = refl
+      go false false = refl
 
-pub recover-S : (d : Plain) → plainRecover d .plain .S ≡ d .S
-unfolding plainRecover
-recover-S d = go (leb (cond (d .F) 2 0) (d .power))
-  where
-    go : (t : Bool) → cond {A = Done} t (done (cond (d .F) 2 0) (recovered (cond (d .F) 2 0) d)) (cutShort (ofRecover (d .power)) (d .power) d) .plain .S ≡ d .S
-    go true = refl
-    go false = refl
+  pub barrier-S : (d : Plain) → plainBarrier geo d .plain .S ≡ d .S
+  unfolding plainBarrier
+  barrier-S d = go (eqb (d .waiting) 0) (leb 1 (d .power))
+    where
+      go : (s t : Bool) → cond {A = Done} s (still d) (cond t (done 1 (flushed (spent 1 d))) (cutShort geo (ofSync (d .power)) (d .waiting) d)) .plain .S ≡ d .S
+      go true t = refl
+      go false true = refl
+      go false false = refl

@@ -13,10 +13,10 @@ use lib.ListN.{length}
 use Rattle.cells.specs.Cell.Laws.{cell-part}
 use Rattle.cells.specs.Upto.{upTo}
 use Rattle.cells.specs.Upto.Laws.{length-upTo, ext-upTo}
-use Rattle.cells.specs.Entry.{blockBytes, entryBytes, Entry, setEntry}
+use Rattle.cells.specs.Entry.{blockBytes, entryBytes, Entry, entryAt, setEntry}
 use Rattle.cells.specs.Entry.Laws.{length-setEntry, entry-same, entry-other, length-block, block-part}
 use Rattle.card.specs.Disk.{Disk, overlay}
-use Rattle.card.specs.Card.{blockAt}
+use Rattle.card.specs.Card.{queue, blockAt}
 use Rattle.card.proofs.All.{All, all-left, all-right, all-map}
 use Rattle.card.proofs.Runs.{Whole, NarrowAddress}
 use Rattle.journal.specs.Geometry.{Geometry}
@@ -26,11 +26,12 @@ use Rattle.journal.specs.Layout.{slotAt, mostBlocks}
 use Rattle.journal.specs.Log.{slotEntry, entries}
 use Rattle.journal.specs.Lookup.{lastOf, lastSlot}
 use Rattle.journal.proofs.Lookups.{foundIn, overlay-found}
-use Rattle.store.specs.State.{State, withOpened, withRecord, withWork}
+use Rattle.store.specs.declared.place.Place.{Place}
+use Rattle.store.specs.State.{State, withOpened, withRecord, withWork, cardIn}
 use Rattle.store.specs.Lists.{openFrom, groupFrom, listed, listOf, find}
 use Rattle.store.specs.Causes.{workBytes, isFound, newcomers}
 use Rattle.store.specs.Put.{putAt}
-use Rattle.store.specs.Get.{newest, bytesAt, openPlace, groupPlace, logPlace}
+use Rattle.store.specs.Get.{newest, bytesAt, openPlace, groupPlace, logPlace, waitingFrom, findWaiting, homePlace, waitingPlace}
 use Rattle.store.specs.Commit.{Group, joinAt, join, joined}
 use Rattle.store.proofs.Lookups.{last-at}
 use Rattle.store.proofs.Places.{data-lt}
@@ -221,7 +222,7 @@ module _ (geo : Geometry) where
       → All NarrowAddress (listOf work openFrom n) → g + newcomers geo work g n ≤ geo .slots → Merged work g n (joined geo n (record { work = work; count = g }))
   joined-group work g n size few t d short room = joined-merge work g n size few d short (rw (newcomers-merge work g n t) at room)
 
--- ---- get: the newest of open, group, log, home
+-- ---- get: the newest of open, group, log, waiting writes, home
 
 pub overlay-at : (f : ℕ → Entry) (d : Disk) (a n i : ℕ) → lastOf (λ j. f j .address) a n ≡ At i → overlay (upTo f n) d a ≡ f i .block
 overlay-at f d a n i h = overlay-found f n d a ∙ ap (λ (w : Found). foundIn w (λ k. f k .block) (d a)) h
@@ -229,32 +230,55 @@ overlay-at f d a n i h = overlay-found f n d a ∙ ap (λ (w : Found). foundIn w
 pub overlay-absent : (f : ℕ → Entry) (d : Disk) (a n : ℕ) → lastOf (λ j. f j .address) a n ≡ Absent → overlay (upTo f n) d a ≡ d a
 overlay-absent f d a n h = overlay-found f n d a ∙ ap (λ (w : Found). foundIn w (λ k. f k .block) (d a)) h
 
+-- the waiting writes are a list from the first place on
+pub queue-listed : (st : State) → queue (cardIn st) ≡ listOf (st .waiting) waitingFrom (st .rec .waiting)
+unfolding queue
+queue-listed st = ext-upTo (entryAt (st .waiting)) (listed (st .waiting) waitingFrom) (st .rec .waiting) (λ i h. ap (entryAt (st .waiting)) (sym (zero-add i)))
+
 module _ (geo : Geometry) where
   pub newest-get : (a : ℕ) (st : State)
       → bytesAt (newest geo a st) st
       ≡ overlay (listOf (st .work) openFrom (st .rec .opened))
-      (overlay (listOf (st .work) (groupFrom geo) (st .rec .grouped)) (overlay (entries geo (st .settled) (st .rec .logged)) (blockAt (st .settled)))) a
+      (overlay (listOf (st .work) (groupFrom geo) (st .rec .grouped)) (overlay (entries geo (st .settled) (st .rec .logged)) (overlay (queue (cardIn st)) (blockAt (st .settled))))) a
   unfolding newest slotEntry
   newest-get a st = in-open (find (st .work) openFrom (st .rec .opened) a) refl
     where
+      waits : Disk
+      waits = overlay (queue (cardIn st)) (blockAt (st .settled))
+
       log : Disk
-      log = overlay (entries geo (st .settled) (st .rec .logged)) (blockAt (st .settled))
+      log = overlay (entries geo (st .settled) (st .rec .logged)) waits
 
       group : Disk
       group = overlay (listOf (st .work) (groupFrom geo) (st .rec .grouped)) log
 
-      in-log : (f : Found) → lastSlot (st .settled) a (st .rec .logged) ≡ f → bytesAt (logPlace geo a f) st ≡ log a
-      in-log (At i) h = sym (overlay-at (slotEntry geo (st .settled)) (blockAt (st .settled)) a (st .rec .logged) i h ∙ cell-part blockBytes (st .settled) (slotAt geo i))
-      in-log Absent h = sym (overlay-absent (slotEntry geo (st .settled)) (blockAt (st .settled)) a (st .rec .logged) h ∙ cell-part blockBytes (st .settled) a)
+      -- the places in the log and outside it
+      outside : Place
+      outside = waitingPlace (findWaiting st a) (homePlace a)
+
+      logged : Place
+      logged = logPlace geo (lastSlot (st .settled) a (st .rec .logged)) outside
+
+      in-waiting : (f : Found) → findWaiting st a ≡ f → bytesAt (waitingPlace f (homePlace a)) st ≡ waits a
+      in-waiting (At i) h =
+          sym (ap (λ (q : List Entry). overlay q (blockAt (st .settled)) a) (queue-listed st)
+          ∙ overlay-at (listed (st .waiting) waitingFrom) (blockAt (st .settled)) a (st .rec .waiting) i h ∙ block-part (st .waiting) (waitingFrom + i))
+      in-waiting Absent h =
+          sym (ap (λ (q : List Entry). overlay q (blockAt (st .settled)) a) (queue-listed st)
+          ∙ overlay-absent (listed (st .waiting) waitingFrom) (blockAt (st .settled)) a (st .rec .waiting) h ∙ cell-part blockBytes (st .settled) a)
+
+      in-log : (f : Found) → lastSlot (st .settled) a (st .rec .logged) ≡ f → bytesAt (logPlace geo f outside) st ≡ log a
+      in-log (At i) h = sym (overlay-at (slotEntry geo (st .settled)) waits a (st .rec .logged) i h ∙ cell-part blockBytes (st .settled) (slotAt geo i))
+      in-log Absent h = in-waiting (findWaiting st a) refl ∙ sym (overlay-absent (slotEntry geo (st .settled)) waits a (st .rec .logged) h)
 
       in-group : (f : Found) → find (st .work) (groupFrom geo) (st .rec .grouped) a ≡ f
-          → bytesAt (groupPlace geo f (logPlace geo a (lastSlot (st .settled) a (st .rec .logged)))) st ≡ group a
+          → bytesAt (groupPlace geo f logged) st ≡ group a
       in-group (At i) h = sym (overlay-at (listed (st .work) (groupFrom geo)) log a (st .rec .grouped) i h ∙ block-part (st .work) (groupFrom geo + i))
       in-group Absent h =
           in-log (lastSlot (st .settled) a (st .rec .logged)) refl ∙ sym (overlay-absent (listed (st .work) (groupFrom geo)) log a (st .rec .grouped) h)
 
       in-open : (f : Found) → find (st .work) openFrom (st .rec .opened) a ≡ f
-          → bytesAt (openPlace f (groupPlace geo (find (st .work) (groupFrom geo) (st .rec .grouped) a) (logPlace geo a (lastSlot (st .settled) a (st .rec .logged))))) st
+          → bytesAt (openPlace f (groupPlace geo (find (st .work) (groupFrom geo) (st .rec .grouped) a) logged)) st
           ≡ overlay (listOf (st .work) openFrom (st .rec .opened)) group a
       in-open (At i) h = sym (overlay-at (listed (st .work) openFrom) group a (st .rec .opened) i h ∙ block-part (st .work) (openFrom + i))
       in-open Absent h =

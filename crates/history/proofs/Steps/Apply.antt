@@ -38,7 +38,7 @@ use Rattle.history.proofs.Steps.Checkpoints.{checkpoint, checkpoint-ord
 module _ (geo : Geometry) where
   -- a call that changes nothing
   pub nothing-step : (c : Call) (w : World) → WorldSim geo w → dispatch geo c (w .store) ≡ record { answer = 0; orders = 0; state = w .store }
-      → plainStep geo c (foundWritten geo c w) (w .plain) ≡ record { answer = 0; orders = 0; plain = w .plain } → ledgerNext geo c w ≡ w .ledger → ((a : ℕ) → c ≡ get a → ⊥) → StepOK geo c w
+      → plainStep geo c (fed geo c w) (w .plain) ≡ record { answer = 0; orders = 0; plain = w .plain } → ledgerNext geo c w ≡ w .ledger → ((a : ℕ) → c ≡ get a → ⊥) → StepOK geo c w
   nothing-step c w m D P E g =
       sim-step geo c w
       (record {

@@ -75,8 +75,8 @@ module _ (geo : Geometry) where
     pub waits : ℕ → ℕ
     pub S : Laid
     pub plain-done : takes plan ≤ w .plain .power
-        → plainStep geo c (foundWritten geo c w) (w .plain) ≡ record { answer = 0; orders = takes plan; plain = openPlain geo (w .store) done S (w .plain .power - takes plan) }
-    pub plain-short : w .plain .power < takes plan → plainStep geo c (foundWritten geo c w) (w .plain) ≡ cutShort (short (w .plain .power)) (waits (w .plain .power)) (w .plain)
+        → plainStep geo c (fed geo c w) (w .plain) ≡ record { answer = 0; orders = takes plan; plain = openPlain geo (w .store) done S (w .plain .power - takes plan) }
+    pub plain-short : w .plain .power < takes plan → plainStep geo c (fed geo c w) (w .plain) ≡ cutShort (short (w .plain .power)) (waits (w .plain .power)) (w .plain)
     -- cut short
     pub cuts : Throughout (CutsAt w headers short waits) [] plan (w .store .settled) 0
     -- done
@@ -121,7 +121,7 @@ module _ (geo : Geometry) where
     pub stopped : (X : Asked) (k : ℕ) → k ≡ P → P < takes plan → Throughout X [] plan (st .settled) 0 → Stopped geo N (cardIn st) r X (st .settled) k
     stopped X k e p x = plan-short geo N (cardIn st) (small-N geo st (w .plain) b) (sz .waiting) X plan (cardIn st) (st .settled) [] P 0 k (omega arith) begins tt (fits-none geo N plan (f .ends .fits)) p x
 
-    shows : (k : ℕ) (o : Outcome) (d : Done) → dispatch geo c st ≡ o → plainStep geo c (foundWritten geo c w) (w .plain) ≡ d → o .answer ≡ d .answer → o .orders ≡ k → d .orders ≡ k
+    shows : (k : ℕ) (o : Outcome) (d : Done) → dispatch geo c st ≡ o → plainStep geo c (fed geo c w) (w .plain) ≡ d → o .answer ≡ d .answer → o .orders ≡ k → d .orders ≡ k
         → Sim geo (o .state) (noted (f .headers) k (w .ledger)) (d .plain) → StepOK geo c w
     shows k o d D P same x y m =
         sim-step geo c w

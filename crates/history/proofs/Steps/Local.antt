@@ -36,11 +36,12 @@ use Rattle.history.specs.Call.{Call, requestOf, power, put, get, getList
 use Rattle.history.specs.Plain.{Plain, Done, insert, merge, refusal, withLists, withPower, still, served, plainStep, plainGet, plainListing}
 use Rattle.history.specs.Dispatch.{called, dispatch}
 use Rattle.history.specs.Ledger.{Ledger, entered}
-use Rattle.history.specs.History.{World, foundWritten}
+use Rattle.history.specs.History.{World, fed}
 use Rattle.history.proofs.Relation.Lists.{Distinct, Data, distinct-insert, all-insert, distinct-merge, all-merge}
 use Rattle.history.proofs.Relation.WorkLists.{data-short, put-open, newcomers-merge, joined-group, newest-get}
 use Rattle.history.proofs.Relation.CauseLaws.{facts-sizes, record-facts, facts-record, cause-passes}
 use Rattle.history.proofs.Relation.Sim.{OpenSim, ClosedSim, DownSim, Sim}
+use Rattle.history.proofs.Relation.OpenFacts.{open-disk}
 use Rattle.history.proofs.Steps.Shown.{WorldSim, StepOK, sim-step, sim-at, small-N, same-cause, refused-step, plain-served}
 
 -- ---- a call that is done at once
@@ -54,14 +55,14 @@ module _ (geo : Geometry) where
     sim : Sim geo now (w .ledger) d
 
   quiet-step : (c : Call) (w : World) (d : Plain) → WorldSim geo w → entered geo c (w .store) (w .ledger) ≡ w .ledger
-      → served geo c (foundWritten geo c w) (w .plain) ≡ still d → (cause geo (requestOf c) (w .store) ≡ 0 → Serves c w d) → StepOK geo c w
+      → served geo c (fed geo c w) (w .plain) ≡ still d → (cause geo (requestOf c) (w .store) ≡ 0 → Serves c w d) → StepOK geo c w
   quiet-step c w d m l p s = go (ℕ-discrete (refusal geo c (w .plain)) 0)
     where
       go : Dec (refusal geo c (w .plain) ≡ 0) → StepOK geo c w
       go (no h) = refused-step geo c w m h
       go (yes h) =
           let r = s (same-cause geo (w .store) (w .ledger) (w .plain) m c ∙ h) in
-          let P : plainStep geo c (foundWritten geo c w) (w .plain) ≡ still d = plain-served geo c (foundWritten geo c w) (w .plain) h ∙ p in
+          let P : plainStep geo c (fed geo c w) (w .plain) ≡ still d = plain-served geo c (fed geo c w) (w .plain) h ∙ p in
           sim-step geo c w
           (record {
             answer = ap (λ (o : Outcome). o .answer) (r .call) ∙ sym (ap (λ (o : Done). o .answer) P);
@@ -81,7 +82,7 @@ module _ (geo : Geometry) where
         basics = record {
           sizes = b .sizes;
           counts = b .counts;
-          mirrors = record { mode = r .mode; N = r .N; waiting = r .waiting; T = r .T; G = r .G; save = r .save };
+          mirrors = record { mode = r .mode; N = r .N; waiting = r .waiting; T = r .T; G = r .G; save = r .save; log = r .log; writes = r .writes };
           power = refl;
         };
         phase = go (m .phase);
@@ -91,8 +92,8 @@ module _ (geo : Geometry) where
       now = withRecord (withQueue (st .rec .waiting) k (st .rec)) st
 
       go : OpenSim geo st l d ⊎ (ClosedSim geo st l d ⊎ DownSim geo st l d) → OpenSim geo now l (withPower k d) ⊎ (ClosedSim geo now l (withPower k d) ⊎ DownSim geo now l (withPower k d))
-      go (_⊎_.inl o) = _⊎_.inl (record { mode = o .mode; n = o .n; F = o .F; short = o .short; pending = o .pending; sum = o .sum; card = o .card })
-      go (_⊎_.inr (_⊎_.inl o)) = _⊎_.inr (_⊎_.inl (record { mode = o .mode; T = o .T; G = o .G; short = o .short; pending = o .pending; save = o .save; card = o .card }))
+      go (_⊎_.inl o) = _⊎_.inl (record { mode = o .mode; n = o .n; F = o .F; short = o .short; loose = o .loose; pending = o .pending; sum = o .sum; waits = o .waits; card = o .card })
+      go (_⊎_.inr (_⊎_.inl o)) = _⊎_.inr (_⊎_.inl (record { mode = o .mode; T = o .T; G = o .G; short = o .short; writes = o .writes; log = o .log; pending = o .pending; save = o .save; card = o .card }))
       go (_⊎_.inr (_⊎_.inr o)) = _⊎_.inr (_⊎_.inr (record { mode = o .mode; top = o .top; cuts = o .cuts }))
 
   pub power-step : (k : ℕ) (w : World) → WorldSim geo w → StepOK geo (power k) w
@@ -169,7 +170,6 @@ module _ (geo : Geometry) where
               group-count = g .count;
               log-count = r .log-count;
               waiting-count = r .waiting-count;
-              waiting-down = r .waiting-down;
               blocks = r .blocks;
               waiting-below = r .waiting-below;
               lists = λ h. record {
@@ -180,10 +180,10 @@ module _ (geo : Geometry) where
                 group-distinct = rw (g .list) (g .distinct);
               };
             });
-            mirrors = record { mode = b .mode; N = b .N; waiting = b .waiting; T = λ h. sym (t .list); G = λ h. sym (g .list); save = b .save };
+            mirrors = record { mode = b .mode; N = b .N; waiting = b .waiting; T = λ h. sym (t .list); G = λ h. sym (g .list); save = b .save; log = b .log; writes = b .writes };
             power = m .basics .power;
           };
-          phase = _⊎_.inl (record { mode = o .mode; n = o .n; F = o .F; short = o .short; pending = o .pending; sum = o .sum; card = o .card });
+          phase = _⊎_.inl (record { mode = o .mode; n = o .n; F = o .F; short = o .short; loose = o .loose; pending = o .pending; sum = o .sum; waits = o .waits; card = o .card });
         }
 
   -- a call that is not refused leaves T and G and changes nothing else
@@ -195,7 +195,7 @@ module _ (geo : Geometry) where
     lists : Lists geo (st .rec .blocks) work t g T G
 
   lists-step : (c : Call) (w : World) (T G : List Entry) → WorldSim geo w → needsOpen geo (requestOf c) ≡ true → ((a : ℕ) → c ≡ get a → ⊥)
-      → entered geo c (w .store) (w .ledger) ≡ w .ledger → served geo c (foundWritten geo c w) (w .plain) ≡ still (withLists G T (w .plain))
+      → entered geo c (w .store) (w .ledger) ≡ w .ledger → served geo c (fed geo c w) (w .plain) ≡ still (withLists G T (w .plain))
       → (cause geo (requestOf c) (w .store) ≡ 0 → Passes geo (requestOf c) (w .store) → ListsIn geo (w .store) (w .plain) → Sets c (w .store) T G)
       → StepOK geo c w
   lists-step c w T G m n k l p f =
@@ -308,20 +308,20 @@ module _ (geo : Geometry) where
   -- ---- get
 
   -- the newest block is the plain disk's
-  newest-plain : (a : ℕ) (st : State) (l : Ledger) (d : Plain) → OpenSim geo st l d → ListsIn geo st d → isData geo (st .rec .blocks) a ≡ true
+  newest-plain : (a : ℕ) (st : State) (l : Ledger) (d : Plain) → Sim geo st l d → OpenSim geo st l d → ListsIn geo st d → isData geo (st .rec .blocks) a ≡ true
       → bytesAt (newest geo a st) st ≡ plainGet a d
   unfolding plainGet
-  newest-plain a st l d o f h =
+  newest-plain a st l d m o f h =
       newest-get geo a st
       ∙ rw (f .in-open .list, f .in-group .list, entries-disk geo (st .settled) (st .rec .logged))
-      (overlay-agree (d .T) _ _ a (overlay-agree (d .G) _ _ a (sym (o .card .disk a h tt))))
+      (overlay-agree (d .T) _ _ a (overlay-agree (d .G) _ _ a (sym (open-disk geo st l d (m .basics) o a h))))
 
   -- so a get that is served shows the plain disk's block
   pub get-plain : (a : ℕ) (st : State) (l : Ledger) (d : Plain) → Sim geo st l d → cause geo (Request.get a) st ≡ 0 → blockOf geo a st ≡ plainGet a d
   get-plain a st l d m e =
       let q = cause-passes geo (Request.get a) st e in
       let o = is-open st l d m (Request.get a) refl q in
-      get-newest geo a st e ∙ newest-plain a st l d o (lists-in st l d m (o .mode)) (not-false _ (q .own .0))
+      get-newest geo a st e ∙ newest-plain a st l d m o (lists-in st l d m (o .mode)) (not-false _ (q .own .0))
 
   pub get-step : (a : ℕ) (w : World) → WorldSim geo w → StepOK geo (get a) w
   unfolding called entered

@@ -12,7 +12,8 @@ use Rattle.cells.specs.Upto.Laws.{length-upTo}
 use Rattle.cells.specs.Entry.{Entry, entryAt}
 use Rattle.fnv.specs.Fnv.{start}
 use Rattle.card.specs.Card.{queue, blockAt}
-use Rattle.card.specs.Marks.{marksFit}
+use Rattle.card.specs.Marks.{wholeBlock, marksFit}
+use Rattle.card.proofs.All.{All, all-map}
 use Rattle.card.proofs.MarkLaws.{HeaderLast, fits-last}
 use Rattle.crash.proofs.Batches.{no-queue}
 use Rattle.journal.specs.Geometry.{Geometry}
@@ -22,32 +23,33 @@ use Rattle.journal.specs.Header.{header}
 use Rattle.journal.specs.Log.{headerOf, entries, sumOf}
 use Rattle.journal.specs.Choice.{foreign, choose, choiceNumber}
 use Rattle.crash.specs.Laid.{Laid}
-use Rattle.crash.proofs.Cards.{Every, WholeCard, FallCard, ClosedCard}
+use Rattle.crash.proofs.Cards.{WholeCard, FallCard, ClosedCard}
 use Rattle.crash.proofs.Leads.{read-head}
-use Rattle.crash.proofs.Logs.{logD, entries-disk}
+use Rattle.crash.proofs.Frames.{KeepOff, off-low}
+use Rattle.crash.proofs.Logs.{logD, entries-disk, data-above}
 use Rattle.store.specs.Request as Request
-use Rattle.store.specs.State.{State, Outcome, closed, openMode, down, cardIn}
+use Rattle.store.specs.State.{State, Outcome, closed, openMode, cardIn}
 use Rattle.store.specs.Causes.{cause}
 use Rattle.store.specs.Outcomes.{refused}
 use Rattle.store.proofs.Causes.{sizes-facts}
-use Rattle.history.specs.Call.{Call, requestOf, local, save, cut, get}
-use Rattle.history.specs.Plain.{Plain, Short, none, headerWaits, plainFit, Done, refusal, served, plainStep, plainGet}
+use Rattle.history.specs.Call.{Call, requestOf, local, direct, save, cut, get}
+use Rattle.history.specs.Plain.{Plain, Short, none, addresses, headerWaits, plainFit, Fed, Done, refusal, served, plainStep, plainGet}
 use Rattle.store.specs.Get.{blockOf}
 use Rattle.history.specs.Dispatch.{dispatch}
 use Rattle.history.specs.Ledger.{Ledger, PlannedHeader, headersOf, noted, entered}
-use Rattle.history.specs.History.{World, storeNext, ledgerNext, foundWritten, exception}
+use Rattle.history.specs.History.{World, storeNext, ledgerNext, fed, exception}
 use Rattle.history.specs.Statements.{Agrees}
 use Rattle.history.proofs.Relation.CauseLaws.{record-facts, idle, cause-refusal}
 use Rattle.history.proofs.Relation.Forms.{called-refused}
 use Rattle.history.proofs.Relation.EvenLedgers.{even-refl}
 use Rattle.history.proofs.Relation.PlainLaws.{header-none}
-use Rattle.history.proofs.Relation.Sim.{Basics, OpenSim, ClosedSim, DownSim, Sim, Safe}
+use Rattle.history.proofs.Relation.Sim.{Basics, Waits, OpenSim, ClosedSim, DownSim, Sim, Safe}
 
 -- ---- what a step has to show
 
 module _ (geo : Geometry) where
   abbrev pub plainNext : Call → World → Plain
-  plainNext c w = plainStep geo c (foundWritten geo c w) (w .plain) .plain
+  plainNext c w = plainStep geo c (fed geo c w) (w .plain) .plain
 
   abbrev pub WorldSim : World → Type 0
   WorldSim w = Sim geo (w .store) (w .ledger) (w .plain)
@@ -77,8 +79,8 @@ module _ (geo : Geometry) where
 
   -- what a step shows: the answer, the orders, the block of a get; and the relation after it, whatever was found
   pub record Shows (c : Call) (w : World) : Type 0 where
-    pub answer : dispatch geo c (w .store) .answer ≡ plainStep geo c (foundWritten geo c w) (w .plain) .answer
-    pub orders : dispatch geo c (w .store) .orders ≡ plainStep geo c (foundWritten geo c w) (w .plain) .orders
+    pub answer : dispatch geo c (w .store) .answer ≡ plainStep geo c (fed geo c w) (w .plain) .answer
+    pub orders : dispatch geo c (w .store) .orders ≡ plainStep geo c (fed geo c w) (w .plain) .orders
     pub block : (a : ℕ) → c ≡ get a → dispatch geo c (w .store) .answer ≡ 0 → blockOf geo a (w .store) ≡ plainGet a (w .plain)
     pub sim : Sim geo (storeNext geo c w) (ledgerNext geo c w) (plainNext c w)
 
@@ -95,6 +97,8 @@ module _ (geo : Geometry) where
           waiting = sym (m .waiting);
           n = sim-n (storeNext geo c w) (ledgerNext geo c w) (plainNext c w) (s .sim);
           save = λ h. sym (m .save h);
+          log = λ h. sym (m .log h);
+          writes = λ h. sym (m .writes h);
           no-save = sim-no-save (storeNext geo c w) (ledgerNext geo c w) (plainNext c w) (s .sim);
         };
         sim = λ e. s .sim;
@@ -123,14 +127,14 @@ module _ (geo : Geometry) where
 
   -- the head of an opened card gives no foreign header
   module _ (N : ℕ) (s : List ℕ) (small : N < 2 ^ 32) where
-    pub choose-whole : (w : List Entry) (S : Laid) (n : ℕ) → WholeCard geo Every N (blockAt s) w S n → choose geo N s ≡ Whole n (sumOf start (entries geo s n)) (S .groups)
+    pub choose-whole : {X : ℕ → Type 0} (w : List Entry) (S : Laid) (n : ℕ) → WholeCard geo X N (blockAt s) w S n → choose geo N s ≡ Whole n (sumOf start (entries geo s n)) (S .groups)
     unfolding choose
     choose-whole w S n r =
         let h : headerOf s ≡ header N (r .p) (r .ps) n (sumOf start (logD geo (blockAt s) n)) (S .groups) = read-head geo s N (r .p) (r .ps) n (sumOf start (logD geo (blockAt s) n)) (S .groups) small (r .head) in
         let e : entries geo s n ≡ logD geo (blockAt s) n = entries-disk geo s n in
         rw (h, ours N (r .p) (r .ps) n (sumOf start (logD geo (blockAt s) n)) (S .groups) (r .head .ordered) (r .head .most) (r .head .numbered), e, eq-eqb (sumOf start (logD geo (blockAt s) n)) (sumOf start (logD geo (blockAt s) n)) refl, r .all)
 
-    pub choose-fallback : (w : List Entry) (S : Laid) (n : ℕ) → FallCard geo Every N (blockAt s) w S n → choose geo N s ≡ Fallback n (sumOf start (entries geo s n)) (S .groups)
+    pub choose-fallback : {X : ℕ → Type 0} (w : List Entry) (S : Laid) (n : ℕ) → FallCard geo X N (blockAt s) w S n → choose geo N s ≡ Fallback n (sumOf start (entries geo s n)) (S .groups)
     unfolding choose
     choose-fallback w S n r =
         let h : headerOf s ≡ header N n (sumOf start (logD geo (blockAt s) n)) (r .c) (r .ns) (S .groups + 1) = read-head geo s N n (sumOf start (logD geo (blockAt s) n)) (r .c) (r .ns) (S .groups + 1) small (r .head) in
@@ -139,9 +143,16 @@ module _ (geo : Geometry) where
         let one : S .groups + 1 - 1 ≡ S .groups = omega arith in
         rw (h, ours N n (sumOf start (logD geo (blockAt s) n)) (r .c) (r .ns) (S .groups + 1) (r .head .ordered) (r .head .most) (r .head .numbered), f, r .bad, e, eq-eqb (sumOf start (logD geo (blockAt s) n)) (sumOf start (logD geo (blockAt s) n)) refl, r .all, one)
 
-  pub closed-choice : (N : ℕ) (s : List ℕ) (w : List Entry) (S : Laid) (n : ℕ) (F : Bool) → N < 2 ^ 32 → ClosedCard geo Every N (blockAt s) w S n F → choiceNumber (choose geo N s) ≡ 0
+  pub closed-choice : {X : ℕ → Type 0} (N : ℕ) (s : List ℕ) (w : List Entry) (S : Laid) (n : ℕ) (F : Bool) → N < 2 ^ 32 → ClosedCard geo X N (blockAt s) w S n F → choiceNumber (choose geo N s) ≡ 0
   closed-choice N s w S n false l r = ap choiceNumber (choose-whole N s l w S n r)
   closed-choice N s w S n true l r = ap choiceNumber (choose-fallback N s l w S n r)
+
+  -- direct writes that wait are to data blocks
+  pub waits-off : (st : State) → All (Waits geo st) (queue (cardIn st)) → KeepOff geo (queue (cardIn st))
+  waits-off st h = all-map (Waits geo st) (λ e. firstData geo ≤ e .address) (λ e p. data-above geo (st .rec .blocks) (e .address) (p .0)) (queue (cardIn st)) h
+
+  pub waits-high : (st : State) → All (Waits geo st) (queue (cardIn st)) → All (λ e. wholeBlock ≢ e .address) (queue (cardIn st))
+  waits-high st h = off-low geo (queue (cardIn st)) (waits-off st h) wholeBlock (omega arith)
 
   -- ---- the number of a call is the plain disk's
 
@@ -156,14 +167,12 @@ module _ (geo : Geometry) where
       by : (t : Bool) → headerWaits geo (d .short) (d .n) (length (d .G)) ≡ t → HeaderLast t (queue (cardIn st)) → marksFit ms (queue (cardIn st)) ≡ plainFit geo ms d
       by t e h = fits-last t ms (queue (cardIn st)) h ∙ rw (waits, e)
 
-      quiet : st .rec .mode ≢ down → d .short ≡ none → marksFit ms (queue (cardIn st)) ≡ plainFit geo ms d
-      quiet z s =
-          by false (ap (λ (x : Short). headerWaits geo x (d .n) (length (d .G))) s ∙ header-none geo (d .n) (length (d .G)))
-          (subst (HeaderLast false) (sym (no-queue (cardIn st) (idle geo st (record-facts geo st (m .basics .counts)) z))) tt)
+      quiet : d .short ≡ none → HeaderLast false (queue (cardIn st)) → marksFit ms (queue (cardIn st)) ≡ plainFit geo ms d
+      quiet s h = by false (ap (λ (x : Short). headerWaits geo x (d .n) (length (d .G))) s ∙ header-none geo (d .n) (length (d .G))) h
 
       go : OpenSim geo st l d ⊎ (ClosedSim geo st l d ⊎ DownSim geo st l d) → marksFit ms (queue (cardIn st)) ≡ plainFit geo ms d
-      go (_⊎_.inl o) = quiet (λ z. omega (arith, o .mode)) (o .short)
-      go (_⊎_.inr (_⊎_.inl o)) = quiet (λ z. omega (arith, o .mode)) (o .short)
+      go (_⊎_.inl o) = quiet (o .short) (waits-high st (o .waits))
+      go (_⊎_.inr (_⊎_.inl o)) = quiet (o .short) (subst (HeaderLast false) (sym (no-queue (cardIn st) (idle geo st (record-facts geo st (m .basics .counts)) (o .mode)))) tt)
       go (_⊎_.inr (_⊎_.inr o)) = by _ refl (o .top)
 
   pub same-cause : (st : State) (l : Ledger) (d : Plain) → Sim geo st l d → (c : Call) → cause geo (requestOf c) st ≡ refusal geo c d
@@ -189,12 +198,13 @@ module _ (geo : Geometry) where
   pub entered-refused : (c : Call) (st : State) (l : Ledger) → cause geo (requestOf c) st ≢ 0 → entered geo c st l ≡ l
   unfolding entered
   entered-refused (local c) st l h = refl
+  entered-refused (direct a b) st l h = refl
   entered-refused (save c) st l h = ap (λ (o : Outcome). noted (headersOf geo c st) (o .orders) l) (dispatch-refused geo (save c) st h) ∙ noted-none (headersOf geo c st) l
   entered-refused (cut ms) st l h = rw (dispatch-refused geo (cut ms) st h, ne-eqb (cause geo (Request.cut ms) st) 0 h)
 
-  pub plain-refused : (c : Call) (found : Bool) (d : Plain) → refusal geo c d ≢ 0 → plainStep geo c found d ≡ record { answer = refusal geo c d; orders = 0; plain = d }
+  pub plain-refused : (c : Call) (f : Fed) (d : Plain) → refusal geo c d ≢ 0 → plainStep geo c f d ≡ record { answer = refusal geo c d; orders = 0; plain = d }
   unfolding plainStep
-  plain-refused c found d h = rw (ne-eqb (refusal geo c d) 0 h)
+  plain-refused c f d h = rw (ne-eqb (refusal geo c d) 0 h)
 
   pub refused-step : (c : Call) (w : World) → WorldSim geo w → refusal geo c (w .plain) ≢ 0 → StepOK geo c w
   refused-step c w m h =
@@ -202,7 +212,7 @@ module _ (geo : Geometry) where
       let e : cause geo (requestOf c) st ≡ refusal geo c (w .plain) = same-cause geo st (w .ledger) (w .plain) m c in
       let k : cause geo (requestOf c) st ≢ 0 = λ z. h (sym e ∙ z) in
       let D = dispatch-refused geo c st k in
-      let P = plain-refused c (foundWritten geo c w) (w .plain) h in
+      let P = plain-refused c (fed geo c w) (w .plain) h in
       sim-step geo c w
       (record {
         answer = ap (λ (o : Outcome). o .answer) D ∙ e ∙ sym (ap (λ (o : Done). o .answer) P);
@@ -212,6 +222,6 @@ module _ (geo : Geometry) where
       })
 
   -- a call that is not refused
-  pub plain-served : (c : Call) (found : Bool) (d : Plain) → refusal geo c d ≡ 0 → plainStep geo c found d ≡ served geo c found d
+  pub plain-served : (c : Call) (f : Fed) (d : Plain) → refusal geo c d ≡ 0 → plainStep geo c f d ≡ served geo c f d
   unfolding plainStep
-  plain-served c found d h = rw (eq-eqb (refusal geo c d) 0 h)
+  plain-served c f d h = rw (eq-eqb (refusal geo c d) 0 h)
