@@ -53,6 +53,7 @@ cut-requires c κs =
     let few = any-waits trap st (s .counts) in
     let waits : length (queue (cardIn st)) ≡ start .args .self .waiting = length-upTo (entryAt (start .args .waiting .now)) (start .args .self .waiting) in
     let many : length (start .args .marks .now) ≡ blockBytes * length (queue (cardIn st)) = fits-length (start .args .marks .now) (queue (cardIn st)) (not-false _ (p .own .0)) in
+    let few = any-waits trap st (s .counts) in
     let held : c .before .queue .result .waiting ≡ start .args .self .waiting = ap (λ (q : Queue). q .waiting) (c .before .queue .ensures) in
     (omega arith, (λ i h. let inside : i < start .args .self .waiting = omega arith in omega (arith, s .waiting-below i inside), omega arith))
 
