@@ -35,7 +35,7 @@ use Rattle.journal.proofs.OrderLists.{headerEntry, appendWrites, length-append-
 use Rattle.crash.specs.Found.{sameLog, collides}
 use Rattle.crash.specs.Laid.{Laid, layOver}
 use Rattle.crash.proofs.Logs.{slotE, logD, entries-disk, data-above, data-below}
-use Rattle.crash.proofs.Cards.{Every, HasHeader, WholeCard, ClosedCard, SafeCard, closed-agree, append-head, append-found, append-bad, append-safe, append-sum, Appended, emptied, fallen}
+use Rattle.crash.proofs.Cards.{HasHeader, WholeCard, ClosedCard, SafeCard, closed-agree, append-head, append-found, append-bad, append-safe, append-sum, Appended, emptied, fallen}
 use Rattle.crash.proofs.Frames.{Besides, Spared, Sized, KeepOff, off-low, Stands, covered-stands, whole-stands}
 use Rattle.crash.proofs.Appends.{lost-stands, header-lost, header-kept, log-stands, homes-stand, found-written, length-front}
 
@@ -93,9 +93,9 @@ module _ (geo : Geometry) where
     pub spared : Spared X q₀ Y
     pub card : ClosedCard geo X N (blockAt s) w S n F
 
-  -- nothing waits, and all blocks are in question
-  pub none-behind : {N : ℕ} {s : List ℕ} {w : List Entry} {S : Laid} {n : ℕ} {F : Bool} → firstData geo < N → N < 2 ^ 32 → N ≡ blocksIn s → ClosedCard geo Every N (blockAt s) w S n F
-      → Behind Every Every N s [] w S n F
+  -- nothing waits
+  pub none-behind : {X : ℕ → Type 0} {N : ℕ} {s : List ℕ} {w : List Entry} {S : Laid} {n : ℕ} {F : Bool} → firstData geo < N → N < 2 ^ 32 → N ≡ blocksIn s → ClosedCard geo X N (blockAt s) w S n F
+      → Behind X X N s [] w S n F
   none-behind big small size card = record { big = big; small = small; size = size; off = tt; whole = tt; spared = λ a y. (y, tt); card = card }
 
   module _ {X Y : ℕ → Type 0} {N : ℕ} {s : List ℕ} {q₀ : List Entry} {w : List Entry} {S : Laid} {n : ℕ} {F : Bool} (b : Behind X Y N s q₀ w S n F) (t ms : List ℕ) where

@@ -9,28 +9,28 @@ use native.Mathlib.Decide.{decLe}
 use lib.ListN.{length}
 use Rattle.cells.specs.Entry.{blockBytes, Entry}
 use Rattle.crash.specs.Laid.{Laid}
-use Rattle.card.specs.Card.{Card, run}
+use Rattle.card.specs.Card.{Card, queue, run}
 use Rattle.card.specs.CodeQueue.{Below}
-use Rattle.card.proofs.Runs.{queue-below}
+use Rattle.card.proofs.Runs.{queue-below, below-queue}
 use Rattle.card.specs.Marks.{marksFit}
 use Rattle.card.proofs.MarkLaws.{HeaderLast}
 use Rattle.journal.specs.Geometry.{Geometry}
-use Rattle.crash.proofs.Batches.{Left, no-queue}
+use Rattle.crash.proofs.Batches.{Left}
 use Rattle.store.specs.declared.record.Record.{Record}
 use Rattle.store.specs.State.{State, Outcome, down, withMode, withLog, withRecord, withCard, cardIn}
 use Rattle.store.specs.Saves.{carried}
 use Rattle.store.proofs.Causes.{SizeFacts, sizes-facts}
 use Rattle.history.specs.Call.{Call, get}
-use Rattle.history.specs.Plain.{Plain, Short, headerWaits, Done, plainStep, cutShort}
+use Rattle.history.specs.Plain.{Plain, Short, addresses, headerWaits, Done, plainStep, cutShort}
 use Rattle.history.specs.Dispatch.{dispatch}
 use Rattle.history.specs.Ledger.{PlannedHeader, noted, settledBy}
-use Rattle.history.specs.History.{World, ledgerNext, foundWritten}
-use Rattle.crash.proofs.Plans.{Plan, planned, takes, settles, fits-none, Asked, Throughout, length-planned, Stopped, plan-short}
+use Rattle.history.specs.History.{World, ledgerNext, fed}
+use Rattle.crash.proofs.Plans.{Plan, planned, takes, settles, Asked, Throughout, length-planned, Stopped, plan-short}
 use Rattle.history.proofs.Relation.CauseLaws.{RecordFacts, facts-sizes, record-facts, facts-record}
 use Rattle.history.proofs.Relation.Sim.{Basics, Sim, CutLeads}
 use Rattle.history.proofs.Steps.Shown.{StepOK, sim-step, sim-at, small-N}
 use Rattle.history.proofs.Steps.CallEnds.{carried-done, carried-short}
-use Rattle.history.proofs.Steps.Ends.{sizes-kept, openPlain, Ends, ends-left, ends-sim}
+use Rattle.history.proofs.Steps.Ends.{sizes-kept, openPlain, waiting-left, Ends, ends-left, ends-sim}
 
 -- ---- what is asked of the record of a call cut short
 
@@ -49,10 +49,10 @@ module _ (geo : Geometry) where
 -- ---- what is asked wherever the call can be cut short: how many writes wait, whether a header does, and that every cut leads to what the
 -- plain disk chooses
 
-abbrev pub cutFrom : (ℕ → Short) → (ℕ → ℕ) → ℕ → Plain → Plain
-cutFrom short waits k d = cutShort (short k) (waits k) d .plain
-
 module _ (geo : Geometry) where
+  abbrev pub cutFrom : (ℕ → Short) → (ℕ → ℕ) → ℕ → Plain → Plain
+  cutFrom short waits k d = cutShort geo (short k) (waits k) d .plain
+
   pub record CutsAt (w : World) (headers : List PlannedHeader) (short : ℕ → Short) (waits : ℕ → ℕ) (s : List ℕ) (q : List Entry) (k : ℕ) : Type 0 where
     pub waiting : waits k ≡ length q
     pub top : HeaderLast (headerWaits geo (short k) (w .plain .n) (length (w .plain .G))) q
@@ -74,13 +74,13 @@ module _ (geo : Geometry) where
     pub short : ℕ → Short
     pub waits : ℕ → ℕ
     pub S : Laid
-    pub plain-done : takes plan ≤ w .plain .power
-        → plainStep geo c (fed geo c w) (w .plain) ≡ record { answer = 0; orders = takes plan; plain = openPlain geo (w .store) done S (w .plain .power - takes plan) }
-    pub plain-short : w .plain .power < takes plan → plainStep geo c (fed geo c w) (w .plain) ≡ cutShort (short (w .plain .power)) (waits (w .plain .power)) (w .plain)
-    -- cut short
-    pub cuts : Throughout (CutsAt w headers short waits) [] plan (w .store .settled) 0
-    -- done
     pub list : List Entry
+    pub plain-done : takes plan ≤ w .plain .power
+        → plainStep geo c (fed geo c w) (w .plain) ≡ record { answer = 0; orders = takes plan; plain = openPlain geo (w .store) done S (w .plain .power - takes plan) (addresses list) }
+    pub plain-short : w .plain .power < takes plan → plainStep geo c (fed geo c w) (w .plain) ≡ cutShort geo (short (w .plain .power)) (waits (w .plain .power)) (w .plain)
+    -- cut short
+    pub cuts : Throughout (CutsAt w headers short waits) (queue (cardIn (w .store))) plan (w .store .settled) 0
+    -- done
     pub noted-all : noted headers (takes plan) (w .ledger) ≡ settledBy list
     pub ends : Ends geo (w .store) plan done S list
     pub no-get : (a : ℕ) → c ≡ get a → ⊥
@@ -104,9 +104,6 @@ module _ (geo : Geometry) where
     rc : RecordFacts geo st
     rc = record-facts geo st (b .counts)
 
-    begins : Left (cardIn st) (cardIn st) (st .settled) [] (st .rec .power)
-    begins = record { settled = refl; waits = no-queue (cardIn st) (f .ends .none-waits); count = f .ends .none-waits; power = refl; room = refl }
-
     -- its two ends on the store
     done-call : takes plan ≤ P → dispatch geo c st ≡ record { answer = 0; orders = takes plan; state = withCard r (withRecord (f .done) st) }
     done-call p =
@@ -118,8 +115,8 @@ module _ (geo : Geometry) where
         let e : length (planned plan) ≡ takes plan = length-planned plan in
         f .call ∙ carried-short (planned plan) (f .done) (f .gone) st (omega arith)
 
-    pub stopped : (X : Asked) (k : ℕ) → k ≡ P → P < takes plan → Throughout X [] plan (st .settled) 0 → Stopped geo N (cardIn st) r X (st .settled) k
-    stopped X k e p x = plan-short geo N (cardIn st) (small-N geo st (w .plain) b) (sz .waiting) X plan (cardIn st) (st .settled) [] P 0 k (omega arith) begins tt (fits-none geo N plan (f .ends .fits)) p x
+    pub stopped : (X : Asked) (k : ℕ) → k ≡ P → P < takes plan → Throughout X (queue (cardIn (w .store))) plan (st .settled) 0 → Stopped geo N (cardIn st) r X (st .settled) k
+    stopped X k e p x = plan-short geo N (cardIn st) (small-N geo st (w .plain) b) (sz .waiting) X plan (cardIn st) (st .settled) (queue (cardIn (w .store))) P 0 k (omega arith) (waiting-left st) (below-queue N (cardIn st) (rc .waiting-below)) (f .ends .fits) p x
 
     shows : (k : ℕ) (o : Outcome) (d : Done) → dispatch geo c st ≡ o → plainStep geo c (fed geo c w) (w .plain) ≡ d → o .answer ≡ d .answer → o .orders ≡ k → d .orders ≡ k
         → Sim geo (o .state) (noted (f .headers) k (w .ledger)) (d .plain) → StepOK geo c w
@@ -136,7 +133,7 @@ module _ (geo : Geometry) where
     done-step : takes plan ≤ P → StepOK geo c w
     done-step p =
         shows (takes plan) _ _ (done-call p) (f .plain-done (omega (arith, b .power))) refl refl refl
-        (sim-at geo refl (f .noted-all) (ap (λ (k : ℕ). openPlain geo st (f .done) (f .S) (k - takes plan)) (b .power)) (ends-sim geo st plan (f .done) (f .S) (f .list) (b .sizes) (b .counts) (f .ends) p))
+        (sim-at geo refl (f .noted-all) (ap (λ (k : ℕ). openPlain geo st (f .done) (f .S) (k - takes plan) (addresses (f .list))) (b .power)) (ends-sim geo st plan (f .done) (f .S) (f .list) (b .sizes) (b .counts) (f .ends) p))
 
     -- with less
     short-step : P < takes plan → StepOK geo c w
@@ -152,7 +149,7 @@ module _ (geo : Geometry) where
         below = queue-below N r (rw (x .left .waits) (x .low))
 
         now : Sim geo (withCard r (withRecord (withMode down (f .gone)) st)) (noted (f .headers) (w .plain .power) (w .ledger))
-            (cutFrom (f .short) (f .waits) (w .plain .power) (w .plain))
+            (cutFrom geo (f .short) (f .waits) (w .plain .power) (w .plain))
         now = record {
           basics = record {
             sizes = facts-sizes geo _ (sizes-kept geo st _ settled-size (x .left .room) refl sz);
@@ -163,12 +160,11 @@ module _ (geo : Geometry) where
                   group-count = f .counts .group-count;
                   log-count = f .counts .log-count;
                   waiting-count = rw (x .left .count) (x .few);
-                  waiting-down = λ z. refl;
                   blocks = f .counts .blocks ∙ rc .blocks ∙ ap (λ (k : ℕ). k / blockBytes) (sym settled-size);
                   waiting-below = rw (f .counts .blocks) below;
                   lists = λ z. absurd (omega arith);
                 });
-            mirrors = record { mode = refl; N = b .mirrors .N ∙ sym (f .counts .blocks); waiting = x .met .waiting ∙ sym (x .left .count); T = λ z. absurd (omega arith); G = λ z. absurd (omega arith); save = λ z. absurd (omega arith) };
+            mirrors = record { mode = refl; N = b .mirrors .N ∙ sym (f .counts .blocks); waiting = x .met .waiting ∙ sym (x .left .count); T = λ z. absurd (omega arith); G = λ z. absurd (omega arith); save = λ z. absurd (omega arith); log = λ z. absurd (omega arith); writes = λ z. absurd (omega arith) };
             power = sym (x .left .power);
           };
           phase = _⊎_.inr (_⊎_.inr (record { mode = refl; top = rw (x .left .waits) (x .met .top); cuts = λ ms h. rw (f .counts .blocks) (x .met .leads _ (x .left) ms (ap (marksFit ms) (sym (x .left .waits)) ∙ h)) }));
@@ -197,5 +193,5 @@ module _ (geo : Geometry) where
         go (yes p) = absurd (let z : _≡_ {A = ℕ} 0 4 = sym (ap (λ (o : Outcome). o .answer) (done-call p)) ∙ e in omega arith)
         go (no p) = omega arith
 
-    pub gives-settled : takes plan ≤ P → dispatch geo c st .state .settled ≡ settles [] plan (st .settled)
+    pub gives-settled : takes plan ≤ P → dispatch geo c st .state .settled ≡ settles (queue (cardIn (w .store))) plan (st .settled)
     gives-settled p = ap (λ (o : Outcome). o .state .settled) (done-call p) ∙ ends-left geo st plan (f .done) (f .S) (f .list) (b .sizes) (b .counts) (f .ends) p .settled

@@ -4,15 +4,18 @@ use mathlib.Core.Path.{_≡_, refl, ap, sym, subst, _∙_}
 use mathlib.Core.Logic.{_⊎_}
 use mathlib.Core.Bool.{Bool, true}
 use mathlib.Core.List.{List}
+use lib.ListN.{take}
 use native.Mathlib.Omega.{arith}
 use native.Mathlib.Decide.{ℕ-discrete}
 use Rattle.cells.specs.Entry.{Entry}
 use Rattle.crash.specs.Laid.{Laid}
-use Rattle.store.specs.State.{State, closed}
+use Rattle.card.specs.Card.{queue}
+use Rattle.store.specs.State.{State, closed, cardIn}
+use Rattle.journal.specs.Log.{entries}
 use Rattle.store.proofs.Causes.{needsOpen}
 use Rattle.journal.specs.Geometry.{Geometry}
 use Rattle.history.specs.Call.{Call, requestOf}
-use Rattle.history.specs.Plain.{Plain, withS, withCount, inMode, withPower, withF, blankPlain, refusal}
+use Rattle.history.specs.Plain.{Plain, addresses, withS, withCount, inMode, withPower, withWaiting, withF, withLog, withWrites, withLoose, blankPlain, refusal}
 use Rattle.history.specs.Ledger.{Ledger, settledBy}
 use Rattle.history.specs.History.{World}
 use Rattle.history.proofs.Relation.Sim.{Basics, OpenSim, ClosedSim, Sim}
@@ -21,7 +24,6 @@ use Rattle.history.proofs.Relation.CauseLaws.{record-facts, idle, cause
 use Rattle.history.proofs.Steps.Shown.{WorldSim, StepOK, same-cause, refused-step}
 use Rattle.history.proofs.Steps.Local.{is-open}
 use Rattle.history.proofs.Steps.Ends.{openPlain}
-use Rattle.history.proofs.Relation.OpenFacts as Facts
 
 -- every header settled, the last one's list v
 abbrev pub settledLedger : List Entry → Ledger
@@ -29,7 +31,7 @@ settledLedger v = settledBy v
 
 module _ (geo : Geometry) where
   abbrev pub plainNow : State → Laid → Plain
-  plainNow st S = openPlain geo st (st .rec) S (st .rec .power)
+  plainNow st S = withWaiting (st .rec .waiting) (withWrites (addresses (queue (cardIn st))) (openPlain geo st (st .rec) S (st .rec .power) (addresses (entries geo (st .settled) (st .rec .logged)))))
 
   abbrev pub openWorld : State → List Entry → Laid → Bool → World
   openWorld st v S x = record { store = st; ledger = settledLedger v; plain = plainNow st S; excepted = x }
@@ -42,15 +44,13 @@ module _ (geo : Geometry) where
   opened-sim f = record { basics = f .basics; phase = _⊎_.inl (f .sim) }
 
   module _ (w : World) (b : Basics geo (w .store) (w .plain)) (o : OpenSim geo (w .store) (w .ledger) (w .plain)) where
-    idle-open : w .store .rec .waiting ≡ 0
-    idle-open = Facts.none-waits geo (w .store) (w .ledger) (w .plain) b o
-
     open-ledger : w .ledger ≡ settledLedger (w .ledger .written)
     open-ledger = ledger-eq refl (o .pending)
 
     open-plain : w .plain ≡ plainNow (w .store) (w .plain .S)
     open-plain =
-        plain-eq (b .mirrors .N) refl (b .mirrors .G (o .mode)) (b .mirrors .T (o .mode)) (o .n) (b .mirrors .mode ∙ o .mode) (b .power) (b .mirrors .waiting ∙ idle-open) (o .short) (o .F)
+        plain-eq (b .mirrors .N) refl (b .mirrors .G (o .mode)) (b .mirrors .T (o .mode)) (o .n) (b .mirrors .mode ∙ o .mode) (b .power) (b .mirrors .waiting) (o .short) (o .F)
+        (b .mirrors .log (o .mode)) (b .mirrors .writes (o .mode)) (o .loose)
 
     pub open-world : w ≡ openWorld (w .store) (w .ledger .written) (w .plain .S) (w .excepted)
     open-world = λ i. record {
@@ -62,8 +62,8 @@ module _ (geo : Geometry) where
 
     pub opened : Opened (w .store) (w .ledger .written) (w .plain .S)
     opened = record {
-      basics = record { sizes = b .sizes; counts = b .counts; mirrors = record { mode = sym (o .mode); N = refl; waiting = sym idle-open; T = λ z. refl; G = λ z. refl; save = b .mirrors .save }; power = refl };
-      sim = record { mode = o .mode; n = refl; F = refl; short = refl; pending = refl; sum = o .sum; card = o .card };
+      basics = record { sizes = b .sizes; counts = b .counts; mirrors = record { mode = sym (o .mode); N = refl; waiting = refl; T = λ z. refl; G = λ z. refl; save = b .mirrors .save; log = λ z. refl; writes = λ z. refl }; power = refl };
+      sim = record { mode = o .mode; n = refl; F = refl; short = refl; loose = refl; pending = refl; sum = o .sum; waits = o .waits; card = o .card };
     }
 
     pub opened-refusal : (c : Call) → refusal geo c (w .plain) ≡ 0 → refusal geo c (plainNow (w .store) (w .plain .S)) ≡ 0
@@ -81,31 +81,32 @@ module _ (geo : Geometry) where
 
 -- ---- closed
 
-abbrev pub plainShut : State → Laid → ℕ → Bool → Plain
-plainShut st S n F = inMode closed (withF F (withCount n (withPower (st .rec .power) (withS S (blankPlain (st .rec .blocks))))))
+-- the log's addresses are those of the first n entries of the list v
+abbrev pub plainShut : State → List Entry → Laid → ℕ → Bool → List ℕ → Plain
+plainShut st v S n F loose = inMode closed (withF F (withCount n (withLog (addresses (take n v)) (withLoose loose (withPower (st .rec .power) (withS S (blankPlain (st .rec .blocks))))))))
 
-abbrev pub closedWorld : State → List Entry → Laid → ℕ → Bool → Bool → World
-closedWorld st v S n F x = record { store = st; ledger = settledLedger v; plain = plainShut st S n F; excepted = x }
+abbrev pub closedWorld : State → List Entry → Laid → ℕ → Bool → List ℕ → Bool → World
+closedWorld st v S n F loose x = record { store = st; ledger = settledLedger v; plain = plainShut st v S n F loose; excepted = x }
 
 module _ (geo : Geometry) where
-  pub record Closed (st : State) (v : List Entry) (S : Laid) (n : ℕ) (F : Bool) : Type 0 where
-    pub basics : Basics geo st (plainShut st S n F)
-    pub sim : ClosedSim geo st (settledLedger v) (plainShut st S n F)
+  pub record Closed (st : State) (v : List Entry) (S : Laid) (n : ℕ) (F : Bool) (loose : List ℕ) : Type 0 where
+    pub basics : Basics geo st (plainShut st v S n F loose)
+    pub sim : ClosedSim geo st (settledLedger v) (plainShut st v S n F loose)
 
-  pub closed-sim : {st : State} {v : List Entry} {S : Laid} {n : ℕ} {F : Bool} → Closed st v S n F → Sim geo st (settledLedger v) (plainShut st S n F)
+  pub closed-sim : {st : State} {v : List Entry} {S : Laid} {n : ℕ} {F : Bool} {loose : List ℕ} → Closed st v S n F loose → Sim geo st (settledLedger v) (plainShut st v S n F loose)
   closed-sim f = record { basics = f .basics; phase = _⊎_.inr (_⊎_.inl (f .sim)) }
 
   module _ (w : World) (b : Basics geo (w .store) (w .plain)) (o : ClosedSim geo (w .store) (w .ledger) (w .plain)) where
     pub idle-closed : w .store .rec .waiting ≡ 0
-    idle-closed = idle geo (w .store) (record-facts geo (w .store) (b .counts)) (λ z. omega (arith, o .mode))
+    idle-closed = idle geo (w .store) (record-facts geo (w .store) (b .counts)) (o .mode)
 
     closed-ledger : w .ledger ≡ settledLedger (w .ledger .written)
     closed-ledger = ledger-eq refl (o .pending)
 
-    closed-plain : w .plain ≡ plainShut (w .store) (w .plain .S) (w .plain .n) (w .plain .F)
-    closed-plain = plain-eq (b .mirrors .N) refl (o .G) (o .T) refl (b .mirrors .mode ∙ o .mode) (b .power) (b .mirrors .waiting ∙ idle-closed) (o .short) refl
+    closed-plain : w .plain ≡ plainShut (w .store) (w .ledger .written) (w .plain .S) (w .plain .n) (w .plain .F) (w .plain .loose)
+    closed-plain = plain-eq (b .mirrors .N) refl (o .G) (o .T) refl (b .mirrors .mode ∙ o .mode) (b .power) (b .mirrors .waiting ∙ idle-closed) (o .short) refl (o .log) (o .writes) refl
 
-    pub closed-world : w ≡ closedWorld (w .store) (w .ledger .written) (w .plain .S) (w .plain .n) (w .plain .F) (w .excepted)
+    pub closed-world : w ≡ closedWorld (w .store) (w .ledger .written) (w .plain .S) (w .plain .n) (w .plain .F) (w .plain .loose) (w .excepted)
     closed-world = λ i. record {
       store = w .store;
       ledger = closed-ledger i;
@@ -113,13 +114,13 @@ module _ (geo : Geometry) where
       excepted = w .excepted;
     }
 
-    pub shut : Closed (w .store) (w .ledger .written) (w .plain .S) (w .plain .n) (w .plain .F)
+    pub shut : Closed (w .store) (w .ledger .written) (w .plain .S) (w .plain .n) (w .plain .F) (w .plain .loose)
     shut = record {
       basics = record {
         sizes = b .sizes;
         counts = b .counts;
-        mirrors = record { mode = sym (o .mode); N = refl; waiting = sym idle-closed; T = λ z. absurd (omega (arith, o .mode)); G = λ z. absurd (omega (arith, o .mode)); save = λ z. absurd (omega (arith, o .mode)) };
+        mirrors = record { mode = sym (o .mode); N = refl; waiting = sym idle-closed; T = λ z. absurd (omega (arith, o .mode)); G = λ z. absurd (omega (arith, o .mode)); save = λ z. absurd (omega (arith, o .mode)); log = λ z. absurd (omega (arith, o .mode)); writes = λ z. absurd (omega (arith, o .mode)) };
         power = refl;
       };
-      sim = record { mode = o .mode; T = refl; G = refl; short = refl; pending = refl; save = o .save; card = o .card };
+      sim = record { mode = o .mode; T = refl; G = refl; short = refl; writes = refl; log = refl; pending = refl; save = o .save; card = o .card };
     }
