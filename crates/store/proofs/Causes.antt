@@ -8,7 +8,7 @@ use mathlib.Core.List.{List}
 use native.Mathlib.Omega.{arith}
 use native.Mathlib.Numerals.{add-one}
 use native.Mathlib.Decide.{ℕ-discrete}
-use borrow.Author.Tests.{eq-eqb, ne-eqb, eqb-true, ltb-true, ltb-false, not-false}
+use borrow.Author.Tests.{eq-eqb, ne-eqb, eqb-true, eqb-false, ltb-true, ltb-false, not-false}
 use lib.Dec.{eqb, ltb}
 use lib.ListN.{length, getD}
 use Rattle.cells.specs.Entry.{blockBytes, entryAt}
@@ -287,6 +287,18 @@ module _ (geo : Geometry) where
   -- a call that reads the record and passes finds it sound
   pub passes-sound : (q : Request) (st : State) (n : ℕ) → readsRecord geo q ≡ true → n ≡ cause geo q st → n ≡ 0 → Checked geo st
   passes-sound q st n r e z = let p = cause-passes q st n e z in sound geo st (p .sizes) (other _ _ (p .counts) r)
+
+  -- one that needs an open record finds it open, and so many waiting writes at most
+  pub passes-open : (q : Request) (st : State) (n : ℕ) → readsRecord geo q ≡ true → needsOpen geo q ≡ true → n ≡ cause geo q st → n ≡ 0 → st .rec .mode ≡ openMode
+  passes-open q st n r o e z =
+      let p = cause-passes q st n e z in
+      only (st .rec .mode) (passes-sound q st n r e z .counts .mode) (eqb-false _ _ (other _ _ (p .not-closed) o)) (eqb-false _ _ (other _ _ (p .not-down) o))
+    where
+      only : (m : ℕ) → m ≤ down → m ≢ closed → m ≢ down → m ≡ openMode
+      only m l c d = omega arith
+
+  pub passes-waits : (q : Request) (st : State) (n : ℕ) → readsRecord geo q ≡ true → needsOpen geo q ≡ true → n ≡ cause geo q st → n ≡ 0 → st .rec .waiting ≤ geo .direct
+  passes-waits q st n r o e z = open-waits geo st (passes-sound q st n r e z .counts) (passes-open q st n r o e z)
 
   -- ---- the first rows, shared by the calls
 

@@ -7,7 +7,7 @@ use Rattle.journal.specs.Geometry.{trap}
 use Rattle.store.specs.State.{State}
 use Rattle.store.specs.CodeState.{stateOf}
 use Rattle.store.specs.Causes.{wrongSizes, wrongCounts, wrongWaiting}
-use Rattle.store.proofs.Causes.{sizes-facts, counts-facts}
+use Rattle.store.proofs.Causes.{sizes-facts, any-waits, counts-facts}
 use borrow.Author.Needs.{needs}
 use Rattle.store.proofs.record.Record.bad_record.Statement.{statement}
 use Rattle.store.proofs.record.Record.bad_record.Tie as tie
@@ -41,6 +41,7 @@ wrong-waiting-requires : tie.Need-wrong-waiting-requires
 wrong-waiting-requires c κs =
     let s = sizes-facts trap (given (c .before .before .before .before .before .before .before)) (sized (c .before .before)) in
     let n = counts-facts trap (given (c .before .before .before .before .before .before .before)) (counted c) in
+    let few = any-waits trap (given (c .before .before .before .before .before .before .before)) n in
     omega arith
 
 returns-3 : tie.Need-returns-3

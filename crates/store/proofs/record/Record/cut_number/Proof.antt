@@ -11,7 +11,7 @@ use Rattle.store.specs.State.{State, cardIn}
 use Rattle.store.specs.CodeState.{stateOf}
 use Rattle.store.specs.Request.{power, cut}
 use Rattle.store.specs.Causes.{first, cause}
-use Rattle.store.proofs.Causes.{ownRows, cause-2, passes-sound}
+use Rattle.store.proofs.Causes.{any-waits, ownRows, cause-2, passes-sound}
 use borrow.Author.Needs.{needs}
 use Rattle.store.proofs.record.Record.cut_number.Statement.{statement}
 use Rattle.store.proofs.record.Record.cut_number.Tie as tie
@@ -36,6 +36,7 @@ fit-requires : tie.Need-fit-requires
 fit-requires c κs =
     let b = c .before in
     let s = passes-sound trap (power 0) (given (b .before .before .before .before .before)) (b .bad-record .result) refl (b .bad-record .ensures) (c .if1 .left) in
+    let few = any-waits trap (given (b .before .before .before .before .before)) (s .counts) in
     omega arith
 
 returns-2 : tie.Need-returns-2

@@ -24,22 +24,25 @@ abbrev log-lookup : tie.Start → Found
 log-lookup c = lastSlot (c .args .settled .now) (c .args .address) (c .args .self .logged)
 
 -- what each found
-in-open : (c : tie.After-i) → open-lookup (c .before .before .before .before .before) ≡ At (c .i .given .0 .0)
+in-open : (c : tie.After-i) → open-lookup (c .before .before .before .before .before .before) ≡ At (c .i .given .0 .0)
 in-open c = sym (c .before .before .find .ensures) ∙ c .i .given .1
 
-no-open : (c : tie.After-enum-told) → open-lookup (c .before .before .before .before .before) ≡ Absent
+no-open : (c : tie.After-enum-told) → open-lookup (c .before .before .before .before .before .before) ≡ Absent
 no-open c = sym (c .before .before .find .ensures) ∙ c .enum-told .given .1
 
-in-group : (c : tie.After-j) → group-lookup (c .before .before .before .before .before .before .before .before) ≡ At (c .j .given .0 .0)
+in-group : (c : tie.After-j) → group-lookup (c .before .before .before .before .before .before .before .before .before) ≡ At (c .j .given .0 .0)
 unfolding trap
 in-group c = sym (c .before .before .find2 .ensures) ∙ c .j .given .1
 
-no-group : (c : tie.After-enum-told2) → group-lookup (c .before .before .before .before .before .before .before .before) ≡ Absent
+no-group : (c : tie.After-enum-told2) → group-lookup (c .before .before .before .before .before .before .before .before .before) ≡ Absent
 unfolding trap
 no-group c = sym (c .before .before .find2 .ensures) ∙ c .enum-told2 .given .1
 
-in-log : (c : tie.After-k) → log-lookup (c .before .before .before .before .before .before .before .before .before .before .before) ≡ At (c .k .given .0 .0)
+in-log : (c : tie.After-k) → log-lookup (c .before .before .before .before .before .before .before .before .before .before .before .before) ≡ At (c .k .given .0 .0)
 in-log c = sym (c .before .before .last-slot .ensures) ∙ c .k .given .1
+
+no-log : (c : tie.After-enum-told3) → log-lookup (c .before .before .before .before .before .before .before .before .before .before .before .before) ≡ Absent
+no-log c = sym (c .before .before .last-slot .ensures) ∙ c .enum-told3 .given .1
 
 find-requires : tie.Need-find-requires
 find-requires c κs = search needs
@@ -69,50 +72,52 @@ enum-known-k c = search needs
 enum-told-3 : tie.Need-enum-told-3
 enum-told-3 c = search needs
 
-mul-t12 : tie.Need-mul-t12
-mul-t12 c = search needs
+unlogged-requires : tie.Need-unlogged-requires
+unlogged-requires c κs = search needs
 
 returns : tie.Need-returns
 unfolding newest
-returns c = λ w. rw (no-open (c .before .before .before .before .before .before), no-group (c .before .before .before), ← c .before .before .last-slot .ensures, c .enum-told3 .given .1)
+returns c =
+    let a = c .before .before .before .before .before .before .before .before .before .before .before .before .before .args in
+    rw (no-open (c .before .before .before .before .before .before .before), no-group (c .before .before .before .before), no-log (c .before)) (c .unlogged .ensures (a .settled .now) (a .work .now))
 
-add-t13 : tie.Need-add-t13
+add-t12 : tie.Need-add-t12
 unfolding trap
-add-t13 c =
-    let a = c .before .before .before .before .before .before .before .before .before .before .before .before .args in
+add-t12 c =
+    let a = c .before .before .before .before .before .before .before .before .before .before .before .before .before .args in
     let inside = last-at (slotAddress (a .settled .now)) (a .address) (a .self .logged) (c .before .k .given .0 .0) (in-log (c .before)) in
     omega arith
 
-cast-t14 : tie.Need-cast-t14
-cast-t14 c = search needs
+cast-t13 : tie.Need-cast-t13
+cast-t13 c = search needs
 
-mul-t15 : tie.Need-mul-t15
-mul-t15 c = search needs
+mul-t14 : tie.Need-mul-t14
+mul-t14 c = search needs
 
 returns-2 : tie.Need-returns-2
 unfolding newest trap
-returns-2 c = λ w. rw (no-open (c .before .before .before .before .before .before .before), no-group (c .before .before .before .before), in-log (c .before))
+returns-2 c = rw (no-open (c .before .before .before .before .before .before .before), no-group (c .before .before .before .before), in-log (c .before))
 
 place-of-requires : tie.Need-place-of-requires
 unfolding trap
 place-of-requires c κs =
-    let a = c .before .before .before .before .before .before .before .before .before .args in
+    let a = c .before .before .before .before .before .before .before .before .before .before .args in
     let inside = find-at (a .work .now) (groupFrom trap) (a .self .grouped) (a .address) (c .before .j .given .0 .0) (in-group (c .before)) in
     omega arith
 
 returns-3 : tie.Need-returns-3
 unfolding newest trap
-returns-3 c = λ w. rw (no-open (c .before .before .before .before .before), in-group (c .before .before), c .place-of .ensures)
+returns-3 c = rw (no-open (c .before .before .before .before .before), in-group (c .before .before), c .place-of .ensures)
 
 place-of-requires-2 : tie.Need-place-of-requires-2
 place-of-requires-2 c κs =
-    let a = c .before .before .before .before .before .before .args in
+    let a = c .before .before .before .before .before .before .before .args in
     let inside = find-at (a .work .now) openFrom (a .self .opened) (a .address) (c .before .i .given .0 .0) (in-open (c .before)) in
     omega arith
 
 returns-4 : tie.Need-returns-4
 unfolding newest
-returns-4 c = λ w. rw (in-open (c .before .before), c .place-of2 .ensures)
+returns-4 c = rw (in-open (c .before .before), c .place-of2 .ensures)
 
 pub newest-spec : {M : Type 1} → statement M
 newest-spec =
@@ -127,11 +132,11 @@ newest-spec =
     last-slot-requires
     enum-known-k
     enum-told-3
-    mul-t12
+    unlogged-requires
     returns
-    add-t13
-    cast-t14
-    mul-t15
+    add-t12
+    cast-t13
+    mul-t14
     returns-2
     place-of-requires
     returns-3

@@ -1,38 +1,50 @@
+-- `store::record::Record::unlogged` meets its contract.
+use mathlib.Core.Path.{_≡_, sym, _∙_}
+use native.Mathlib.Omega.{arith}
 use borrow.Author.Needs.{needs}
+use Rattle.journal.specs.Geometry.{trap}
+use Rattle.journal.specs.declared.lookup.Found.{Found}
+use Rattle.journal.specs.declared.lookup.Found.the-variants.{At, Absent}
+use Rattle.store.specs.Lists.{find}
+use Rattle.store.specs.Get.{waitingFrom}
+use Rattle.store.proofs.Lookups.{find-at}
 use Rattle.store.proofs.record.Record.unlogged.Statement.{statement}
 use Rattle.store.proofs.record.Record.unlogged.Tie as tie
-use Rattle.store.proofs.record.Record.unlogged.Reads as reads
-use Rattle.store.proofs.record.Record.unlogged.Lts as lts
-use Rattle.store.proofs.lists.find.Reads as find-reads
-use Rattle.store.proofs.lists.place_of.Reads as place-of-reads
 
--- src/get.rt:102:28
+-- the lookup, and what it found
+abbrev lookup : tie.Start → Found
+lookup c = find (c .args .waiting .now) waitingFrom (c .args .self .waiting) (c .args .address)
+
+in-waiting : (c : tie.After-i) → lookup (c .before .before .before .before) ≡ At (c .i .given .0 .0)
+in-waiting c = sym (c .before .before .find .ensures) ∙ c .i .given .1
+
+none-waits : (c : tie.After-enum-told) → lookup (c .before .before .before .before) ≡ Absent
+none-waits c = sym (c .before .before .find .ensures) ∙ c .enum-told .given .1
+
 find-requires : tie.Need-find-requires
 find-requires c κs = search needs
 
--- src/get.rt:102:23
 enum-known-i : tie.Need-enum-known-i
 enum-known-i c = search needs
 
--- src/get.rt:103:44
 enum-told : tie.Need-enum-told
 enum-told c = search needs
 
--- src/get.rt:103:35
 mul-t7 : tie.Need-mul-t7
 mul-t7 c = search needs
 
--- src/get.rt:103:13
 returns : tie.Need-returns
-returns c = ?
+returns c = λ s k. rw (none-waits c)
 
--- src/get.rt:105:24
 place-of-requires : tie.Need-place-of-requires
-place-of-requires c κs = ?
+unfolding trap
+place-of-requires c κs =
+    let a = c .before .before .before .before .before .args in
+    let inside = find-at (a .waiting .now) waitingFrom (a .self .waiting) (a .address) (c .before .i .given .0 .0) (in-waiting (c .before)) in
+    omega arith
 
--- src/get.rt:97:5
 returns-2 : tie.Need-returns-2
-returns-2 c = ?
+returns-2 c = λ s k. rw (in-waiting (c .before .before), c .place-of .ensures)
 
 pub unlogged-spec : {M : Type 1} → statement M
 unlogged-spec =
