@@ -1,26 +1,26 @@
 -- The figures of the calls that give orders, in closed form.
 use Prim.Native.Nat.{ℕ, _+_, _≤_, _<_, max}
 use mathlib.Core.Path.{_≡_, refl, ap, sym, _∙_}
-use mathlib.Core.Bool.{Bool, true, false}
+use mathlib.Core.Bool.{Bool, true, false, cond}
 use mathlib.Core.Logic.{_≢_}
 use mathlib.Core.List.{List, [], _∷_, _++_, map, append-assoc, append-nil}
 use native.Mathlib.Omega.{arith}
 use native.Mathlib.Decide.{ℕ-discrete, decLe}
 use borrow.Author.Tests.{eq-eqb, ne-eqb, le-leb, lt-leb, eqb-false}
-use lib.Dec.{leb}
+use lib.Dec.{eqb, leb}
 use lib.ListN.{length, length-append}
 use Rattle.cells.specs.Upto.Laws.{length-upTo}
 use Rattle.cells.specs.Entry.{Entry}
 use Rattle.fnv.specs.Fnv.{start}
 use Rattle.card.specs.Card.{Order, write, flush}
 use Rattle.card.specs.Peak.{peak}
-use Rattle.card.proofs.Peaks.{peakFrom, peak-from, peak-none}
+use Rattle.card.proofs.Peaks.{peakFrom, peak-from, peak-none, peak-batch}
 use Rattle.journal.specs.Geometry.{Geometry}
 use Rattle.journal.specs.declared.choice.Choice.{Choice}
 use Rattle.journal.specs.declared.choice.Choice.the-variants.{Whole, Fallback, Foreign, Neither}
 use Rattle.journal.specs.Header.{header, emptyHeader}
 use Rattle.journal.specs.Log.{slotEntry, entries}
-use Rattle.journal.specs.Orders.{checkpointOrders, appendOrders, fallbackOrders, applyOrders, syncOrders}
+use Rattle.journal.specs.Orders.{barrier, checkpointOrders, appendOrders, fallbackOrders, applyOrders, syncOrders}
 use Rattle.journal.specs.Choice.{choiceNumber, choose, recoverOrders}
 use Rattle.journal.proofs.OrderLists.{headerEntry, appendWrites, append-writes, fallback-writes, length-append-orders, length-checkpoint, length-fallback}
 use Rattle.journal.proofs.Peaks.{peak-append, peak-checkpoint, peak-fallback}
@@ -32,7 +32,7 @@ use Rattle.store.specs.Request.{save, recover}
 use Rattle.store.specs.Causes.{cause}
 use Rattle.store.specs.Saves.{groupOf, saveOrders, applies}
 use Rattle.store.specs.Cost.{behindFlush, goesOn, checkpointFirst, figures, noFigures, costOf}
-use Rattle.store.proofs.Saves.{group-size}
+use Rattle.store.proofs.Saves.{barrier-none, barrier-some, group-size}
 
 -- ---- whether a checkpoint comes first
 
@@ -63,6 +63,14 @@ append-first geo N s n h c es = rw (append-writes geo N s n h c es) (batch-first
 
 fallback-first : (N p h c : ℕ) → checkpointFirst (fallbackOrders N p h c) ≡ false
 fallback-first N p h c = rw (fallback-writes N p h c) (batch-first (headerEntry (header N p h p h c) ∷ []))
+
+barrier-first : (w : ℕ) → checkpointFirst (barrier w) ≡ false
+unfolding barrier
+barrier-first w = go (eqb w 0)
+  where
+    go : (t : Bool) → checkpointFirst (cond t [] (flush ∷ [])) ≡ false
+    go true = none-first
+    go false = batch-first []
 
 -- there are orders behind it
 goes-on : (os : List Order) → 0 < length os → goesOn os ≡ true
@@ -107,7 +115,7 @@ module _ (geo : Geometry) (st : State) where
       peak-checkpoint (st .rec .blocks) (st .rec .save) (entries geo (st .settled) (st .rec .logged)) os (st .rec .waiting)
       ∙ ap (λ (k : ℕ). max (st .rec .waiting + k) (max 1 (peakFrom os 0))) (length-upTo (slotEntry geo (st .settled)) (st .rec .logged))
 
-  sync-list-none : st .rec .grouped ≡ 0 → saveOrders geo Save.sync st ≡ []
+  sync-list-none : st .rec .grouped ≡ 0 → saveOrders geo Save.sync st ≡ barrier (st .rec .waiting)
   unfolding syncOrders
   sync-list-none none = rw (group-size geo st, eq-eqb _ _ none)
 
@@ -124,16 +132,21 @@ module _ (geo : Geometry) (st : State) where
   sync-first = go (ℕ-discrete (st .rec .grouped) 0) (decLe (st .rec .logged + st .rec .grouped) (geo .slots))
     where
       go : Dec (st .rec .grouped ≡ 0) → Dec (st .rec .logged + st .rec .grouped ≤ geo .slots) → checkpointFirst (saveOrders geo Save.sync st) ≡ applies geo st
-      go (yes none) d = ap checkpointFirst (sync-list-none none) ∙ none-first ∙ rw (eq-eqb _ _ none)
+      go (yes none) d = ap checkpointFirst (sync-list-none none) ∙ barrier-first (st .rec .waiting) ∙ rw (eq-eqb _ _ none)
       go (no some) (yes room) = ap checkpointFirst (sync-list-room some room) ∙ append-first geo _ _ _ _ _ _ ∙ rw (ne-eqb _ _ some, le-leb _ _ room)
       go (no some) (no over) =
           let more : 0 < length (own 0 start) = omega (arith, length-own 0 start) in
           let full : geo .slots < st .rec .logged + st .rec .grouped = omega arith in
           ap checkpointFirst (sync-list-full some full) ∙ checkpoint-first _ _ _ (own 0 start) ∙ goes-on (own 0 start) more ∙ rw (ne-eqb _ _ some, lt-leb _ _ full)
 
-  -- no group; room for it; an apply first
-  pub sync-cost-none : st .rec .grouped ≡ 0 → figures (saveOrders geo Save.sync st) (cardIn st) ≡ served 0 false (st .rec .waiting) st
-  sync-cost-none none = ap (λ (os : List Order). figures os (cardIn st)) (sync-list-none none) ∙ no-orders st
+  -- no group, and nothing waits or something does; room for it; an apply first
+  pub sync-cost-none : st .rec .grouped ≡ 0 → st .rec .waiting ≡ 0 → figures (saveOrders geo Save.sync st) (cardIn st) ≡ served 0 false (st .rec .waiting) st
+  sync-cost-none none idle = ap (λ (os : List Order). figures os (cardIn st)) (sync-list-none none ∙ barrier-none _ idle) ∙ no-orders st
+
+  pub sync-cost-flush : st .rec .grouped ≡ 0 → st .rec .waiting ≢ 0 → figures (saveOrders geo Save.sync st) (cardIn st) ≡ served 1 false (st .rec .waiting) st
+  sync-cost-flush none busy =
+      let top : peakFrom (flush ∷ []) (st .rec .waiting) ≡ st .rec .waiting = peak-batch [] [] (st .rec .waiting) ∙ (omega (arith, peak-none 0)) in
+      ap (λ (os : List Order). figures os (cardIn st)) (sync-list-none none ∙ barrier-some _ busy) ∙ measured (flush ∷ []) st 1 false _ refl (batch-first []) top
 
   pub sync-cost-room : st .rec .grouped ≢ 0 → st .rec .logged + st .rec .grouped ≤ geo .slots
       → figures (saveOrders geo Save.sync st) (cardIn st) ≡ served (st .rec .grouped + geo .descriptors + 2) false (st .rec .waiting + (st .rec .grouped + geo .descriptors + 1)) st

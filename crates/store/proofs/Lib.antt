@@ -6,4 +6,5 @@ pub mod Lookups
 pub mod Places
 pub mod Listings
 pub mod Saves
+pub mod Directs
 pub mod Costs

@@ -4,27 +4,26 @@ use mathlib.Core.Path.{_≡_, refl, ap, ap₂, sym, _∙_}
 use mathlib.Core.Bool.{Bool, true, false, cond, not}
 use mathlib.Core.Logic.{_≢_}
 use mathlib.Core.List.{List, [], _∷_, _++_, map, append-assoc}
-use native.Mathlib.Decide.{ℕ-discrete}
 use native.Mathlib.Omega.{arith}
 use borrow.Author.Tests.{eq-eqb, ne-eqb, le-leb, lt-leb, leb-true, leb-false, eqb-false}
 use lib.Dec.{eqb, leb}
 use lib.ListN.{length, length-append}
 use Rattle.cells.specs.Upto.{upTo}
 use Rattle.cells.specs.Upto.Laws.{length-upTo}
-use Rattle.cells.specs.Entry.{Entry}
+use Rattle.cells.specs.Entry.{Entry, entryAt}
 use Rattle.fnv.specs.Fnv.{start}
 use Rattle.card.specs.declared.queue.Queue.{Queue}
 use Rattle.card.specs.declared.queue.Ordered.{Ordered}
 use Rattle.card.specs.Card as Card
 use Rattle.card.specs.Card.{Card, Order, write, flush, order, run, blocksIn}
-use Rattle.card.specs.CodeQueue.{cardOf}
+use Rattle.card.specs.CodeQueue.{cardOf, Below}
 use Rattle.card.proofs.Runs.{run-nil, run-one, run-append, run-power}
 use Rattle.journal.specs.Geometry.{Geometry}
 use Rattle.journal.specs.declared.choice.Choice.{Choice}
 use Rattle.journal.specs.declared.choice.Choice.the-variants.{Whole, Fallback, Foreign, Neither}
 use Rattle.journal.specs.Header.{mostSave, emptyHeader}
 use Rattle.journal.specs.Log.{slotAddress, entries, sumOf}
-use Rattle.journal.specs.Orders.{checkpointOrders, appendOrders, applyOrders, syncOrders}
+use Rattle.journal.specs.Orders.{barrier, checkpointOrders, appendOrders, applyOrders, syncOrders}
 use Rattle.journal.specs.Choice.{choiceNumber, choose}
 use Rattle.journal.proofs.Logs.{sumOf-nil}
 use Rattle.journal.proofs.OrderLists.{headerEntry, checkpoint-writes, append-afresh}
@@ -38,7 +37,7 @@ use Rattle.store.specs.Causes.{downRow, openRow, foreignRow, unsoundRow,
 use Rattle.store.specs.Outcomes.{completed, unless}
 use Rattle.store.specs.Saves.{carried, emptying, groupOf, appending, recovering, applies, savedAs, syncing, recoverCall}
 use Rattle.store.proofs.Causes as Causes
-use Rattle.store.proofs.Causes.{Checked, readsRecord, needsOpen, other, rules-pass, cause-passes, passes-sound, cause-5}
+use Rattle.store.proofs.Causes.{Checked, readsRecord, needsOpen, other, rules-pass, cause-passes, passes-sound, cause-5, open-waits, closed-waits}
 use Rattle.store.proofs.Places.{data-lt}
 
 -- ---- orders that the card carried out
@@ -105,6 +104,21 @@ unfolding carried
 carried-none done gone st =
     let none : min 0 (st .rec .power) ≡ 0 = omega arith in
     rw (run-nil, le-leb 0 (st .rec .power) (omega arith), none)
+
+-- ---- a barrier
+
+pub barrier-none : (w : ℕ) → w ≡ 0 → barrier w ≡ []
+unfolding barrier
+barrier-none w idle = rw (eq-eqb _ _ idle)
+
+pub barrier-some : (w : ℕ) → w ≢ 0 → barrier w ≡ flush ∷ []
+unfolding barrier
+barrier-some w busy = rw (ne-eqb _ _ busy)
+
+-- nothing waits
+pub flush-none : (st : State) → st .rec .waiting ≡ 0 → st ≡ carried (barrier (st .rec .waiting)) (st .rec) (st .rec) st .state
+flush-none st idle =
+    sym (ap (λ (o : Outcome). o .state) (ap (λ (os : List Order). carried os (st .rec) (st .rec) st) (barrier-none (st .rec .waiting) idle) ∙ carried-none (st .rec) (st .rec) st))
 
 -- ---- orders in two steps, a and then b
 
@@ -178,13 +192,12 @@ module _ (geo : Geometry) where
     pub group-size : length (groupOf geo st) ≡ st .rec .grouped
     group-size = length-upTo (listed (st .work) (groupFrom geo)) (st .rec .grouped)
 
-    -- no group
-    pub sync-none : st .rec .grouped ≡ 0 → st ≡ syncing geo st .state
+    -- no group: a barrier
+    pub sync-none : st .rec .grouped ≡ 0 → carried (barrier (st .rec .waiting)) (st .rec) (st .rec) st .state ≡ syncing geo st .state
     unfolding syncOrders
     sync-none none =
-        rw (group-size, eq-eqb _ _ none)
-        ((λ j. withRecord (withQueue (st .rec .waiting) (st .rec .power) (withGrouped (none j) (withLog (more j) (sum j) (st .rec)))) st)
-        ∙ ap (λ (o : Outcome). o .state) (sym (carried-none (withGrouped 0 (withLog (st .rec .logged + st .rec .grouped) (sumOf (st .rec .sum) (groupOf geo st)) (withSave (st .rec .save) (st .rec)))) _ st)))
+        rw (group-size, eq-eqb _ _ none, le-leb 0 (st .rec .power) (omega arith))
+        (λ j. carried (barrier (st .rec .waiting)) (withGrouped (none j) (withLog (more j) (sum j) (st .rec))) (st .rec) st .state)
       where
         more : st .rec .logged ≡ st .rec .logged + st .rec .grouped
         more = omega arith
@@ -275,20 +288,13 @@ cut-state ms done st q s p d r queue card whole e =
 -- ---- a call that no row refuses
 
 module _ (geo : Geometry) where
-  -- nothing waits unless the record is down
-  pub idle : (st : State) → Checked geo st → st .rec .mode ≢ down → st .rec .waiting ≡ 0
-  idle st s live = go (ℕ-discrete (st .rec .waiting) 0)
-    where
-      go : Dec (st .rec .waiting ≡ 0) → st .rec .waiting ≡ 0
-      go (yes e) = e
-      go (no e) = absurd (live (s .counts .waiting-down e))
-
-  -- what sync and apply may count on
+  -- what the calls that give orders to an open record may count on
   pub record Ready (st : State) : Type 0 where
     pub sound : Checked geo st
     pub mode : st .rec .mode ≡ openMode
     pub live : st .rec .mode ≢ down
-    pub waiting : st .rec .waiting ≡ 0
+    pub waiting : st .rec .waiting ≤ geo .direct
+    pub below : Below (blocksIn (st .settled)) (st .waiting) (st .rec .waiting)
     pub homes : (i : ℕ) → i < st .rec .logged → slotAddress (st .settled) i < blocksIn (st .settled)
 
   pub ready : (q : Request) (st : State) (n : ℕ) → readsRecord geo q ≡ true → needsOpen geo q ≡ true → n ≡ cause geo q st → n ≡ 0 → Ready st
@@ -301,7 +307,8 @@ module _ (geo : Geometry) where
         sound = s;
         mode = mode;
         live = live;
-        waiting = idle st s live;
+        waiting = open-waits geo st (s .counts) mode;
+        below = λ i h. let low : entryAt (st .waiting) i .address < st .rec .blocks = s .waiting-below i h in omega (arith, s .counts .blocks);
         homes = λ i h. let inside = data-lt geo (st .rec .blocks) (slotAddress (st .settled) i) (s .lists mode .log-data i h) in omega (arith, s .counts .blocks);
       }
     where
@@ -317,7 +324,11 @@ module _ (geo : Geometry) where
   unopened st n e z =
       let p = rules-pass geo (ofRecord false (downRow ∷ openRow ∷ [])) st (sym e ∙ z) in
       let s = Causes.sound geo st (p .sizes) (p .counts) in
-      record { sound = s; waiting = idle st s (eqb-false _ _ (p .own .0)) }
+      let mode : st .rec .mode ≡ closed = only (st .rec .mode) (s .counts .mode) (eqb-false _ _ (p .own .0)) (eqb-false _ _ (p .own .1 .0)) in
+      record { sound = s; waiting = closed-waits geo st (s .counts) mode }
+    where
+      only : (m : ℕ) → m ≤ down → m ≢ down → m ≢ openMode → m ≡ closed
+      only m l d o = omega arith
 
   -- a sync of a nonempty group that passes row 12 has a number to give
   pub next-save : (st : State) (n : ℕ) → n ≡ cause geo sync st → n ≡ 0 → st .rec .grouped ≢ 0 → st .rec .save ≢ mostSave

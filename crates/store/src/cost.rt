@@ -56,8 +56,10 @@ impl Record {
         }
         if self.grouped == 0 {
             // A flush, if anything waits.
-            let orders = (self.waiting != 0) as u32;
-            return self.cost(orders, false, self.waiting);
+            if self.waiting == 0 {
+                return self.cost(0, false, 0);
+            }
+            return self.cost(1, false, self.waiting);
         }
         // Its own writes: log blocks, descriptor, header.
         let writes = self.grouped + DESCRIPTORS + 1;

@@ -19,7 +19,7 @@ use Rattle.store.proofs.record.Record.appended.Statement.{statement}
 use Rattle.store.proofs.record.Record.appended.Tie as tie
 
 add-save : tie.Need-add-save
-add-save c = let free = c .before .before .before .before .pre .1 .1 .1 .1 .1 in omega arith
+add-save c = let free = c .before .before .before .before .pre .1 .1 .1 .1 .1 .1 in omega arith
 
 cast-with-log : tie.Need-cast-with-log
 cast-with-log c = search needs
@@ -31,8 +31,9 @@ append-requires : tie.Need-append-requires
 unfolding trap
 append-requires c κs =
     let start = c .before .before .before .before .before .before .before in
-    let none : c .before .before .queue .result .waiting ≡ 0 = ap (λ (q : Queue). q .waiting) (c .before .before .queue .ensures) ∙ start .pre .1 .1 .0 in
-    (start .pre .0, (start .pre .1 .0, (omega arith, (omega arith, (λ i h. absurd (omega arith), omega arith)))))
+    let same : c .before .before .queue .result .waiting ≡ start .args .self .waiting = ap (λ (q : Queue). q .waiting) (c .before .before .queue .ensures) in
+    let few = start .pre .1 .1 .0 in
+    (start .pre .0, (start .pre .1 .0, (omega arith, (omega arith, (rw same (start .pre .1 .1 .1 .1 .0), omega arith)))))
 
 add-with-log : tie.Need-add-with-log
 unfolding trap

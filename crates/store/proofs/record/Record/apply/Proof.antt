@@ -57,7 +57,7 @@ returns-2 c =
 emptied-requires : tie.Need-emptied-requires
 emptied-requires c κs =
     let r = checked (c .before .before .before .before) in
-    (omega arith, (omega arith, (r .homes, (r .waiting, omega arith))))
+    (omega arith, (omega arith, (r .homes, (r .waiting, (omega arith, r .below)))))
 
 saved-requires-2 : tie.Need-saved-requires-2
 saved-requires-2 c κs =

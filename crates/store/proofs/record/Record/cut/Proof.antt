@@ -16,7 +16,7 @@ use Rattle.store.specs.Cut.{cutCall}
 use Rattle.store.proofs.Calls.{call-refused, call-done}
 use Rattle.card.proofs.MarkLaws.{fits-length}
 use Rattle.journal.specs.Geometry.{trap}
-use Rattle.store.proofs.Causes.{cause-passes, passes-sound}
+use Rattle.store.proofs.Causes.{any-waits, cause-passes, passes-sound}
 use Rattle.store.proofs.Saves.{cut-state}
 use borrow.Author.Needs.{needs}
 use Rattle.store.proofs.record.Record.cut.Statement.{statement}
@@ -52,6 +52,7 @@ cut-requires c κs =
     let s = passes-sound trap (cut (start .args .marks .now)) st (n .result) refl (n .ensures) (e .if1 .left) in
     let waits : length (queue (cardIn st)) ≡ start .args .self .waiting = length-upTo (entryAt (start .args .waiting .now)) (start .args .self .waiting) in
     let many : length (start .args .marks .now) ≡ blockBytes * length (queue (cardIn st)) = fits-length (start .args .marks .now) (queue (cardIn st)) (not-false _ (p .own .0)) in
+    let few = any-waits trap st (s .counts) in
     let held : c .before .queue .result .waiting ≡ start .args .self .waiting = ap (λ (q : Queue). q .waiting) (c .before .queue .ensures) in
     (omega arith, (λ i h. let inside : i < start .args .self .waiting = omega arith in omega (arith, s .waiting-below i inside), omega arith))
 

@@ -23,8 +23,9 @@ checkpoint-requires : tie.Need-checkpoint-requires
 unfolding trap
 checkpoint-requires c κs =
     let start = c .before .before .before .before .before in
-    let none : c .before .before .queue .result .waiting ≡ 0 = ap (λ (q : Queue). q .waiting) (c .before .before .queue .ensures) ∙ start .pre .1 .1 .1 .0 in
-    (start .pre .0, (start .pre .1 .0, (start .pre .1 .1 .0, (omega arith, (omega arith, (omega arith, λ i h. absurd (omega arith)))))))
+    let same : c .before .before .queue .result .waiting ≡ start .args .self .waiting = ap (λ (q : Queue). q .waiting) (c .before .before .queue .ensures) in
+    let few = start .pre .1 .1 .1 .0 in
+    (start .pre .0, (start .pre .1 .0, (start .pre .1 .1 .0, (omega arith, (omega arith, (omega arith, rw same (start .pre .1 .1 .1 .1 .1)))))))
 
 with-log-requires : tie.Need-with-log-requires
 with-log-requires c κs = search needs

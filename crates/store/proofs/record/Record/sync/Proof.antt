@@ -39,7 +39,7 @@ synced-requires : tie.Need-synced-requires
 synced-requires c κs =
     let r = checked (c .before .before) in
     let e = c .before .before in
-    (omega arith, ((r .mode, r .waiting), (omega arith, (r .homes, (omega arith, next-save trap (given (e .before .before .before .before .before .before .before)) (e .before .sync-number .result) (e .before .sync-number .ensures) (e .if1 .left))))))
+    (omega arith, ((r .mode, r .waiting), (r .below, (omega arith, (r .homes, (omega arith, next-save trap (given (e .before .before .before .before .before .before .before)) (e .before .sync-number .result) (e .before .sync-number .ensures) (e .if1 .left)))))))
 
 saved-requires : tie.Need-saved-requires
 saved-requires c κs =

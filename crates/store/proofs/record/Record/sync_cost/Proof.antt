@@ -10,7 +10,7 @@ use Rattle.store.specs.CodeState.{stateOf}
 use Rattle.store.specs.Save as Save
 use Rattle.store.specs.Request.{sync}
 use Rattle.store.proofs.Saves.{Ready, ready}
-use Rattle.store.proofs.Costs.{served, sync-cost-none, sync-cost-room, sync-cost-full, cost-refused, cost-served}
+use Rattle.store.proofs.Costs.{served, sync-cost-none, sync-cost-flush, sync-cost-room, sync-cost-full, cost-refused, cost-served}
 use borrow.Author.Needs.{needs}
 use Rattle.store.proofs.record.Record.sync_cost.Statement.{statement}
 use Rattle.store.proofs.record.Record.sync_cost.Tie as tie
@@ -40,9 +40,21 @@ cost-requires c κs = search needs
 
 returns-2 : tie.Need-returns-2
 returns-2 c =
-    let k = c .before .before .before in
+    let t = c .before .before .before in
+    let k = t .before .before in
     let st = given (k .before .before .before .before .before) in
-    c .cost .ensures ∙ sym (sync-cost-none trap st (c .before .if2 .taken)) ∙ cost-served trap st Save.sync _ (k .before .sync-number .ensures) (k .if1 .left)
+    c .cost .ensures ∙ same-figures _ st refl (sym (c .before .if3 .taken)) ∙ sym (sync-cost-none trap st (t .if2 .taken) (c .before .if3 .taken)) ∙ cost-served trap st Save.sync _ (k .before .sync-number .ensures) (k .if1 .left)
+
+cost-requires-2 : tie.Need-cost-requires-2
+cost-requires-2 c κs = search needs
+
+returns-3 : tie.Need-returns-3
+returns-3 c =
+    let e = c .before in
+    let t = e .before .before in
+    let k = t .before .before in
+    let st = given (k .before .before .before .before .before) in
+    c .cost2 .ensures ∙ sym (sync-cost-flush trap st (t .if2 .taken) (e .if3 .left)) ∙ cost-served trap st Save.sync _ (k .before .sync-number .ensures) (k .if1 .left)
 
 add-writes : tie.Need-add-writes
 unfolding trap
@@ -63,18 +75,18 @@ add-cost-2 : tie.Need-add-cost-2
 unfolding trap
 add-cost-2 c = let r = checked (c .before .before .before .before .before .before) in omega (arith, r .waiting, r .sound .counts .group-count)
 
-cost-requires-2 : tie.Need-cost-requires-2
-cost-requires-2 c κs = search needs
+cost-requires-3 : tie.Need-cost-requires-3
+cost-requires-3 c κs = search needs
 
-returns-3 : tie.Need-returns-3
+returns-4 : tie.Need-returns-4
 unfolding trap
-returns-3 c =
+returns-4 c =
     let t = c .before .before in
     let e = t .before .before .before in
     let k = e .before .before in
     let st = given (k .before .before .before .before .before) in
-    let room : st .rec .logged + st .rec .grouped ≤ trap .slots = leb-true _ _ (sym (t .before .fits2 .ensures) ∙ t .if3 .taken) in
-    c .cost2 .ensures ∙ same-figures _ st (omega arith) (omega arith) ∙ sym (sync-cost-room trap st (e .if2 .left) room) ∙ cost-served trap st Save.sync _ (k .before .sync-number .ensures) (k .if1 .left)
+    let room : st .rec .logged + st .rec .grouped ≤ trap .slots = leb-true _ _ (sym (t .before .fits2 .ensures) ∙ t .if4 .taken) in
+    c .cost3 .ensures ∙ same-figures _ st (omega arith) (omega arith) ∙ sym (sync-cost-room trap st (e .if2 .left) room) ∙ cost-served trap st Save.sync _ (k .before .sync-number .ensures) (k .if1 .left)
 
 add-larger : tie.Need-add-larger
 unfolding trap
@@ -95,19 +107,19 @@ add-cost-5 : tie.Need-add-cost-5
 unfolding trap
 add-cost-5 c = let r = checked (c .before .before .before .before .before .before .before .before) in omega (arith, r .sound .counts .group-count, r .sound .counts .log-count)
 
-cost-requires-3 : tie.Need-cost-requires-3
-cost-requires-3 c κs = search needs
+cost-requires-4 : tie.Need-cost-requires-4
+cost-requires-4 c κs = search needs
 
-returns-4 : tie.Need-returns-4
+returns-5 : tie.Need-returns-5
 unfolding trap
-returns-4 c =
+returns-5 c =
     let l = c .before .before in
     let t = l .before .before in
     let e = t .before .before .before in
     let k = e .before .before in
     let st = given (k .before .before .before .before .before) in
-    let over : trap .slots < st .rec .logged + st .rec .grouped = leb-false _ _ (sym (t .before .fits2 .ensures) ∙ t .if3 .left) in
-    c .cost3 .ensures ∙ same-figures _ st (omega arith) (l .larger .ensures) ∙ sym (sync-cost-full trap st (e .if2 .left) over) ∙ cost-served trap st Save.sync _ (k .before .sync-number .ensures) (k .if1 .left)
+    let over : trap .slots < st .rec .logged + st .rec .grouped = leb-false _ _ (sym (t .before .fits2 .ensures) ∙ t .if4 .left) in
+    c .cost4 .ensures ∙ same-figures _ st (omega arith) (l .larger .ensures) ∙ sym (sync-cost-full trap st (e .if2 .left) over) ∙ cost-served trap st Save.sync _ (k .before .sync-number .ensures) (k .if1 .left)
 
 pub sync-cost-spec : {M : Type 1} → statement M
 sync-cost-spec =
@@ -118,17 +130,19 @@ sync-cost-spec =
     returns
     cost-requires
     returns-2
+    cost-requires-2
+    returns-3
     add-writes
     add-writes-2
     fits-requires
     add-cost
     add-cost-2
-    cost-requires-2
-    returns-3
+    cost-requires-3
+    returns-4
     add-larger
     larger-requires
     add-cost-3
     add-cost-4
     add-cost-5
-    cost-requires-3
-    returns-4)
+    cost-requires-4
+    returns-5)

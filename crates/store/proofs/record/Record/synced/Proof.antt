@@ -29,26 +29,36 @@ over c = leb-false _ _ (sym (c .before .fits2 .ensures) ∙ c .if2 .left)
 abbrev left : tie.After-emptied → State
 left c = stateOf (c .emptied .result) (c .emptied .last .1 .0) (c .emptied .last .1 .1 .0) (c .before .before .before .before .before .before .before .before .before .before .args .work .now)
 
-returns : tie.Need-returns
-returns c =
-    let a = c .before .before .before .before .before .args in
-    sync-none trap (stateOf (a .self) (a .settled .now) (a .waiting .now) (a .work .now)) (c .if1 .taken)
-
-fits-requires : tie.Need-fits-requires
-fits-requires c κs = c .before .before .before .before .before .pre .1 .1 .0
-
-appended-requires : tie.Need-appended-requires
-unfolding trap
-appended-requires c κs =
-    let start = c .before .before .before .before .before .before .before .before .before in
-    let free = start .pre .1 .1 .1 .1 .1 (c .before .before .before .before .if1 .left) in
-    (omega arith, (room (c .before .before), (omega arith, (omega arith, (omega arith, free)))))
+flushed-requires : tie.Need-flushed-requires
+flushed-requires c κs = search needs
 
 same-length : tie.Need-same-length
 same-length c = search needs
 
 same-length-2 : tie.Need-same-length-2
 same-length-2 c = search needs
+
+returns : tie.Need-returns
+returns c =
+    let f = c .before .before in
+    let start = f .before .before .before .before .before .before .before .before in
+    f .flushed .ensures (start .args .work .now) ∙ sync-none trap (given start) (f .before .before .before .if1 .taken)
+
+fits-requires : tie.Need-fits-requires
+fits-requires c κs = c .before .before .before .before .before .pre .1 .1 .1 .0
+
+appended-requires : tie.Need-appended-requires
+unfolding trap
+appended-requires c κs =
+    let start = c .before .before .before .before .before .before .before .before .before in
+    let free = start .pre .1 .1 .1 .1 .1 .1 (c .before .before .before .before .if1 .left) in
+    (omega arith, (room (c .before .before), (start .pre .1 .0 .1, (omega arith, (start .pre .1 .1 .0, (omega arith, free))))))
+
+same-length-3 : tie.Need-same-length-3
+same-length-3 c = search needs
+
+same-length-4 : tie.Need-same-length-4
+same-length-4 c = search needs
 
 returns-2 : tie.Need-returns-2
 unfolding trap
@@ -60,13 +70,13 @@ returns-2 c =
 emptied-requires : tie.Need-emptied-requires
 emptied-requires c κs =
     let start = c .before .before .before .before .before .before .before .before .before in
-    (start .pre .0, (omega arith, (start .pre .1 .1 .1 .0, (omega arith, omega arith))))
+    (start .pre .0, (omega arith, (start .pre .1 .1 .1 .1 .0, (start .pre .1 .0 .1, (omega arith, start .pre .1 .1 .0)))))
 
-same-length-3 : tie.Need-same-length-3
-same-length-3 c = search needs
+same-length-5 : tie.Need-same-length-5
+same-length-5 c = search needs
 
-same-length-4 : tie.Need-same-length-4
-same-length-4 c = search needs
+same-length-6 : tie.Need-same-length-6
+same-length-6 c = search needs
 
 returns-3 : tie.Need-returns-3
 unfolding trap
@@ -80,14 +90,14 @@ appended-requires-2 c κs =
     let k = c .before .before .before .before .before .before .before .before in
     let start = k .before .before .before .before .before .before .before .before .before .before in
     let x = sync-on trap (given start) (k .before .before .before .before .before .if1 .left) (over (k .before .before .before)) (live start) (left k) (k .emptied .ensures _) (c .before .before .if3 .left) in
-    let free = start .pre .1 .1 .1 .1 .1 (k .before .before .before .before .before .if1 .left) in
-    (omega arith, (omega arith, (omega arith, (omega arith, (omega arith, λ e. free (sym (x .2) ∙ e))))))
+    let free = start .pre .1 .1 .1 .1 .1 .1 (k .before .before .before .before .before .if1 .left) in
+    (omega arith, (omega arith, (omega arith, (omega arith, (λ i h. absurd (omega arith), (omega arith, λ e. free (sym (x .2) ∙ e)))))))
 
-same-length-5 : tie.Need-same-length-5
-same-length-5 c = search needs
+same-length-7 : tie.Need-same-length-7
+same-length-7 c = search needs
 
-same-length-6 : tie.Need-same-length-6
-same-length-6 c = search needs
+same-length-8 : tie.Need-same-length-8
+same-length-8 c = search needs
 
 returns-4 : tie.Need-returns-4
 unfolding trap
@@ -100,17 +110,20 @@ pub synced-spec : {M : Type 1} → statement M
 synced-spec =
     tie.close
     (tie.spec
+    flushed-requires
+    same-length
+    same-length-2
     returns
     fits-requires
     appended-requires
-    same-length
-    same-length-2
-    returns-2
-    emptied-requires
     same-length-3
     same-length-4
-    returns-3
-    appended-requires-2
+    returns-2
+    emptied-requires
     same-length-5
     same-length-6
+    returns-3
+    appended-requires-2
+    same-length-7
+    same-length-8
     returns-4)

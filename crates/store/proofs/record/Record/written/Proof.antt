@@ -1,76 +1,120 @@
+-- `store::record::Record::written` meets its contract.
+use Prim.Native.Nat.{ℕ, _≤_}
+use mathlib.Core.Path.{_≡_, ap, refl, _∙_}
+use mathlib.Core.List.{List, [], _∷_}
+use native.Mathlib.Omega.{arith}
+use borrow.Author.Tests.{not-true, not-false}
+use Rattle.card.specs.declared.queue.Queue.{Queue}
+use Rattle.card.specs.Card.{flush}
+use Rattle.card.specs.CodeQueue.{cardOf}
+use Rattle.journal.specs.Geometry.{trap}
+use Rattle.journal.proofs.Phases.{stopped, resumed}
+use Rattle.store.specs.State.{State}
+use Rattle.store.specs.CodeState.{stateOf}
+use Rattle.store.specs.Direct.{directWrite}
+use Rattle.store.proofs.Saves.{given}
+use Rattle.store.proofs.Directs.{direct-room, direct-full}
 use borrow.Author.Needs.{needs}
 use Rattle.store.proofs.record.Record.written.Statement.{statement}
 use Rattle.store.proofs.record.Record.written.Tie as tie
-use Rattle.store.proofs.record.Record.written.Reads as reads
-use Rattle.store.proofs.record.Record.written.Lts as lts
-use Rattle.card.proofs.queue.Queue.flush.Reads as flush-reads
-use Rattle.card.proofs.queue.Queue.write.Reads as write-reads
-use Rattle.store.proofs.record.Record.after.Reads as after-reads
-use Rattle.store.proofs.record.Record.queue.Reads as queue-reads
 
--- src/direct.rt:106:31
+abbrev before-it : tie.Start → List ℕ → State
+before-it c work = stateOf (c .args .self) (c .args .settled .now) (c .args .waiting .now) work
+
 queue-requires : tie.Need-queue-requires
 queue-requires c κs = search needs
 
--- src/direct.rt:106:31
 write-requires : tie.Need-write-requires
-write-requires c κs = ?
+unfolding trap
+write-requires c κs =
+    let start = c .before .before .before .before .before .before .before in
+    let same : c .before .queue .result .waiting ≡ start .args .self .waiting = ap (λ (q : Queue). q .waiting) (c .before .queue .ensures) in
+    let few = start .pre .1 .0 in
+    (omega arith, (omega arith, start .pre .1 .1 .1 .1))
 
--- src/direct.rt:106:13
 after-requires : tie.Need-after-requires
 after-requires c κs = search needs
 
--- src/direct.rt:106:13
 same-length : tie.Need-same-length
 same-length c = search needs
 
--- src/direct.rt:106:13
 returns : tie.Need-returns
-returns c = ?
+unfolding trap
+returns c =
+    let w = c .before .before .before in
+    let start = w .before .before .before .before .before .before .before .before in
+    let a = start .args in
+    λ work. given (directWrite (a .address) (a .block .now) ∷ []) 1 (a .self) (a .self) (before-it start work) _ _ _ (w .write .result) _ _ refl
+    (w .before .before .queue .ensures) (w .write .ensures .0) (w .write .ensures .1 .0 (a .settled .now)) refl (c .after .ensures)
+    ∙ direct-room trap (a .address) (a .block .now) (before-it start work) (w .before .before .before .if1 .taken)
 
--- src/direct.rt:108:17
 queue-requires-2 : tie.Need-queue-requires-2
 queue-requires-2 c κs = search needs
 
--- src/direct.rt:108:13
 flush-requires : tie.Need-flush-requires
-flush-requires c κs = ?
+unfolding trap
+flush-requires c κs =
+    let start = c .before .before .before .before .before .before .before .before in
+    let same : c .before .before .queue2 .result .waiting ≡ start .args .self .waiting = ap (λ (q : Queue). q .waiting) (c .before .before .queue2 .ensures) in
+    let few = start .pre .1 .0 in
+    (omega arith, rw same (start .pre .1 .1 .1 .0))
 
--- src/direct.rt:110:13
 after-requires-2 : tie.Need-after-requires-2
 after-requires-2 c κs = search needs
 
--- src/direct.rt:110:13
 same-length-2 : tie.Need-same-length-2
 same-length-2 c = search needs
 
--- src/direct.rt:110:13
 same-length-3 : tie.Need-same-length-3
 same-length-3 c = search needs
 
--- src/direct.rt:110:13
+-- as many wait as may
+full : (c : tie.Else1) → trap .direct ≤ c .before .before .before .before .before .args .self .waiting
+unfolding trap
+full c = c .if1 .left
+
 returns-2 : tie.Need-returns-2
-returns-2 c = ?
+unfolding trap
+returns-2 c =
+    let f = c .before .before .before .before .before in
+    let start = f .before .before .before .before .before .before .before .before .before in
+    let a = start .args in
+    let end = stopped (flush ∷ directWrite (a .address) (a .block .now) ∷ []) (flush ∷ []) (directWrite (a .address) (a .block .now) ∷ []) refl 1 1 2 refl refl _ _ (f .flush .ensures .1 .0) (f .flush .result .happened) (f .flush .ensures .0) (not-true _ (c .before .if2 .taken)) in
+    λ work. given (flush ∷ directWrite (a .address) (a .block .now) ∷ []) 2 (a .self) (a .self) (before-it start work) _ _ _ (f .flush .result) _ _ refl
+    (f .before .before .before .queue2 .ensures) (end .0) (end .1) refl (c .after2 .ensures)
+    ∙ direct-full trap (a .address) (a .block .now) (before-it start work) (start .pre .1 .0) (full (f .before .before .before .before))
 
--- src/direct.rt:112:20
 write-requires-2 : tie.Need-write-requires-2
-write-requires-2 c κs = ?
+unfolding trap
+write-requires-2 c κs =
+    let f = c .before .before .before .before .before in
+    let start = f .before .before .before .before .before .before .before .before .before in
+    let same : f .before .before .before .queue2 .result .waiting ≡ start .args .self .waiting = ap (λ (q : Queue). q .waiting) (f .before .before .before .queue2 .ensures) in
+    let few = start .pre .1 .0 in
+    let left = f .flush .ensures .1 .1 in
+    (omega arith, (omega arith, start .pre .1 .1 .1 .1))
 
--- src/direct.rt:112:9
 after-requires-3 : tie.Need-after-requires-3
 after-requires-3 c κs = search needs
 
--- src/direct.rt:97:5
 same-length-4 : tie.Need-same-length-4
 same-length-4 c = search needs
 
--- src/direct.rt:97:5
 same-length-5 : tie.Need-same-length-5
 same-length-5 c = search needs
 
--- src/direct.rt:97:5
 returns-3 : tie.Need-returns-3
-returns-3 c = ?
+unfolding trap
+returns-3 c =
+    let w = c .before .before .before in
+    let f = w .before .before .before .before .before .before in
+    let start = f .before .before .before .before .before .before .before .before .before in
+    let a = start .args in
+    let end = resumed (flush ∷ directWrite (a .address) (a .block .now) ∷ []) (flush ∷ []) (directWrite (a .address) (a .block .now) ∷ []) refl 1 1 2 refl refl _ _ (f .flush .ensures .1 .0) (f .flush .result .happened) (f .flush .ensures .0) (not-false _ (w .before .before .if2 .left))
+    _ _ (w .write2 .ensures .1 .0 _) (w .write2 .ensures .0) in
+    λ work. given (flush ∷ directWrite (a .address) (a .block .now) ∷ []) 2 (a .self) (a .self) (before-it start work) _ _ _ (w .write2 .result) _ _ refl
+    (f .before .before .before .queue2 .ensures) (end .0) (end .1) refl (c .after3 .ensures)
+    ∙ direct-full trap (a .address) (a .block .now) (before-it start work) (start .pre .1 .0) (full (f .before .before .before .before))
 
 pub written-spec : {M : Type 1} → statement M
 written-spec =

@@ -1,0 +1,22 @@
+-- The laws of direct writes.
+use Prim.Native.Nat.{ℕ, _≤_, _<_}
+use mathlib.Core.Path.{_≡_, ap, sym}
+use mathlib.Core.List.{List, [], _∷_}
+use native.Mathlib.Omega.{arith}
+use borrow.Author.Tests.{eq-eqb, ne-eqb}
+use Rattle.card.specs.Card.{Order, flush}
+use Rattle.journal.specs.Geometry.{Geometry}
+use Rattle.store.specs.State.{State}
+use Rattle.store.specs.Saves.{carried}
+use Rattle.store.specs.Direct.{directWrite, directOrders, directing}
+
+module _ (geo : Geometry) (a : ℕ) (b : List ℕ) (st : State) where
+  -- fewer wait than may
+  pub direct-room : st .rec .waiting < geo .direct → carried (directWrite a b ∷ []) (st .rec) (st .rec) st .state ≡ directing geo a b st .state
+  unfolding directOrders
+  direct-room few = rw (ne-eqb (st .rec .waiting) (geo .direct) (λ e. omega arith))
+
+  -- as many wait as may
+  pub direct-full : st .rec .waiting ≤ geo .direct → geo .direct ≤ st .rec .waiting → carried (flush ∷ directWrite a b ∷ []) (st .rec) (st .rec) st .state ≡ directing geo a b st .state
+  unfolding directOrders
+  direct-full most least = rw (eq-eqb (st .rec .waiting) (geo .direct) (omega arith))
