@@ -23,9 +23,7 @@ use Rattle.journal.proofs.Logs.{neither, slot-data}
 use Rattle.journal.proofs.Lookups.{Marked, unmarked}
 use Rattle.store.specs.State.{State, closed, openMode, down}
 use Rattle.store.specs.Lists.{openFrom, groupFrom, listed, find}
-use Rattle.store.specs.Local as Local
-use Rattle.store.specs.Save as Save
-use Rattle.store.specs.Request.{Request, format, local, direct, save, cut, power, abandon}
+use Rattle.store.specs.Request.{Request, power, abandon}
 use Rattle.store.specs.Causes.{waitingBytes, workBytes, mostWaiting, Row, wrongSizes, some, wrongCounts, wrongWaiting, isFound, wrongLists, wrongRecord, downRow, openRow, Rules, ofBytes, ofRecord, ofOpen, rules, ownSize, wrongBlock, first, causeBy, cause}
 
 -- ---- a search of n places from the last one down, i of them left

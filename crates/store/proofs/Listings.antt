@@ -24,28 +24,32 @@ use Rattle.journal.specs.CodeWanted.{numbered, lastIn, Met}
 use Rattle.journal.proofs.Logs.{neither}
 use Rattle.journal.proofs.Chains.{numbered-le, foundAs, found-numbered, last-in}
 use Rattle.store.specs.declared.place.Place.{Place}
-use Rattle.store.specs.declared.place.Place.the-variants.{Settled, Work, Nowhere}
+use Rattle.store.specs.declared.place.Place.the-variants.{Settled, Waiting, Work, Nowhere}
 use Rattle.store.specs.declared.record.Record.{Record}
 use Rattle.store.specs.State.{State}
 use Rattle.store.specs.CodeState.{stateOf, fresh}
 use Rattle.store.specs.Lists.{openFrom, groupFrom, listed, addressesOf}
 use Rattle.store.specs.Request.{get, getList}
 use Rattle.store.specs.Causes.{cause, mostWanted, wrongList}
-use Rattle.store.specs.Get.{logPlace, groupPlace, openPlace, newest, getPlace, bytesAt, blockOf}
+use Rattle.store.specs.Get.{waitingFrom, homePlace, waitingPlace, logPlace, groupPlace, openPlace, newest, getPlace, bytesAt, blockOf}
 use Rattle.store.specs.GetList.{listingOf, listWalk, newestBlocks, shown, listing}
 use Rattle.store.proofs.Causes.{some-none, Checked, cause-passes, passes-sound}
 
--- of a state, bytes at a place are those of the settled bytes and of work memory
-pub bytes-any : (p : Place) (r q : Record) (s w v k : List ℕ) → bytesAt p (stateOf r s w k) ≡ bytesAt p (stateOf q s v k)
-bytes-any (Settled o) r q s w v k = refl
-bytes-any (Work o) r q s w v k = refl
-bytes-any Nowhere r q s w v k = refl
+-- of a state, bytes at a place are those of its buffers, whatever the record
+pub bytes-any : (p : Place) (r q : Record) (s w k : List ℕ) → bytesAt p (stateOf r s w k) ≡ bytesAt p (stateOf q s w k)
+bytes-any (Settled o) r q s w k = refl
+bytes-any (Waiting o) r q s w k = refl
+bytes-any (Work o) r q s w k = refl
+bytes-any Nowhere r q s w k = refl
 
 -- the i-th block, from where it was met
-abbrev pub copied : List ℕ → List ℕ → List ℕ → List ℕ → List ℕ → List ℕ → ℕ → List ℕ
-copied settled work list opened grouped logged i =
-    bytesAt (openPlace (foundAs (getD opened i 0)) (groupPlace trap (foundAs (getD grouped i 0)) (logPlace trap (wantedAt list i) (foundAs (getD logged i 0)))))
-    (stateOf (fresh 0) settled [] work)
+abbrev pub copied : List ℕ → List ℕ → List ℕ → List ℕ → List ℕ → List ℕ → List ℕ → List ℕ → ℕ → List ℕ
+copied settled waiting work list opened grouped logged waited i =
+    bytesAt
+    (openPlace (foundAs (getD opened i 0))
+    (groupPlace trap (foundAs (getD grouped i 0))
+    (logPlace trap (foundAs (getD logged i 0)) (waitingPlace (foundAs (getD waited i 0)) (homePlace (wantedAt list i))))))
+    (stateOf (fresh 0) settled waiting work)
 
 -- what was met is what a lookup finds
 pub met-last : (list met : List ℕ) (f : ℕ → ℕ) (n i : ℕ) → Met list (upTo f n) met → i < wantedCount list → foundAs (getD met i 0) ≡ lastOf f (wantedAt list i) n
@@ -59,18 +63,21 @@ met-le list met f n i m h =
     rw e (numbered-le f (wantedAt list i) n)
 
 -- so it is what a get finds
-pub copied-newest : (r : Record) (settled work list opened grouped logged w : List ℕ) (i : ℕ)
+pub copied-newest : (r : Record) (settled waiting work list opened grouped logged waited : List ℕ) (i : ℕ)
     → Met list (addressesOf work openFrom (r .opened)) opened
     → Met list (addressesOf work (groupFrom trap) (r .grouped)) grouped
     → Met list (walked settled (r .logged)) logged
+    → Met list (addressesOf waiting waitingFrom (r .waiting)) waited
     → i < wantedCount list
-    → copied settled work list opened grouped logged i ≡ bytesAt (newest trap (wantedAt list i) (stateOf r settled w work)) (stateOf r settled w work)
+    → copied settled waiting work list opened grouped logged waited i
+    ≡ bytesAt (newest trap (wantedAt list i) (stateOf r settled waiting work)) (stateOf r settled waiting work)
 unfolding newest
-copied-newest r settled work list opened grouped logged w i mo mg ml h =
+copied-newest r settled waiting work list opened grouped logged waited i mo mg ml mw h =
     let o = met-last list opened (λ j. listed work openFrom j .address) (r .opened) i mo h in
     let g = met-last list grouped (λ j. listed work (groupFrom trap) j .address) (r .grouped) i mg h in
     let l = met-last list logged (slotAddress settled) (r .logged) i ml h in
-    rw (o, g, l) (bytes-any (newest trap (wantedAt list i) (stateOf r settled w work)) (fresh 0) r settled [] w work)
+    let w = met-last list waited (λ j. listed waiting waitingFrom j .address) (r .waiting) i mw h in
+    rw (o, g, l, w) (bytes-any (newest trap (wantedAt list i) (stateOf r settled waiting work)) (fresh 0) r settled waiting work)
 
 -- ---- copying out: i blocks are, the rest of the buffer is as it was
 

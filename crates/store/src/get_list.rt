@@ -1,7 +1,8 @@
-// get_list: the blocks of a list of addresses, each as a get finds it, copied out in the order listed. Behind the checks log, group and
-// open are each gone through once.
+// get_list: the blocks of a list of addresses, each as a get finds it, copied out in the order listed. Behind the checks log, waiting
+// writes, group and open are each gone through once.
 use crate::lists::GROUP;
 use crate::lists::OPEN;
+use crate::lists::WAITING_FROM;
 use crate::lists::look;
 use crate::record::Record;
 use card::settled::read;
@@ -18,22 +19,22 @@ use journal::wanted::walk;
 use journal::wanted::wanted;
 ghost use mathlib.Core.Path.{_≡_};
 ghost use mathlib.Core.Bool.{not};
-ghost use mathlib.Core.List.{List};
+ghost use mathlib.Core.List.{List, []};
 ghost use Prim.Native.Nat.{ℕ, _*_, _≤_, _<_};
 ghost use lib.ListN.{length};
-ghost use Rattle.cells.specs.Entry.{blockBytes};
+ghost use Rattle.cells.specs.Entry.{blockBytes, entryBytes};
 ghost use Rattle.card.specs.Card.{blocksIn};
 ghost use Rattle.journal.specs.Geometry.{trap};
 ghost use Rattle.journal.specs.declared.lookup.Found as Declared;
 ghost use Rattle.journal.specs.Layout.{firstData, isData};
 ghost use Rattle.journal.specs.Wanted.{wantedCount, wantedAt, walked};
-ghost use Rattle.journal.specs.CodeWanted.{numbered, Met};
+ghost use Rattle.journal.specs.CodeWanted.{numbered, buckets, Chained, Met};
 ghost use Rattle.store.specs.declared.record.Record as Held;
 ghost use Rattle.store.specs.CodeState.{stateOf};
 ghost use Rattle.store.specs.Lists.{openFrom, groupFrom, addressesOf};
 ghost use Rattle.store.specs.Request as Request;
 ghost use Rattle.store.specs.Causes.{cause, some, workBytes, mostWanted, wrongList};
-ghost use Rattle.store.specs.Get.{logPlace, groupPlace, openPlace, bytesAt};
+ghost use Rattle.store.specs.Get.{waitingFrom, homePlace, waitingPlace, logPlace, groupPlace, openPlace, bytesAt};
 ghost use Rattle.store.specs.GetList.{Listing, newestBlocks, listing};
 
 // The most addresses of a list.
@@ -74,22 +75,43 @@ fn stray(list: &[u8], size: u32) -> bool
     false
 }
 
-// Copies the newest block of an address: where it was met in open, in the group, in the log, as numbers above 0; else from home.
+// Copies the block of an address outside open, group and log: where it was met among the waiting writes, as a number above 0; else from
+// home.
+fn copy_unlogged(settled: &[u8], waiting: &[u8], waited: u32, address: u32, block: &mut [u8])
+    requires { ⌜ (entryBytes * waited ≤ length (now waiting)) × (waited ≤ trap .direct) ⌝ }
+    requires { ⌜ address < blocksIn (now settled) ⌝ }
+    requires { ⌜ length (now block) ≡ blockBytes ⌝ }
+    ensures { λ _. ⌜ ((w : Declared.Found) (r : Held.Record) (k : List ℕ) → waited ≡ numbered w → now (block .exit) ≡ bytesAt (waitingPlace w (homePlace address)) (stateOf r (now (settled .entry)) (now (waiting .entry)) k)) ⌝ }
+{
+    if waited != 0 {
+        copy(
+            block,
+            entry::block(waiting, WAITING_FROM + (waited - 1) as usize),
+        );
+        return;
+    }
+    copy(block, read(settled, address));
+}
+
+// Copies the newest block of an address: where it was met in open, in the group, in the log, as numbers above 0; else from outside them.
 fn copy_newest(
     settled: &[u8],
+    waiting: &[u8],
     work: &[u8],
     opened: u32,
     grouped: u32,
     logged: u32,
+    waited: u32,
     address: u32,
     block: &mut [u8],
 )
     requires { ⌜ firstData trap < blocksIn (now settled) ⌝ }
     requires { ⌜ workBytes trap ≤ length (now work) ⌝ }
     requires { ⌜ (opened ≤ trap .slots) × (grouped ≤ trap .slots) × (logged ≤ trap .slots) ⌝ }
+    requires { ⌜ (entryBytes * waited ≤ length (now waiting)) × (waited ≤ trap .direct) ⌝ }
     requires { ⌜ address < blocksIn (now settled) ⌝ }
     requires { ⌜ length (now block) ≡ blockBytes ⌝ }
-    ensures { λ _. ⌜ ((o g l : Declared.Found) (r : Held.Record) (w : List ℕ) → opened ≡ numbered o → grouped ≡ numbered g → logged ≡ numbered l → now (block .exit) ≡ bytesAt (openPlace o (groupPlace trap g (logPlace trap address l))) (stateOf r (now (settled .entry)) w (now (work .entry)))) ⌝ }
+    ensures { λ _. ⌜ ((o g l w : Declared.Found) (r : Held.Record) → opened ≡ numbered o → grouped ≡ numbered g → logged ≡ numbered l → waited ≡ numbered w → now (block .exit) ≡ bytesAt (openPlace o (groupPlace trap g (logPlace trap l (waitingPlace w (homePlace address))))) (stateOf r (now (settled .entry)) (now (waiting .entry)) (now (work .entry)))) ⌝ }
 {
     if opened != 0 {
         copy(block, entry::block(work, OPEN + (opened - 1) as usize));
@@ -103,7 +125,7 @@ fn copy_newest(
         copy(block, slot_block(settled, logged - 1));
         return;
     }
-    copy(block, read(settled, address));
+    copy_unlogged(settled, waiting, waited, address, block);
 }
 
 impl Record {
@@ -111,23 +133,23 @@ impl Record {
     fn copy_out(
         self,
         settled: &[u8],
+        waiting: &[u8],
         work: &[u8],
         list: &[u8],
         opened: &[u32],
         grouped: &[u32],
         logged: &[u32],
+        waited: &[u32],
         blocks: &mut [u8],
     )
-        requires { ⌜ firstData trap < blocksIn (now settled) ⌝ }
-        requires { ⌜ workBytes trap ≤ length (now work) ⌝ }
-        requires { ⌜ (self .opened ≤ trap .slots) × (self .grouped ≤ trap .slots) × (self .logged ≤ trap .slots) ⌝ }
-        requires { ⌜ (wantedCount (now list) ≤ length (now opened)) × (wantedCount (now list) ≤ length (now grouped)) × (wantedCount (now list) ≤ length (now logged)) ⌝ }
-        requires { ⌜ Met (now list) (addressesOf (now work) openFrom (self .opened)) (now opened) ⌝ }
-        requires { ⌜ Met (now list) (addressesOf (now work) (groupFrom trap) (self .grouped)) (now grouped) ⌝ }
-        requires { ⌜ Met (now list) (walked (now settled) (self .logged)) (now logged) ⌝ }
+        requires { ⌜ (firstData trap < blocksIn (now settled)) × (workBytes trap ≤ length (now work)) × (entryBytes * self .waiting ≤ length (now waiting)) ⌝ }
+        requires { ⌜ (self .opened ≤ trap .slots) × (self .grouped ≤ trap .slots) × (self .logged ≤ trap .slots) × (self .waiting ≤ trap .direct) ⌝ }
+        requires { ⌜ (wantedCount (now list) ≤ length (now opened)) × (wantedCount (now list) ≤ length (now grouped)) × (wantedCount (now list) ≤ length (now logged)) × (wantedCount (now list) ≤ length (now waited)) ⌝ }
+        requires { ⌜ Met (now list) (addressesOf (now work) openFrom (self .opened)) (now opened) × Met (now list) (addressesOf (now work) (groupFrom trap) (self .grouped)) (now grouped) ⌝ }
+        requires { ⌜ Met (now list) (walked (now settled) (self .logged)) (now logged) × Met (now list) (addressesOf (now waiting) waitingFrom (self .waiting)) (now waited) ⌝ }
         requires { ⌜ length (now blocks) ≡ blockBytes * wantedCount (now list) ⌝ }
         requires { ⌜ ((i : ℕ) → i < wantedCount (now list) → wantedAt (now list) i < blocksIn (now settled)) ⌝ }
-        ensures { λ _. ⌜ ((w : List ℕ) → now (blocks .exit) ≡ newestBlocks trap (now (list .entry)) (stateOf self (now (settled .entry)) w (now (work .entry)))) ⌝ }
+        ensures { λ _. ⌜ now (blocks .exit) ≡ newestBlocks trap (now (list .entry)) (stateOf self (now (settled .entry)) (now (waiting .entry)) (now (work .entry))) ⌝ }
     {
         let n = count(list);
         let mut i = 0;
@@ -135,10 +157,12 @@ impl Record {
             let at = BLOCK * i;
             copy_newest(
                 settled,
+                waiting,
                 work,
                 opened[i],
                 grouped[i],
                 logged[i],
+                waited[i],
                 wanted(list, i),
                 &mut blocks[at..at + BLOCK],
             );
@@ -146,15 +170,36 @@ impl Record {
         }
     }
 
-    // Finds each block, and copies it out. Returns the slots read.
-    fn show(self, settled: &[u8], work: &[u8], list: &[u8], blocks: &mut [u8]) -> u32
-        requires { ⌜ firstData trap < blocksIn (now settled) ⌝ }
+    // Looks for the addresses in open and in the group.
+    fn look_work(
+        self,
+        work: &[u8],
+        list: &[u8],
+        last: &[u8],
+        before: &[u8],
+        opened: &mut [u32],
+        grouped: &mut [u32],
+    )
         requires { ⌜ workBytes trap ≤ length (now work) ⌝ }
-        requires { ⌜ (self .opened ≤ trap .slots) × (self .grouped ≤ trap .slots) × (self .logged ≤ trap .slots) ⌝ }
-        requires { ⌜ wantedCount (now list) ≤ mostWanted ⌝ }
-        requires { ⌜ length (now blocks) ≡ blockBytes * wantedCount (now list) ⌝ }
+        requires { ⌜ (self .opened ≤ trap .slots) × (self .grouped ≤ trap .slots) ⌝ }
+        requires { ⌜ length (now last) ≡ buckets ⌝ }
+        requires { ⌜ (wantedCount (now list) ≤ length (now before)) × (wantedCount (now list) ≤ length (now opened)) × (wantedCount (now list) ≤ length (now grouped)) ⌝ }
+        requires { ⌜ Chained (now list) (now last) (now before) (wantedCount (now list)) ⌝ }
+        requires { ⌜ Met (now list) [] (now opened) × Met (now list) [] (now grouped) ⌝ }
+        ensures { λ _. ⌜ Met (now (list .entry)) (addressesOf (now (work .entry)) openFrom (self .opened)) (now (opened .exit)) ⌝ }
+        ensures { λ _. ⌜ Met (now (list .entry)) (addressesOf (now (work .entry)) (groupFrom trap) (self .grouped)) (now (grouped .exit)) ⌝ }
+    {
+        look(work, GROUP, self.grouped, list, last, before, grouped);
+        look(work, OPEN, self.opened, list, last, before, opened);
+    }
+
+    // Finds each block, and copies it out. Returns the slots read.
+    fn show(self, settled: &[u8], waiting: &[u8], work: &[u8], list: &[u8], out: &mut [u8]) -> u32
+        requires { ⌜ (firstData trap < blocksIn (now settled)) × (workBytes trap ≤ length (now work)) × (entryBytes * self .waiting ≤ length (now waiting)) ⌝ }
+        requires { ⌜ (self .opened ≤ trap .slots) × (self .grouped ≤ trap .slots) × (self .logged ≤ trap .slots) × (self .waiting ≤ trap .direct) ⌝ }
+        requires { ⌜ (wantedCount (now list) ≤ mostWanted) × (length (now out) ≡ blockBytes * wantedCount (now list)) ⌝ }
         requires { ⌜ ((i : ℕ) → i < wantedCount (now list) → wantedAt (now list) i < blocksIn (now settled)) ⌝ }
-        ensures { λ _. ⌜ ((w : List ℕ) → now (blocks .exit) ≡ newestBlocks trap (now (list .entry)) (stateOf self (now (settled .entry)) w (now (work .entry)))) ⌝ }
+        ensures { λ _. ⌜ now (out .exit) ≡ newestBlocks trap (now (list .entry)) (stateOf self (now (settled .entry)) (now (waiting .entry)) (now (work .entry))) ⌝ }
         ensures { λ r. ⌜ r ≡ length (walked (now (settled .entry)) (self .logged)) ⌝ }
     {
         let mut last = [0u8; BUCKETS];
@@ -162,19 +207,30 @@ impl Record {
         chain(list, &mut last, &mut before);
         let mut logged = [0u32; MOST_WANTED];
         let slots = walk(settled, self.logged, list, &last, &before, &mut logged);
-        let mut grouped = [0u32; MOST_WANTED];
+        let mut waited = [0u32; MOST_WANTED];
         look(
-            work,
-            GROUP,
-            self.grouped,
+            waiting,
+            WAITING_FROM,
+            self.waiting,
             list,
             &last,
             &before,
-            &mut grouped,
+            &mut waited,
         );
         let mut opened = [0u32; MOST_WANTED];
-        look(work, OPEN, self.opened, list, &last, &before, &mut opened);
-        self.copy_out(settled, work, list, &opened, &grouped, &logged, blocks);
+        let mut grouped = [0u32; MOST_WANTED];
+        self.look_work(work, list, &last, &before, &mut opened, &mut grouped);
+        self.copy_out(
+            settled,
+            waiting,
+            work,
+            list,
+            &opened,
+            &grouped,
+            &logged,
+            &waited,
+            out,
+        );
         slots
     }
 
@@ -226,7 +282,7 @@ impl Record {
                 slots: 0,
             };
         }
-        let slots = self.show(settled, work, list, blocks);
+        let slots = self.show(settled, waiting, work, list, blocks);
         Listed { number: 0, slots }
     }
 }

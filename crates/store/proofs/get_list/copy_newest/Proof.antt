@@ -35,7 +35,7 @@ same-length : tie.Need-same-length
 same-length c = search needs
 
 returns : tie.Need-returns
-returns c = λ o g l r w eo eg el. rw (numbered-at o _ eo (c .before .before .before .before .before .if1 .taken)) (c .before .before .copy .ensures ∙ ap bytes (c .before .before .before .block .ensures))
+returns c = λ o g l w r eo eg el ew. rw (numbered-at o _ eo (c .before .before .before .before .before .if1 .taken)) (c .before .before .copy .ensures ∙ ap bytes (c .before .before .before .block .ensures))
 
 sub-block-2 : tie.Need-sub-block-2
 sub-block-2 c = search needs
@@ -59,7 +59,7 @@ same-length-2 c = search needs
 
 returns-2 : tie.Need-returns-2
 unfolding trap
-returns-2 c = λ o g l r w eo eg el. rw (numbered-absent o _ eo (c .before .before .before .before .before .before .if1 .left), numbered-at g _ eg (c .before .before .before .before .before .if2 .taken)) (c .before .before .copy2 .ensures ∙ ap bytes (c .before .before .before .block3 .ensures))
+returns-2 c = λ o g l w r eo eg el ew. rw (numbered-absent o _ eo (c .before .before .before .before .before .before .if1 .left), numbered-at g _ eg (c .before .before .before .before .before .if2 .taken)) (c .before .before .copy2 .ensures ∙ ap bytes (c .before .before .before .block3 .ensures))
 
 sub-slot-block : tie.Need-sub-slot-block
 sub-slot-block c = search needs
@@ -75,20 +75,16 @@ same-length-3 : tie.Need-same-length-3
 same-length-3 c = search needs
 
 returns-3 : tie.Need-returns-3
-returns-3 c = λ o g l r w eo eg el. rw (numbered-absent o _ eo (c .before .before .before .before .before .before .before .if1 .left), numbered-absent g _ eg (c .before .before .before .before .before .before .if2 .left), numbered-at l _ el (c .before .before .before .before .before .if3 .taken)) (c .before .before .copy3 .ensures ∙ ap bytes (c .before .before .before .slot-block .ensures))
+returns-3 c = λ o g l w r eo eg el ew. rw (numbered-absent o _ eo (c .before .before .before .before .before .before .before .if1 .left), numbered-absent g _ eg (c .before .before .before .before .before .before .if2 .left), numbered-at l _ el (c .before .before .before .before .before .if3 .taken)) (c .before .before .copy3 .ensures ∙ ap bytes (c .before .before .before .slot-block .ensures))
 
-read-requires : tie.Need-read-requires
-read-requires c κs = search needs
-
-copy-requires-4 : tie.Need-copy-requires-4
-unfolding trap
-copy-requires-4 c κs = let e : length (c .read .result .now) ≡ 512 = ap length (ap bytes (c .read .ensures)) ∙ rw (length-take, length-drop) (omega arith) in omega arith
+copy-unlogged-requires : tie.Need-copy-unlogged-requires
+copy-unlogged-requires c κs = search needs
 
 same-length-4 : tie.Need-same-length-4
 same-length-4 c = search needs
 
 returns-4 : tie.Need-returns-4
-returns-4 c = λ o g l r w eo eg el. rw (numbered-absent o _ eo (c .before .before .before .before .before .before .before .if1 .left), numbered-absent g _ eg (c .before .before .before .before .before .before .if2 .left), numbered-absent l _ el (c .before .before .before .before .before .if3 .left)) (c .before .before .copy4 .ensures ∙ ap bytes (c .before .before .before .read .ensures))
+returns-4 c = λ o g l w r eo eg el ew. rw (numbered-absent o _ eo (c .before .before .before .before .before .before .if1 .left), numbered-absent g _ eg (c .before .before .before .before .before .if2 .left), numbered-absent l _ el (c .before .before .before .before .if3 .left)) (c .before .before .copy-unlogged .ensures w r _ ew)
 
 pub copy-newest-spec : {M : Type 1} → statement M
 copy-newest-spec =
@@ -113,7 +109,6 @@ copy-newest-spec =
     copy-requires-3
     same-length-3
     returns-3
-    read-requires
-    copy-requires-4
+    copy-unlogged-requires
     same-length-4
     returns-4)

@@ -50,6 +50,7 @@ cut-requires c κs =
     let n = e .before .cut-number in
     let p = cause-passes trap (cut (start .args .marks .now)) st (n .result) (n .ensures) (e .if1 .left) in
     let s = passes-sound trap (cut (start .args .marks .now)) st (n .result) refl (n .ensures) (e .if1 .left) in
+    let few = any-waits trap st (s .counts) in
     let waits : length (queue (cardIn st)) ≡ start .args .self .waiting = length-upTo (entryAt (start .args .waiting .now)) (start .args .self .waiting) in
     let many : length (start .args .marks .now) ≡ blockBytes * length (queue (cardIn st)) = fits-length (start .args .marks .now) (queue (cardIn st)) (not-false _ (p .own .0)) in
     let few = any-waits trap st (s .counts) in

@@ -1,5 +1,6 @@
 -- `store::record::Record::show` meets its contract.
 use Prim.Native.Nat.{_≤_}
+use lib.ListN.{length}
 use native.Mathlib.Omega.{arith}
 use borrow.Author.Needs.{needs}
 use Rattle.journal.specs.Geometry.{trap}
@@ -28,10 +29,10 @@ slice-aggregate-walk-3 c = search needs
 
 walk-requires : tie.Need-walk-requires
 walk-requires c κs =
-    let start = c .before .before .before .before .before .before .before .before .before .before .before .before in
+    let start = c .before .before .before .before .before .before .before .before .before .before .before .before .before in
     let k = c .before .before .before .before .before .chain in
-    let few : wantedCount (start .args .list .now) ≤ 32 = start .pre .1 .1 .1 .0 in
-    (start .pre .0, (omega arith, (k .kept .1 .0, ((omega (arith, k .kept .1 .1 .0), few), (k .ensures, met-none (start .args .list .now) 32 few)))))
+    let few : wantedCount (start .args .list .now) ≤ 32 = start .pre .1 .1 .0 .0 in
+    (start .pre .0 .0, (omega arith, (k .kept .1 .0, ((omega (arith, k .kept .1 .1 .0), few), (k .ensures, met-none (start .args .list .now) 32 few)))))
 
 slice-aggregate-look : tie.Need-slice-aggregate-look
 slice-aggregate-look c = search needs
@@ -45,27 +46,30 @@ slice-aggregate-look-3 c = search needs
 look-requires : tie.Need-look-requires
 unfolding trap
 look-requires c κs =
-    let start = c .before .before .before .before .before .before .before .before .before .before .before .before .before .before .before .before .before in
+    let start = c .before .before .before .before .before .before .before .before .before .before .before .before .before .before .before .before .before .before in
     let k = c .before .before .before .before .before .before .before .before .before .before .chain in
-    let few : wantedCount (start .args .list .now) ≤ 32 = start .pre .1 .1 .1 .0 in
-    (omega arith, (omega arith, (k .kept .1 .0, ((omega (arith, k .kept .1 .1 .0), few), (k .ensures, met-none (start .args .list .now) 32 few)))))
+    let few : wantedCount (start .args .list .now) ≤ 32 = start .pre .1 .1 .0 .0 in
+    (omega (arith, start .pre .0 .2), (start .pre .1 .0 .3, (k .kept .1 .0, ((omega (arith, k .kept .1 .1 .0), few), (k .ensures, met-none (start .args .list .now) 32 few)))))
 
-slice-aggregate-look-4 : tie.Need-slice-aggregate-look-4
-slice-aggregate-look-4 c = search needs
+slice-aggregate-look-work : tie.Need-slice-aggregate-look-work
+slice-aggregate-look-work c = search needs
 
-slice-aggregate-look-5 : tie.Need-slice-aggregate-look-5
-slice-aggregate-look-5 c = search needs
+slice-aggregate-look-work-2 : tie.Need-slice-aggregate-look-work-2
+slice-aggregate-look-work-2 c = search needs
 
-slice-aggregate-look-6 : tie.Need-slice-aggregate-look-6
-slice-aggregate-look-6 c = search needs
+slice-aggregate-look-work-3 : tie.Need-slice-aggregate-look-work-3
+slice-aggregate-look-work-3 c = search needs
 
-look-requires-2 : tie.Need-look-requires-2
-unfolding trap
-look-requires-2 c κs =
-    let start = c .before .before .before .before .before .before .before .before .before .before .before .before .before .before .before .before .before .before .before .before .before .before in
-    let k = c .before .before .before .before .before .before .before .before .before .before .before .before .before .before .before .chain in
-    let few : wantedCount (start .args .list .now) ≤ 32 = start .pre .1 .1 .1 .0 in
-    (omega arith, (omega arith, (k .kept .1 .0, ((omega (arith, k .kept .1 .1 .0), few), (k .ensures, met-none (start .args .list .now) 32 few)))))
+slice-aggregate-look-work-4 : tie.Need-slice-aggregate-look-work-4
+slice-aggregate-look-work-4 c = search needs
+
+look-work-requires : tie.Need-look-work-requires
+look-work-requires c κs =
+    let start = c .before .before .before .before .before .before .before .before .before .before .before .before .before .before .before .before .before .before .before .before .before .before .before .before in
+    let k = c .before .before .before .before .before .before .before .before .before .before .before .before .before .before .before .before .chain in
+    let few : wantedCount (start .args .list .now) ≤ 32 = start .pre .1 .1 .0 .0 in
+    let none = met-none (start .args .list .now) 32 few in
+    (start .pre .0 .1, ((start .pre .1 .0 .0, start .pre .1 .0 .1), (k .kept .1 .0, ((omega (arith, k .kept .1 .1 .0), few, few), (k .ensures, (none, none))))))
 
 slice-aggregate-copy-out : tie.Need-slice-aggregate-copy-out
 slice-aggregate-copy-out c = search needs
@@ -76,15 +80,21 @@ slice-aggregate-copy-out-2 c = search needs
 slice-aggregate-copy-out-3 : tie.Need-slice-aggregate-copy-out-3
 slice-aggregate-copy-out-3 c = search needs
 
+slice-aggregate-copy-out-4 : tie.Need-slice-aggregate-copy-out-4
+slice-aggregate-copy-out-4 c = search needs
+
 copy-out-requires : tie.Need-copy-out-requires
-unfolding trap
 copy-out-requires c κs =
-    let start = c .before .before .before .before .before .before .before .before .before .before .before .before .before .before .before .before .before .before .before .before .before .before .before .before .before .before .before .before in
-    let few : wantedCount (start .args .list .now) ≤ 32 = start .pre .1 .1 .1 .0 in
-    let w = c .before .before .before .before .before .before .before .before .before .before .before .before .before .before .before .walk in
-    let g = c .before .before .before .before .before .before .before .before .before .before .look in
-    let o = c .before .before .before .before .before .look2 in
-    (start .pre .0, (start .pre .1 .0, (start .pre .1 .1 .0, ((omega (arith, o .kept .1 .1 .1 .1 .1 .1 .0), omega (arith, g .kept .1 .1 .1 .1 .1 .1 .0), omega (arith, w .kept .1 .1 .1 .1 .1 .0)), (o .ensures, (g .ensures, (w .ensures .0, (start .pre .1 .1 .1 .1 .0, start .pre .1 .1 .1 .1 .1))))))))
+    let start = c .before .before .before .before .before .before .before .before .before .before .before .before .before .before .before .before .before .before .before .before .before .before .before .before .before .before .before .before .before .before .before .before in
+    let few : wantedCount (start .args .list .now) ≤ 32 = start .pre .1 .1 .0 .0 in
+    let w = c .before .before .before .before .before .before .before .before .before .before .before .before .before .before .before .before .before .before .walk in
+    let q = c .before .before .before .before .before .before .before .before .before .before .before .before .before .look in
+    let k = c .before .before .before .before .before .before .before .look-work in
+    let o : wantedCount (start .args .list .now) ≤ length (k .last .1 .1 .1 .1 .1 .0) = omega (arith, k .kept .1 .1 .1 .1 .1 .0) in
+    let g : wantedCount (start .args .list .now) ≤ length (k .last .1 .1 .1 .1 .1 .1 .0) = omega (arith, k .kept .1 .1 .1 .1 .1 .1 .0) in
+    let l : wantedCount (start .args .list .now) ≤ length (w .last .1 .1 .1 .1 .1 .0) = omega (arith, w .kept .1 .1 .1 .1 .1 .0) in
+    let v : wantedCount (start .args .list .now) ≤ length (q .last .1 .1 .1 .1 .1 .1 .0) = omega (arith, q .kept .1 .1 .1 .1 .1 .1 .0) in
+    (start .pre .0, (start .pre .1 .0, ((o, g, l, v), ((k .ensures .0, k .ensures .1), ((w .ensures .0, q .ensures), (start .pre .1 .1 .0 .1, start .pre .1 .1 .1))))))
 
 same-length : tie.Need-same-length
 same-length c = search needs
@@ -107,13 +117,15 @@ show-spec =
     slice-aggregate-look-2
     slice-aggregate-look-3
     look-requires
-    slice-aggregate-look-4
-    slice-aggregate-look-5
-    slice-aggregate-look-6
-    look-requires-2
+    slice-aggregate-look-work
+    slice-aggregate-look-work-2
+    slice-aggregate-look-work-3
+    slice-aggregate-look-work-4
+    look-work-requires
     slice-aggregate-copy-out
     slice-aggregate-copy-out-2
     slice-aggregate-copy-out-3
+    slice-aggregate-copy-out-4
     copy-out-requires
     same-length
     returns)
