@@ -1,10 +1,10 @@
 -- The laws of direct writes.
 use Prim.Native.Nat.{ℕ, _≤_, _<_}
-use mathlib.Core.Path.{_≡_, ap, sym}
+use mathlib.Core.Path.{_≡_}
 use mathlib.Core.List.{List, [], _∷_}
 use native.Mathlib.Omega.{arith}
 use borrow.Author.Tests.{eq-eqb, ne-eqb}
-use Rattle.card.specs.Card.{Order, flush}
+use Rattle.card.specs.Card.{flush}
 use Rattle.journal.specs.Geometry.{Geometry}
 use Rattle.store.specs.State.{State}
 use Rattle.store.specs.Saves.{carried}

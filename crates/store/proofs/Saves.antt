@@ -35,7 +35,7 @@ use Rattle.store.specs.Lists.{groupFrom, listed}
 use Rattle.store.specs.Request.{Request, sync, recover}
 use Rattle.store.specs.Causes.{downRow, openRow, foreignRow, unsoundRow, ofRecord, causeBy, cause}
 use Rattle.store.specs.Outcomes.{completed, unless}
-use Rattle.store.specs.Saves.{carried, emptying, groupOf, appending, recovering, applies, savedAs, syncing, recoverCall}
+use Rattle.store.specs.Saves.{carried, emptying, groupOf, appending, recovering, applies, syncing, recoverCall}
 use Rattle.store.proofs.Causes as Causes
 use Rattle.store.proofs.Causes.{Checked, readsRecord, needsOpen, other, rules-pass, cause-passes, passes-sound, cause-5, open-waits, closed-waits}
 use Rattle.store.proofs.Places.{data-lt}

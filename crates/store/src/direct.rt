@@ -4,7 +4,6 @@ use crate::lists::OPEN;
 use crate::lists::holds;
 use crate::record::Record;
 use crate::saved::Saved;
-use card::queue::Ordered;
 use cells::BLOCK;
 use journal::DIRECT;
 use journal::log::is_data;
@@ -21,7 +20,6 @@ ghost use Rattle.card.specs.CodeQueue.{Below};
 ghost use Rattle.journal.specs.Geometry.{trap};
 ghost use Rattle.journal.specs.Layout.{firstData};
 ghost use Rattle.journal.specs.Lookup.{lastSlot};
-ghost use Rattle.store.specs.State.{openMode};
 ghost use Rattle.store.specs.CodeState.{stateOf, outcomeOf};
 ghost use Rattle.store.specs.Lists as Lists;
 ghost use Rattle.store.specs.Lists.{openFrom, groupFrom};
@@ -95,7 +93,6 @@ impl Record {
 
     // Its orders: the write; with as many waiting as may, a flush first.
     fn written(self, settled: &mut [u8], waiting: &mut [u8], address: u32, block: &[u8]) -> Record
-        requires { ⌜ self .mode ≡ openMode ⌝ }
         requires { ⌜ self .waiting ≤ trap .direct ⌝ }
         requires { ⌜ waitingBytes trap ≤ length (now waiting) ⌝ }
         requires { ⌜ Below (blocksIn (now settled)) (now waiting) (self .waiting) ⌝ }

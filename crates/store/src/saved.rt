@@ -1,4 +1,4 @@
-// What a call that gives orders hands back: sync, apply, recover.
+// What a call that gives orders hands back: a direct write, sync, apply, recover.
 use crate::record::DOWN;
 use crate::record::Record;
 use card::queue::Ordered;

@@ -82,7 +82,7 @@ impl Record {
 
     // A barrier: what waits is settled. No order where nothing waits.
     fn flushed(self, settled: &mut [u8], waiting: &[u8]) -> Record
-        requires { ⌜ (self .mode ≡ openMode) × (self .waiting ≤ trap .direct) ⌝ }
+        requires { ⌜ self .waiting ≤ trap .direct ⌝ }
         requires { ⌜ waitingBytes trap ≤ length (now waiting) ⌝ }
         requires { ⌜ Below (blocksIn (now settled)) (now waiting) (self .waiting) ⌝ }
         ensures { λ r. ⌜ ((k : List ℕ) → stateOf r (now (settled .exit)) (now (waiting .entry)) k ≡ carried (barrier (self .waiting)) self self (stateOf self (now (settled .entry)) (now (waiting .entry)) k) .state) ⌝ }

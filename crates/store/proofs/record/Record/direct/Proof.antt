@@ -48,7 +48,7 @@ written-requires c κs =
     let start = e .before .before .before .before .before .before .before .before in
     let r = checked e in
     let p = cause-passes trap (request start) (given start) (e .before .direct-number .result) (e .before .direct-number .ensures) (e .if1 .left) in
-    (r .mode, (r .waiting, (omega arith, (r .below, eqb-true _ _ (not-false _ (p .block))))))
+    (r .waiting, (omega arith, (r .below, eqb-true _ _ (not-false _ (p .block)))))
 
 saved-requires : tie.Need-saved-requires
 saved-requires c κs =

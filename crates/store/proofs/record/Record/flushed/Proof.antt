@@ -25,7 +25,7 @@ unfolding trap
 flush-requires c κs =
     let start = c .before .before .before .before .before .before in
     let same : c .before .queue .result .waiting ≡ start .args .self .waiting = ap (λ (q : Queue). q .waiting) (c .before .queue .ensures) in
-    let few = start .pre .0 .1 in
+    let few = start .pre .0 in
     (omega arith, rw same (start .pre .1 .1))
 
 after-requires : tie.Need-after-requires

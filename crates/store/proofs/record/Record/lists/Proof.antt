@@ -1,7 +1,6 @@
 -- `store::record::Record::lists` meets its contract.
 use mathlib.Core.Path.{_≡_, ap, sym, _∙_}
 use mathlib.Core.Bool.{Bool, true, false, or-true}
-use native.Mathlib.Omega.{arith}
 use Rattle.journal.specs.Geometry.{trap}
 use Rattle.journal.specs.Lookup.{lastSlot}
 use Rattle.store.specs.Lists.{openFrom, groupFrom, find}

@@ -6,7 +6,6 @@ use native.Mathlib.Omega.{arith}
 use borrow.Author.Tests.{not-true, not-false}
 use Rattle.card.specs.declared.queue.Queue.{Queue}
 use Rattle.card.specs.Card.{flush}
-use Rattle.card.specs.CodeQueue.{cardOf}
 use Rattle.journal.specs.Geometry.{trap}
 use Rattle.journal.proofs.Phases.{stopped, resumed}
 use Rattle.store.specs.State.{State}
@@ -29,8 +28,8 @@ unfolding trap
 write-requires c κs =
     let start = c .before .before .before .before .before .before .before in
     let same : c .before .queue .result .waiting ≡ start .args .self .waiting = ap (λ (q : Queue). q .waiting) (c .before .queue .ensures) in
-    let few = start .pre .1 .0 in
-    (omega arith, (omega arith, start .pre .1 .1 .1 .1))
+    let few = start .pre .0 in
+    (omega arith, (omega arith, start .pre .1 .1 .1))
 
 after-requires : tie.Need-after-requires
 after-requires c κs = search needs
@@ -56,8 +55,8 @@ unfolding trap
 flush-requires c κs =
     let start = c .before .before .before .before .before .before .before .before in
     let same : c .before .before .queue2 .result .waiting ≡ start .args .self .waiting = ap (λ (q : Queue). q .waiting) (c .before .before .queue2 .ensures) in
-    let few = start .pre .1 .0 in
-    (omega arith, rw same (start .pre .1 .1 .1 .0))
+    let few = start .pre .0 in
+    (omega arith, rw same (start .pre .1 .1 .0))
 
 after-requires-2 : tie.Need-after-requires-2
 after-requires-2 c κs = search needs
@@ -82,7 +81,7 @@ returns-2 c =
     let end = stopped (flush ∷ directWrite (a .address) (a .block .now) ∷ []) (flush ∷ []) (directWrite (a .address) (a .block .now) ∷ []) refl 1 1 2 refl refl _ _ (f .flush .ensures .1 .0) (f .flush .result .happened) (f .flush .ensures .0) (not-true _ (c .before .if2 .taken)) in
     λ work. given (flush ∷ directWrite (a .address) (a .block .now) ∷ []) 2 (a .self) (a .self) (before-it start work) _ _ _ (f .flush .result) _ _ refl
     (f .before .before .before .queue2 .ensures) (end .0) (end .1) refl (c .after2 .ensures)
-    ∙ direct-full trap (a .address) (a .block .now) (before-it start work) (start .pre .1 .0) (full (f .before .before .before .before))
+    ∙ direct-full trap (a .address) (a .block .now) (before-it start work) (start .pre .0) (full (f .before .before .before .before))
 
 write-requires-2 : tie.Need-write-requires-2
 unfolding trap
@@ -90,9 +89,9 @@ write-requires-2 c κs =
     let f = c .before .before .before .before .before in
     let start = f .before .before .before .before .before .before .before .before .before in
     let same : f .before .before .before .queue2 .result .waiting ≡ start .args .self .waiting = ap (λ (q : Queue). q .waiting) (f .before .before .before .queue2 .ensures) in
-    let few = start .pre .1 .0 in
+    let few = start .pre .0 in
     let left = f .flush .ensures .1 .1 in
-    (omega arith, (omega arith, start .pre .1 .1 .1 .1))
+    (omega arith, (omega arith, start .pre .1 .1 .1))
 
 after-requires-3 : tie.Need-after-requires-3
 after-requires-3 c κs = search needs
@@ -114,7 +113,7 @@ returns-3 c =
     _ _ (w .write2 .ensures .1 .0 _) (w .write2 .ensures .0) in
     λ work. given (flush ∷ directWrite (a .address) (a .block .now) ∷ []) 2 (a .self) (a .self) (before-it start work) _ _ _ (w .write2 .result) _ _ refl
     (f .before .before .before .queue2 .ensures) (end .0) (end .1) refl (c .after3 .ensures)
-    ∙ direct-full trap (a .address) (a .block .now) (before-it start work) (start .pre .1 .0) (full (f .before .before .before .before))
+    ∙ direct-full trap (a .address) (a .block .now) (before-it start work) (start .pre .0) (full (f .before .before .before .before))
 
 pub written-spec : {M : Type 1} → statement M
 written-spec =
