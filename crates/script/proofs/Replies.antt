@@ -11,7 +11,7 @@ use lib.Seq.{length-take-le, take-at, drop-cons}
 use Rattle.cells.specs.Part.{View, viewOf}
 use Rattle.card.specs.Marks.{spread}
 use Rattle.store.specs.declared.place.Place.{Place}
-use Rattle.store.specs.declared.place.Place.the-variants.{Settled, Work, Nowhere}
+use Rattle.store.specs.declared.place.Place.the-variants.{Settled, Waiting, Work, Nowhere}
 use Rattle.store.specs.State.{State}
 use Rattle.store.specs.Request.{get}
 use Rattle.store.specs.Causes.{cause}
@@ -23,10 +23,12 @@ use Rattle.script.specs.Replies.{Reply, got, values}
 -- ---- get
 
 -- a part has the bytes at its place
-part-bytes : (p : Place) (settled work : RefT (List ℕ)) (st : State) → settled .now ≡ st .settled → work .now ≡ st .work → partAt p settled work .bytes ≡ bytesAt p st
-part-bytes (Settled o) settled work st h k = ap (λ (l : List ℕ). take 512 (drop o l)) h
-part-bytes (Work o) settled work st h k = ap (λ (l : List ℕ). take 512 (drop o l)) k
-part-bytes Nowhere settled work st h k = refl
+part-bytes : (p : Place) (settled waiting work : RefT (List ℕ)) (st : State) → settled .now ≡ st .settled → waiting .now ≡ st .waiting → work .now ≡ st .work
+    → partAt p settled waiting work .bytes ≡ bytesAt p st
+part-bytes (Settled o) settled waiting work st h w k = ap (λ (l : List ℕ). take 512 (drop o l)) h
+part-bytes (Waiting o) settled waiting work st h w k = ap (λ (l : List ℕ). take 512 (drop o l)) w
+part-bytes (Work o) settled waiting work st h w k = ap (λ (l : List ℕ). take 512 (drop o l)) k
+part-bytes Nowhere settled waiting work st h w k = refl
 
 -- a refused get hands out no bytes
 third-got : (k : ℕ) (p : Place) (st : State) → getD (bytesAt (cond (eqb k 0) p Nowhere) st) 0 0 ≡ cond (eqb k 0) (getD (bytesAt (cond (eqb k 0) p Nowhere) st) 0 0) 0
@@ -36,12 +38,12 @@ third-got k p st = go (eqb k 0)
     go true = refl
     go false = refl
 
-pub got-done : (a n t : ℕ) (st : State) (r settled work : RefT (List ℕ)) → settled .now ≡ st .settled → work .now ≡ st .work
-    → n ≡ cause trap (get a) st → viewOf r ≡ partAt (getPlace trap a st) settled work → t ≡ getD (r .now) 0 0
+pub got-done : (a n t : ℕ) (st : State) (r settled waiting work : RefT (List ℕ)) → settled .now ≡ st .settled → waiting .now ≡ st .waiting → work .now ≡ st .work
+    → n ≡ cause trap (get a) st → viewOf r ≡ partAt (getPlace trap a st) settled waiting work → t ≡ getD (r .now) 0 0
     → _≡_ {A = Reply} (record { answer = n; third = t; state = st }) (got a st)
 unfolding getPlace
-got-done a n t st r settled work hs hw hn hr ht =
-    let bytes : r .now ≡ bytesAt (getPlace trap a st) st = ap (λ (v : View). v .bytes) hr ∙ part-bytes (getPlace trap a st) settled work st hs hw in
+got-done a n t st r settled waiting work hs hw hk hn hr ht =
+    let bytes : r .now ≡ bytesAt (getPlace trap a st) st = ap (λ (v : View). v .bytes) hr ∙ part-bytes (getPlace trap a st) settled waiting work st hs hw hk in
     let third : t ≡ cond (eqb (cause trap (get a) st) 0) (getD (bytesAt (getPlace trap a st) st) 0 0) 0 =
     ht ∙ ap (λ (l : List ℕ). getD l 0 0) bytes ∙ third-got (cause trap (get a) st) _ st in
     λ j. record { answer = hn j; third = third j; state = st }

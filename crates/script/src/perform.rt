@@ -99,7 +99,7 @@ fn put(rec: Record, settled: &[u8], waiting: &[u8], work: &mut [u8], address: u3
 }
 
 // A get, and the first byte that it hands out.
-fn get<'a>(rec: Record, settled: &'a [u8], waiting: &[u8], work: &'a [u8], address: u32) -> Done
+fn get<'a>(rec: Record, settled: &'a [u8], waiting: &'a [u8], work: &'a [u8], address: u32) -> Done
     ensures { λ r. ⌜ replyOf (r .number) (r .third) (r .rec) (now (settled .entry)) (now (waiting .entry)) (now (work .entry)) ≡ got address (stateOf rec (now (settled .entry)) (now (waiting .entry)) (now (work .entry))) ⌝ }
 {
     let number = rec.get_number(settled, waiting, work, address);

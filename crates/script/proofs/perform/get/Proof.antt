@@ -19,7 +19,7 @@ returns : tie.Need-returns
 returns c =
     let a = c .before .before .before .before .before .before .args in
     let st = stateOf (a .rec) (a .settled .now) (a .waiting .now) (a .work .now) in
-    got-done (a .address) (c .before .before .get-number .result) (c .first .result) st (c .before .get .result) (a .settled) (a .work) refl refl (c .before .before .get-number .ensures) (c .before .get .ensures) (c .first .ensures)
+    got-done (a .address) (c .before .before .get-number .result) (c .first .result) st (c .before .get .result) (a .settled) (a .waiting) (a .work) refl refl refl (c .before .before .get-number .ensures) (c .before .get .ensures) (c .first .ensures)
 
 pub get-spec : {M : Type 1} → statement M
 get-spec = tie.close (tie.spec get-number-requires get-requires first-requires returns)
