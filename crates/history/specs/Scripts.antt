@@ -19,7 +19,7 @@ use Rattle.script.specs.Answers.{answerLine}
 use Rattle.script.specs.Replies.{marks}
 use Rattle.script.specs.Transcript.{linesOf, reply, printed, said, beginning, transcript}
 use Rattle.journal.specs.Geometry.{trap}
-use Rattle.history.specs.Call.{Call, local, save, cut, power, put, get, commit, abandon, sync, apply, recover, ofGet}
+use Rattle.history.specs.Call.{Call, direct, local, save, cut, power, put, get, commit, abandon, sync, apply, recover, ofGet}
 use Rattle.store.specs.Get.{blockOf}
 use Rattle.history.specs.Dispatch.{called, dispatch}
 use Rattle.history.specs.History.{World, begun, next, after}
@@ -52,6 +52,7 @@ says l = saysOf (parse l) l
 -- "a third number: orders for sync, apply, recover; first byte for a get whose answer is 0; else 0"
 abbrev pub thirdOf : Call → State → ℕ
 thirdOf (local c) st = ofGet (local c) (λ a. cond (eqb (dispatch trap (get a) st .answer) 0) (getD (blockOf trap a st) 0 0) 0) 0
+thirdOf (direct a b) st = dispatch trap (direct a b) st .orders
 thirdOf (save c) st = dispatch trap (save c) st .orders
 thirdOf (cut ms) st = 0
 

@@ -77,6 +77,7 @@ module _ (geo : Geometry) where
   pub entered-even : (c : Call) (st : State) (l m : Ledger) → Even l m → Even (entered geo c st l) (entered geo c st m)
   unfolding entered
   entered-even (local c) st l m e = e
+  entered-even (direct a b) st l m e = e
   entered-even (save c) st l m e = noted-even (headersOf geo c st) (dispatch geo (save c) st .orders) l m e
   entered-even (cut ms) st l m e = go (eqb (dispatch geo (cut ms) st .answer) 0)
     where

@@ -27,7 +27,7 @@ use Rattle.journal.proofs.OrderLists.{length-checkpoint}
 use Rattle.store.specs.declared.record.Record.{Record}
 use Rattle.store.specs.Local as Local
 use Rattle.store.specs.Save as Save
-use Rattle.store.specs.Request.{Request, format, local, save, cut, get, getList, sync, apply, recover}
+use Rattle.store.specs.Request.{Request, format, local, direct, save, cut, get, getList, sync, apply, recover}
 use Rattle.store.specs.State.{State, Outcome, withLog, withGrouped, withSave, cardIn}
 use Rattle.store.specs.Lists.{openFrom, groupFrom, listed, find}
 use Rattle.store.specs.Causes.{cause}
@@ -163,7 +163,10 @@ module _ (geo : Geometry) where
       go true = ap (λ (k : ℕ). cond (leb k (st .rec .power)) (withLog 0 start (st .rec)) (st .rec)) (length-checkpoint N c log ∙ ap (λ (k : ℕ). k + 3) (length-upTo (slotEntry geo (st .settled)) (st .rec .logged)))
       go false = either (leb 0 (st .rec .power))
 
--- neither is a sync
+-- none of these is a sync
+pub direct-other : (a : ℕ) (b : List ℕ) → direct a b ≡ sync → ⊥
+direct-other a b e = let z : _≡_ {A = ℕ} 0 1 = cc in omega arith
+
 pub apply-other : apply ≡ sync → ⊥
 apply-other e = let z : _≡_ {A = ℕ} 0 1 = cc in omega arith
 
@@ -181,6 +184,7 @@ module _ (geo : Geometry) where
   form (local Local.commit) st =
       quiet _ refl refl (record { settled = refl; waiting = refl; work = joined-sized geo (st .rec .opened) (record { work = st .work; count = st .rec .grouped }) })
   form (local Local.abandon) st = quiet _ refl refl (record { settled = refl; waiting = refl; work = refl })
+  form (direct a b) st = gives false (st .rec) refl (record { is = λ e. absurd (direct-other a b e); not = λ h. refl })
   form (save Save.sync) st =
       let done = withGrouped 0 (withLog (metByAppend geo st .logged + st .rec .grouped) (sumOf (metByAppend geo st .sum) (groupOf geo st)) (withSave (savedAs st) (metByAppend geo st))) in
       gives (innerDone geo st) done (ap (λ (r : Record). unless (cause geo sync st) st (carried (ordersOf geo sync st) done r st)) (sync-left geo st)) (record { is = λ e. refl; not = λ h. h refl })

@@ -95,12 +95,12 @@ module _ (geo : Geometry) where
   CutLeads ms st l d = Chosen (cutVerdict ms st l d) (st .rec .blocks) (cutSettled ms st) (cutWritten ms l) d
 
   -- by another name
-  pub chosen-by : {N : ℕ} {s : List ℕ} {w : List Entry} {d : Plain} (v v′ : Verdict) → v ≡ v′ → Chosen v′ N s w d → Chosen v N s w d
-  chosen-by v v′ e c = rw e c
+  pub chosen-by : (N : ℕ) (s : List ℕ) (w : List Entry) (d : Plain) (v v′ : Verdict) → v ≡ v′ → Chosen v′ N s w d → Chosen v N s w d
+  chosen-by N s w d v v′ e c = rw e c
 
   -- one that lays nothing
-  pub chosen-still : {N : ℕ} {s : List ℕ} {w : List Entry} {d : Plain} (v : Verdict) → v .laid ≡ false → Leads geo (Firm geo (cutLoose d)) N s w (d .S) (v .n) (v .F) → take (v .n) (d .log) ≡ addresses (take (v .n) w) → Chosen v N s w d
-  chosen-still v e l q = rw e (l, q)
+  pub chosen-still : (N : ℕ) (s : List ℕ) (w : List Entry) (d : Plain) (v : Verdict) → v .laid ≡ false → Leads geo (Firm geo (cutLoose d)) N s w (d .S) (v .n) (v .F) → take (v .n) (d .log) ≡ addresses (take (v .n) w) → Chosen v N s w d
+  chosen-still N s w d v e l q = rw e (l, q)
 
   -- down: a header waits as the last write or none does, as the plain disk has it, and every cut leads to what it chooses
   pub record DownSim (st : State) (l : Ledger) (d : Plain) : Type 0 where

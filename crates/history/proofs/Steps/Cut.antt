@@ -19,6 +19,7 @@ use Rattle.card.proofs.Cuts.{cut-length}
 use Rattle.card.specs.Marks.{marksFit}
 use Rattle.crash.proofs.Cards.{ClosedCard}
 use Rattle.crash.proofs.Batches.{no-queue}
+use Rattle.crash.proofs.Frames.{Besides}
 use Rattle.crash.proofs.CallCuts.{still-cuts}
 use Rattle.crash.proofs.Leads.{foundIn, Behind, none-behind}
 use Rattle.crash.proofs.Waiting.{leads-sub}
@@ -60,7 +61,7 @@ module _ (geo : Geometry) where
     where
       go : OpenSim geo st l d ⊎ (ClosedSim geo st l d ⊎ DownSim geo st l d) → CutLeads geo ms st l d
       go (_⊎_.inl o) =
-          still-leads ms st l d refl h (o .short) (o .pending) (rw (o .n, o .F) (Facts.behind geo st l d (m .basics) o))
+          still-leads {X = Besides (queue (cardIn st))} {Y = Besides (queue (cardIn st))} ms st l d refl h (o .short) (o .pending) (rw (o .n, o .F) (Facts.behind geo st l d (m .basics) o))
           (λ a f. firm-besides a (queue (cardIn st)) (rw (Facts.writes-are geo st l d (m .basics) o) at f))
           (rw (Facts.log-are geo st l d (m .basics) o, Facts.written-is geo st l d (m .basics) o) (sym (addresses-take (d .n) _)))
       go (_⊎_.inr (_⊎_.inl o)) =

@@ -149,7 +149,7 @@ module _ (geo : Geometry) where
         below = queue-below N r (rw (x .left .waits) (x .low))
 
         now : Sim geo (withCard r (withRecord (withMode down (f .gone)) st)) (noted (f .headers) (w .plain .power) (w .ledger))
-            (cutFrom geo (f .short) (f .waits) (w .plain .power) (w .plain))
+            (cutFrom (f .short) (f .waits) (w .plain .power) (w .plain))
         now = record {
           basics = record {
             sizes = facts-sizes geo _ (sizes-kept geo st _ settled-size (x .left .room) refl sz);

@@ -43,7 +43,7 @@ use Rattle.history.proofs.Relation.CauseLaws.{record-facts, idle, cause
 use Rattle.history.proofs.Relation.Forms.{called-refused}
 use Rattle.history.proofs.Relation.EvenLedgers.{even-refl}
 use Rattle.history.proofs.Relation.PlainLaws.{header-none}
-use Rattle.history.proofs.Relation.Sim.{Basics, Waits, OpenSim, ClosedSim, DownSim, Sim, Safe}
+use Rattle.history.proofs.Relation.Sim.{Basics, Firm, Waits, OpenSim, ClosedSim, DownSim, Sim, Safe}
 
 -- ---- what a step has to show
 
@@ -143,9 +143,9 @@ module _ (geo : Geometry) where
         let one : S .groups + 1 - 1 ≡ S .groups = omega arith in
         rw (h, ours N n (sumOf start (logD geo (blockAt s) n)) (r .c) (r .ns) (S .groups + 1) (r .head .ordered) (r .head .most) (r .head .numbered), f, r .bad, e, eq-eqb (sumOf start (logD geo (blockAt s) n)) (sumOf start (logD geo (blockAt s) n)) refl, r .all, one)
 
-  pub closed-choice : {X : ℕ → Type 0} (N : ℕ) (s : List ℕ) (w : List Entry) (S : Laid) (n : ℕ) (F : Bool) → N < 2 ^ 32 → ClosedCard geo X N (blockAt s) w S n F → choiceNumber (choose geo N s) ≡ 0
-  closed-choice N s w S n false l r = ap choiceNumber (choose-whole N s l w S n r)
-  closed-choice N s w S n true l r = ap choiceNumber (choose-fallback N s l w S n r)
+  pub closed-choice : (X : ℕ → Type 0) (N : ℕ) (s : List ℕ) (w : List Entry) (S : Laid) (n : ℕ) (F : Bool) → N < 2 ^ 32 → ClosedCard geo X N (blockAt s) w S n F → choiceNumber (choose geo N s) ≡ 0
+  closed-choice X N s w S n false l r = ap choiceNumber (choose-whole N s l w S n r)
+  closed-choice X N s w S n true l r = ap choiceNumber (choose-fallback N s l w S n r)
 
   -- direct writes that wait are to data blocks
   pub waits-off : (st : State) → All (Waits geo st) (queue (cardIn st)) → KeepOff geo (queue (cardIn st))
@@ -180,7 +180,7 @@ module _ (geo : Geometry) where
     where
       choice : st .rec .mode ≡ closed → OpenSim geo st l d ⊎ (ClosedSim geo st l d ⊎ DownSim geo st l d) → choiceNumber (choose geo (st .rec .blocks) (st .settled)) ≡ 0
       choice z (_⊎_.inl o) = absurd (omega (arith, o .mode))
-      choice z (_⊎_.inr (_⊎_.inl o)) = closed-choice (st .rec .blocks) (st .settled) (l .written) (d .S) (d .n) (d .F) (small-N st d (m .basics)) (o .card)
+      choice z (_⊎_.inr (_⊎_.inl o)) = closed-choice (Firm geo (d .loose)) (st .rec .blocks) (st .settled) (l .written) (d .S) (d .n) (d .F) (small-N st d (m .basics)) (o .card)
       choice z (_⊎_.inr (_⊎_.inr o)) = absurd (omega (arith, o .mode))
 
   -- ---- a refused call changes nothing
