@@ -103,6 +103,10 @@ pub length-addresses : (l : List Entry) → length (addresses l) ≡ length l
 unfolding addresses
 length-addresses l = rw (length-map)
 
+-- what waits and nothing else
+pub waits-besides : (l : List Entry) (a : ℕ) → among a (addresses l ++ []) ≡ false → All (λ e. a ≢ e .address) l
+waits-besides l a h = firm-besides a l (rw (append-nil (addresses l)) at h)
+
 -- ---- a list that has no address twice
 
 abbrev pub Distinct : List Entry → Type 0

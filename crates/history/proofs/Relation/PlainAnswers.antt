@@ -65,9 +65,9 @@ module _ (geo : Geometry) where
   save-end f Save.recover d = go (d .F) refl (decLe 2 (d .power))
     where
       go : (t : Bool) → d .F ≡ t → Dec (2 ≤ d .power) → SaveEnd f Save.recover d
-      go false f q = whole _ _ (recover-whole geo f d f) refl (omega arith) (_⊎_.inr refl)
-      go true f (yes q) = whole _ _ (recover-fallback geo f d f q) refl (omega arith) (_⊎_.inr refl)
-      go true f (no q) = short _ _ (recover-short geo f d f (omega arith))
+      go false z q = whole _ _ (recover-whole geo f d z) refl (omega arith) (_⊎_.inr refl)
+      go true z (yes q) = whole _ _ (recover-fallback geo f d z q) refl (omega arith) (_⊎_.inr refl)
+      go true z (no q) = short _ _ (recover-short geo f d z (omega arith))
 
   save-answer : (f : Disk) (c : Save) (d : Plain) → SaveEnd f c d → Either (saving geo c f d .answer)
   save-answer f c d (whole k e p n s m) = _⊎_.inl (ap (λ (o : Done). o .answer) p)

@@ -11,27 +11,26 @@ use lib.ListN.{length}
 use Rattle.cells.specs.Entry.{Entry}
 use Rattle.fnv.specs.Fnv.{start}
 use Rattle.crash.specs.Laid.{Laid}
-use Rattle.card.specs.Card.{Order}
+use Rattle.card.specs.Card.{Order, queue}
 use Rattle.journal.specs.Geometry.{Geometry}
 use Rattle.journal.proofs.Logs.{sumOf-nil}
 use Rattle.store.specs.Request as Request
-use Rattle.store.specs.State.{State, Outcome, withLog}
+use Rattle.store.specs.State.{State, Outcome, withLog, cardIn}
 use Rattle.store.specs.Causes.{cause}
 use Rattle.store.specs.Saves.{carried, groupOf}
 use Rattle.history.specs.Call.{Call, get, apply}
-use Rattle.history.specs.Plain.{ofApply, Done, refusal, plainStep, plainApply, applyWaits, headerKept}
+use Rattle.history.specs.Plain.{Plain, ofApply, addresses, flushes, Done, refusal, plainStep, plainApply, applyWaits, headerKept}
 use Rattle.history.specs.Dispatch.{called, dispatch}
 use Rattle.history.specs.Ledger.{applyHeaders, noted, entered, applyHeader}
-use Rattle.history.specs.History.{World, ledgerNext, foundWritten}
+use Rattle.history.specs.History.{World, ledgerNext, fed}
 use Rattle.crash.proofs.Plans.{Plan, planned, takes, Throughout, throughout-map}
 use Rattle.history.proofs.Relation.CauseLaws.{RecordFacts, record-facts}
-use Rattle.history.proofs.Relation.Sim.{Basics, OpenSim, leads-still}
+use Rattle.history.proofs.Relation.Sim.{Basics, OpenSim, chosen-by, chosen-still}
 use Rattle.history.proofs.Relation.PlainLaws.{apply-laid, apply-nothing, apply-finished, apply-short, choose-apply, header-apply}
 use Rattle.history.proofs.Steps.Shown.{WorldSim, StepOK, sim-step, sim-at, same-cause, plain-served, noted-none}
 use Rattle.history.proofs.Steps.Notes.{note-past, noted-end}
 use Rattle.history.proofs.Steps.Ends.{openPlain, open-listed, group-listed}
-use Rattle.history.proofs.Steps.Gives.{countable, CutsAt, Gives, gives-step}
-use Rattle.history.proofs.Relation.OpenFacts.{none-waits}
+use Rattle.history.proofs.Steps.Gives.{countable, cutFrom, CutsAt, Gives, gives-step}
 use Rattle.history.proofs.Steps.Worlds.{settledLedger, plainNow, openWorld, Opened, opened-sim, open-step}
 use Rattle.history.proofs.Steps.Checkpoints.{checkpoint, checkpoint-orders, checkpoint-takes, checkpoint-fits, CheckpointCuts, checkpoint-cuts, emptied-card}
 
@@ -72,15 +71,15 @@ module _ (geo : Geometry) where
     accepted : cause geo Request.apply st ≡ 0
     accepted = same-cause geo st (settledLedger v) (plainNow geo st S) (opened-sim geo f) apply ∙ served
 
-    plain : plainStep geo apply (foundWritten geo apply w) (plainNow geo st S) ≡ plainApply (plainNow geo st S)
-    plain = plain-served geo apply (foundWritten geo apply w) (plainNow geo st S) served
+    plain : plainStep geo apply (fed geo apply w) (plainNow geo st S) ≡ plainApply geo (plainNow geo st S)
+    plain = plain-served geo apply (fed geo apply w) (plainNow geo st S) served
 
     -- n = 0
     none-logged : st .rec .logged ≡ 0 → StepOK geo apply w
     unfolding called entered
     none-logged z =
         let D : dispatch geo apply st ≡ record { answer = 0; orders = 0; state = st } = rw (eq-eqb _ 0 accepted, eq-eqb _ 0 z) in
-        nothing-step geo apply w (opened-sim geo f) D (plain ∙ apply-nothing (plainNow geo st S) z)
+        nothing-step geo apply w (opened-sim geo f) D (plain ∙ apply-nothing geo (plainNow geo st S) z)
         (ap (λ (y : Outcome). noted (applyHeaders st) (y .orders) (settledLedger v)) D ∙ noted-none (applyHeaders st) (settledLedger v)) apply-no-get
 
     -- its checkpoint
@@ -95,18 +94,25 @@ module _ (geo : Geometry) where
       unfolding called
       call = rw (eq-eqb _ 0 accepted, ne-eqb _ 0 z) (ap (λ (os : List Order). carried os (withLog 0 start (st .rec)) (st .rec) st) (checkpoint-orders geo st (settledLedger v) (plainNow geo st S) b o))
 
-      cuts : Throughout (CutsAt geo w (applyHeader st ∷ []) ofApply (applyWaits (st .rec .logged))) [] plan (st .settled) 0
+      -- the plain disk cut short after k orders
+      abbrev short : ℕ → Plain
+      short k = cutFrom geo ofApply (applyWaits (st .rec .waiting) (st .rec .logged)) k (plainNow geo st S)
+
+      cuts : Throughout (CutsAt geo w (applyHeader st ∷ []) ofApply (applyWaits (st .rec .waiting) (st .rec .logged))) (queue (cardIn st)) plan (st .settled) 0
+      unfolding flushes
       cuts =
-          throughout-map (CheckpointCuts geo st (settledLedger v) (plainNow geo st S) b o []) (CutsAt geo w (applyHeader st ∷ []) ofApply (applyWaits (st .rec .logged))) [] plan (st .settled) 0
+          throughout-map (CheckpointCuts geo st (settledLedger v) (plainNow geo st S) b o []) (CutsAt geo w (applyHeader st ∷ []) ofApply (applyWaits (st .rec .waiting) (st .rec .logged))) (queue (cardIn st)) plan (st .settled) 0
           (λ s q k h y. record {
             waiting = y .waiting;
             top = rw (header-apply geo k (st .rec .logged) (length (groupOf geo st))) (y .top);
-            leads = λ r l ms e. leads-still geo _ _ _ (choose-apply geo k (st .rec .logged) (length (groupOf geo st)) false (headerKept ms (applyWaits (st .rec .logged) k)) _) (apply-laid k _ _ _) (y .leads r l ms e);
+            leads = λ r l ms e.
+                chosen-by geo _ _ _ (short k) _ _ (choose-apply geo k (st .rec .logged) (length (groupOf geo st)) false (headerKept ms (applyWaits (st .rec .waiting) (st .rec .logged) k)) _)
+                (chosen-still geo _ _ _ (short k) _ (apply-laid k _ _ _) (y .leads r l ms e) (y .lists ms));
           })
           (checkpoint-cuts geo st (settledLedger v) (plainNow geo st S) b o [])
 
       gives : Gives geo apply w plan
-      unfolding entered applyHeaders
+      unfolding entered applyHeaders addresses
       gives = record {
         done = withLog 0 start (st .rec);
         gone = st .rec;
@@ -115,17 +121,17 @@ module _ (geo : Geometry) where
         headers = applyHeader st ∷ [];
         notes = refl;
         short = ofApply;
-        waits = applyWaits (st .rec .logged);
+        waits = applyWaits (st .rec .waiting) (st .rec .logged);
         S = S;
         plain-done = λ p.
-            plain ∙ apply-finished (plainNow geo st S) z (omega (arith, count))
-            ∙ ap (λ (k : ℕ). record { answer = 0; orders = k; plain = openPlain geo st (withLog 0 start (st .rec)) S (st .rec .power - k) }) (sym count);
-        plain-short = λ p. plain ∙ apply-short (plainNow geo st S) z (omega (arith, count));
+            plain ∙ apply-finished geo (plainNow geo st S) z (omega (arith, count))
+            ∙ ap (λ (k : ℕ). record { answer = 0; orders = k; plain = openPlain geo st (withLog 0 start (st .rec)) S (st .rec .power - k) [] }) (sym count);
+        plain-short = λ p. plain ∙ apply-short geo (plainNow geo st S) z (omega (arith, count));
         cuts = cuts;
         list = [];
         noted-all = note-past (applyHeader st) [] (takes plan) (settledLedger v) (omega (arith, count)) ∙ noted-end (takes plan) _;
         ends = record {
-          none-waits = none-waits geo st (settledLedger v) (plainNow geo st S) b o;
+          none-waits = refl;
           fits = checkpoint-fits geo st (settledLedger v) (plainNow geo st S) b o;
           mode = o .mode;
           blocks = refl;
