@@ -5,8 +5,8 @@ use mathlib.Core.Logic.{_≢_}
 use mathlib.Core.Bool.{Bool, true, false, cond, not, false≢true}
 use mathlib.Core.List.{List, [], _∷_, _++_}
 use native.Mathlib.Omega.{arith}
-use native.Mathlib.Decide.{decLe}
-use borrow.Author.Tests.{eqb-false, le-leb, lt-leb, leb-false, not-true}
+use native.Mathlib.Decide.{ℕ-discrete, decLe}
+use borrow.Author.Tests.{eq-eqb, ne-eqb, eqb-false, le-leb, lt-leb, leb-false, not-true}
 use lib.Dec.{eqb, leb}
 use lib.ListN.{length}
 use Rattle.fnv.specs.Fnv.{start}
@@ -36,7 +36,8 @@ use Rattle.store.proofs.Saves.{apply-carried}
 use Rattle.store.proofs.Costs as Costs
 use Rattle.history.specs.Dispatch.{called}
 use Rattle.history.specs.Costs.{madeWith, ApplyFirst, Foretold, Foretells, Takes, ClosedForms}
-use Rattle.history.proofs.Relation.CauseLaws.{idle, record-facts, cause-passes, cause-opened}
+use Rattle.history.proofs.Relation.CauseLaws.{cause-opened}
+use Rattle.history.proofs.Boundary.Refusals.{recover-idle}
 use Rattle.history.proofs.Relation.Forms.{called-refused, apply-other, recover-other}
 use Rattle.history.proofs.Steps.CallEnds.{carried-done, carried-short}
 
@@ -217,7 +218,7 @@ module _ (geo : Geometry) where
 
   pub forms : (st : State) → ClosedForms geo st
   forms st = record {
-    sync-none = λ z h. takes Save.sync st _ _ _ z (Costs.sync-cost-none geo st h);
+    sync-none = λ z h. sync-empty z h (ℕ-discrete (st .rec .waiting) 0);
     sync-room = λ z h l. takes Save.sync st _ _ _ z (Costs.sync-cost-room geo st h l);
     sync-applies = λ z l.
         let few = cause-opened geo sync st refl refl z .facts .counts .log-count in
@@ -229,4 +230,9 @@ module _ (geo : Geometry) where
   }
     where
       none : cause geo recover st ≡ 0 → st .rec .waiting ≡ 0
-      none z = let p = cause-passes geo recover st z in idle geo st (record-facts geo st (p .counts)) (eqb-false _ _ (p .own .0))
+      none z = recover-idle geo st z
+
+      -- nothing waits, or a flush
+      sync-empty : cause geo sync st ≡ 0 → st .rec .grouped ≡ 0 → Dec (st .rec .waiting ≡ 0) → Takes geo Save.sync st (cond (eqb (st .rec .waiting) 0) 0 1) false (st .rec .waiting)
+      sync-empty z h (yes e) = rw (eq-eqb _ _ e) (takes Save.sync st _ _ _ z (Costs.sync-cost-none geo st h e))
+      sync-empty z h (no e) = rw (ne-eqb _ _ e) (takes Save.sync st _ _ _ z (Costs.sync-cost-flush geo st h e))

@@ -28,7 +28,7 @@ use Rattle.store.specs.State.{State, Outcome, withQueue, withRecord, withCard, 
 use Rattle.store.specs.Causes.{wrongSizes, wrongRecord, ofRecord, causeBy, cause}
 use Rattle.store.specs.Outcomes.{refused, completed, unless}
 use Rattle.store.specs.Cut.{shut}
-use Rattle.store.proofs.Causes.{Checked, passes-sound}
+use Rattle.store.proofs.Causes.{any-waits, Checked, passes-sound}
 use Rattle.history.specs.Call.{cut}
 use Rattle.history.specs.Dispatch.{called, dispatch}
 use Rattle.history.specs.Cuts.{wholeMarksRow, wholeCutCall, firstRows, settledBehind, AllCuts, Mixture, WholeHeader, AllMixtures}
@@ -100,7 +100,7 @@ module _ (geo : Geometry) where
     unfolding queue
     waits-whole =
         all-upTo Whole (entryAt (st .waiting)) (st .rec .waiting)
-        (λ i h. length-block (st .waiting) i (omega (arith, s .sizes .waiting, s .counts .waiting-count)))
+        (λ i h. length-block (st .waiting) i (omega (arith, s .sizes .waiting, any-waits geo st (s .counts))))
 
     waits-inside : All (λ e. e .address < blocksIn (st .settled)) (queue (cardIn st))
     waits-inside = below-queue (blocksIn (st .settled)) (cardIn st) (λ i h. omega (arith, s .waiting-below i h, s .counts .blocks))

@@ -63,7 +63,7 @@ module _ (geo : Geometry) where
   unfolding getPlace
   parts a st = record {
     block = λ h. rw (ne-eqb (cause geo (Request.get a) st) 0 h);
-    part = λ h settled work. rw (ne-eqb (cause geo (Request.get a) st) 0 h);
+    part = λ h settled waiting work. rw (ne-eqb (cause geo (Request.get a) st) 0 h);
   }
 
   -- ---- what C sees

@@ -154,7 +154,6 @@ module _ (geo : Geometry) where
         group-count = omega arith;
         log-count = omega arith;
         waiting-count = omega arith;
-        waiting-down = λ z. absurd (z refl);
         blocks = refl;
         waiting-below = λ i z. absurd (omega arith);
         lists = λ z. absurd (omega arith);

@@ -27,7 +27,8 @@ use Rattle.journal.specs.Ours.{OurHeader}
 use Rattle.journal.specs.declared.header.Header.{Header}
 use Rattle.journal.specs.Choice.{foreign}
 use Rattle.journal.proofs.OurHeaders.{known-bytes}
-use Rattle.crash.proofs.Cards.{Every, HasHeader, FallCard, ClosedCard}
+use Rattle.crash.proofs.Cards.{HasHeader, FallCard, ClosedCard}
+use Rattle.crash.proofs.Frames.{Besides}
 use Rattle.crash.proofs.Leads.{read-head}
 use Rattle.crash.proofs.Logs.{logD}
 use Rattle.store.specs.declared.record.Record.{Record}
@@ -49,7 +50,8 @@ use Rattle.history.specs.Statements.{finished}
 use Rattle.history.specs.Formats.{headerBlock, countIn, Known, AtCounter, Begins, Guards, GuardsPlain}
 use Rattle.history.proofs.Relation.CauseLaws.{facts-sizes, record-facts}
 use Rattle.history.proofs.Relation.Forms.{called-refused}
-use Rattle.history.proofs.Relation.Sim.{OpenSim, ClosedSim, DownSim, Sim, Safe}
+use Rattle.history.proofs.Relation.Sim.{Firm, OpenSim, ClosedSim, cutLoose, DownSim, Sim, Safe}
+use Rattle.history.proofs.Relation.OpenFacts as Facts
 use Rattle.history.proofs.Steps.Shown.{small-N, ours, WorldSim}
 use Rattle.history.proofs.Steps.Cut.{any-cut-leads}
 use Rattle.history.proofs.Steps.ListInduction.{next-safe, formatted-now, begun-safe}
@@ -109,10 +111,10 @@ module _ (geo : Geometry) where
   -- and what it leaves has such a header
   headed : (st : State) (l : Ledger) (d : Plain) → Sim geo st l d → Headed st
   headed st l d m =
-      let safe = any-cut-leads geo (lost (queue (cardIn st))) st l d m (lost-fits (queue (cardIn st))) .safe in
+      let safe = any-cut-leads geo (lost (queue (cardIn st))) st l d m (lost-fits (queue (cardIn st))) .0 .safe in
       go (safe .F) (safe .w) (safe .S) (safe .n) (safe .card)
     where
-      go : (F : Bool) (w : List Entry) (S : Laid) (n : ℕ) → ClosedCard geo Every (st .rec .blocks) (blockAt (lostSettled st)) w S n F → Headed st
+      go : (F : Bool) (w : List Entry) (S : Laid) (n : ℕ) → ClosedCard geo (Firm geo (cutLoose d)) (st .rec .blocks) (blockAt (lostSettled st)) w S n F → Headed st
       go false w S n r = record { p = r .p; ps = r .ps; c = n; ns = sumOf start (logD geo (blockAt (lostSettled st)) n); k = S .groups; head = moved (sym (stays st l d m)) (r .head) }
       go true w S n r = record { p = n; ps = sumOf start (logD geo (blockAt (lostSettled st)) n); c = r .c; ns = r .ns; k = S .groups + 1; head = moved (sym (stays st l d m)) (r .head) }
 
@@ -149,7 +151,7 @@ module _ (geo : Geometry) where
     open-count o = go (m .phase)
       where
         go : OpenSim geo st l d ⊎ (ClosedSim geo st l d ⊎ DownSim geo st l d) → countIn (st .settled) ≡ st .rec .logged
-        go (_⊎_.inl x) = count-read (st .rec .blocks) (st .settled) _ _ _ _ _ (small-N geo st d (m .basics)) (x .card .head)
+        go (_⊎_.inl x) = count-read (st .rec .blocks) (st .settled) _ _ _ _ _ (small-N geo st d (m .basics)) (Facts.behind geo st l d (m .basics) x .card .head)
         go (_⊎_.inr (_⊎_.inl x)) = absurd (omega (arith, x .mode))
         go (_⊎_.inr (_⊎_.inr x)) = absurd (omega (arith, x .mode))
 
@@ -212,16 +214,16 @@ module _ (geo : Geometry) where
       small : N < 2 ^ 32
       small = small-N geo (w .store) (w .plain) (m .basics)
 
-      by : (F : Bool) → w .plain .F ≡ F → ClosedCard geo Every N (blockAt (w .store .settled)) (w .ledger .written) (w .plain .S) (w .plain .n) F → GuardsPlain geo w
-      by false f r = record { whole = λ e. count-read N (w .store .settled) _ _ _ _ _ small (r .head); fallback = λ e. absurd (true≢false (sym e ∙ f)) }
-      by true f r = record {
+      by : (X : ℕ → Type 0) (F : Bool) → w .plain .F ≡ F → ClosedCard geo X N (blockAt (w .store .settled)) (w .ledger .written) (w .plain .S) (w .plain .n) F → GuardsPlain geo w
+      by X false f r = record { whole = λ e. count-read N (w .store .settled) _ _ _ _ _ small (r .head); fallback = λ e. absurd (true≢false (sym e ∙ f)) }
+      by X true f r = record {
         whole = λ e. absurd (true≢false (sym f ∙ e));
         fallback = λ e. subst (λ (k : ℕ). w .plain .n < k) (sym (count-read N (w .store .settled) _ _ _ _ _ small (r .head))) (falls-above r);
       }
 
       go : OpenSim geo (w .store) (w .ledger) (w .plain) ⊎ (ClosedSim geo (w .store) (w .ledger) (w .plain) ⊎ DownSim geo (w .store) (w .ledger) (w .plain)) → GuardsPlain geo w
-      go (_⊎_.inl x) = by false (x .F) (rw (x .n) (x .card))
-      go (_⊎_.inr (_⊎_.inl x)) = by (w .plain .F) refl (x .card)
+      go (_⊎_.inl x) = by (Besides (queue (cardIn (w .store)))) false (x .F) (rw (x .n) (Facts.behind geo (w .store) (w .ledger) (w .plain) (m .basics) x .card))
+      go (_⊎_.inr (_⊎_.inl x)) = by (Firm geo (w .plain .loose)) (w .plain .F) refl (x .card)
       go (_⊎_.inr (_⊎_.inr x)) = absurd (c (x .mode))
 
   -- ---- a format that is served

@@ -31,15 +31,15 @@ use Rattle.store.specs.GetList.{Listing, listing}
 use Rattle.store.specs.Cost.{costOf}
 use Rattle.store.proofs.Saves.{apply-carried}
 use Rattle.store.proofs.Listings.{listing-number}
-use Rattle.store.proofs.Causes.{sizes-facts}
+use Rattle.store.proofs.Causes.{any-waits, sizes-facts, sound}
 use Rattle.firmware.specs.Face.{recordBytes, decodeRecord, Face, faceOf, faced, handed, Got, gotIn, got, listed, told, asked}
 use Rattle.firmware.proofs.Records.{length-encode, Fitting, decode-encode}
 use Rattle.firmware.proofs.Faces.{faced-length, faced-outcome, got-place, listed-listing, asked-cost}
-use Rattle.history.specs.Call.{Call, requestOf, local, save, cut, power, get, getList, ofGet, ofList}
-use Rattle.history.specs.Plain.{Plain, Done, refusal, locally, served, plainStep, plainCut}
+use Rattle.history.specs.Call.{Call, requestOf, local, direct, save, cut, power, get, getList, ofGet, ofList}
+use Rattle.history.specs.Plain.{Plain, Fed, Done, refusal, locally, served, plainStep, plainCut}
 use Rattle.history.specs.Dispatch.{called, dispatch}
 use Rattle.history.specs.Ledger.{Ledger, entered}
-use Rattle.history.specs.History.{World, begun, next, after, foundWritten}
+use Rattle.history.specs.History.{World, begun, next, after, fed}
 use Rattle.history.specs.Linked.{faceNext, faceAfter, Passable, AllPassable, BytesOf, Links, Linked}
 use Rattle.store.proofs.Causes.{needsOpen}
 use Rattle.history.proofs.Relation.CauseLaws.{record-facts, cause-passes}
@@ -48,7 +48,7 @@ use Rattle.history.proofs.Relation.Sim.{OpenSim, ClosedSim, DownSim, Sa
 use Rattle.history.proofs.Steps.Shown.{same-cause, dispatch-refused, plain-refused, plain-served}
 use Rattle.history.proofs.Steps.Local.{is-open}
 use Rattle.history.proofs.Steps.ListInduction.{step, next-safe, begun-safe, formatted-now}
-use Rattle.history.proofs.Relation.PlainAnswers.{save-end, save-power, LocalKind, powers, opens, local-kind}
+use Rattle.history.proofs.Relation.PlainAnswers.{save-end, save-power, LocalKind, powers, opens, local-kind, direct-cases}
 
 -- ---- the power only sinks, or is set
 
@@ -57,18 +57,19 @@ module _ (geo : Geometry) where
   local-power c d (powers k) p h = p k refl
   local-power c d (opens _ n s) p h = rw (s d .power) h
 
-  served-power : (c : Call) (t : Bool) (d : Plain) → Passable c → d .power < 2 ^ 32 → served geo c t d .plain .power < 2 ^ 32
+  served-power : (c : Call) (f : Fed) (d : Plain) → Passable c → d .power < 2 ^ 32 → served geo c f d .plain .power < 2 ^ 32
   unfolding plainCut
-  served-power (local c) t d p h = local-power c d (local-kind geo c) p h
-  served-power (save c) t d p h = omega (arith, save-power geo c d (save-end geo c d))
-  served-power (cut ms) t d p h = h
+  served-power (local c) f d p h = local-power c d (local-kind geo c) p h
+  served-power (direct a b) f d p h = direct-cases geo (λ o. o .plain .power < 2 ^ 32) a b d (λ q. omega arith) (λ q. omega arith)
+  served-power (save c) f d p h = omega (arith, save-power geo (f .found) c d (save-end geo (f .found) c d))
+  served-power (cut ms) f d p h = h
 
-  plain-power : (c : Call) (t : Bool) (d : Plain) → Passable c → d .power < 2 ^ 32 → plainStep geo c t d .plain .power < 2 ^ 32
-  plain-power c t d p h = go (ℕ-discrete (refusal geo c d) 0)
+  plain-power : (c : Call) (f : Fed) (d : Plain) → Passable c → d .power < 2 ^ 32 → plainStep geo c f d .plain .power < 2 ^ 32
+  plain-power c f d p h = go (ℕ-discrete (refusal geo c d) 0)
     where
-      go : Dec (refusal geo c d ≡ 0) → plainStep geo c t d .plain .power < 2 ^ 32
-      go (yes e) = rw (plain-served geo c t d e) (served-power c t d p h)
-      go (no e) = rw (plain-refused geo c t d e) h
+      go : Dec (refusal geo c d ≡ 0) → plainStep geo c f d .plain .power < 2 ^ 32
+      go (yes e) = rw (plain-served geo c f d e) (served-power c f d p h)
+      go (no e) = rw (plain-refused geo c f d e) h
 
 -- ---- sum and save number fit, or the record is open
 
@@ -127,13 +128,13 @@ module _ (geo : Geometry) where
 
     -- a call on an open record that leaves the plain disk's mode leaves it open
     still-open : (c : Call) (q : Request.Request) → requestOf c ≡ q → needsOpen geo q ≡ true → cause geo q st ≡ 0
-        → served geo c (foundWritten geo c world) (s .plain) .plain .mode ≡ s .plain .mode → dispatch geo c st .state .rec .mode ≡ openMode
+        → served geo c (fed geo c world) (s .plain) .plain .mode ≡ s .plain .mode → dispatch geo c st .state .rec .mode ≡ openMode
     unfolding world
     still-open c q e n h k =
         let z : cause geo (requestOf c) st ≡ 0 = ap (λ (x : Request.Request). cause geo x st) e ∙ h in
         let r : refusal geo c (s .plain) ≡ 0 = sym (same-cause geo st (s .ledger) (s .plain) (s .sim) c) ∙ z in
         let o = is-open geo st (s .ledger) (s .plain) (s .sim) q n (cause-passes geo q st h) in
-        step geo c world (s .sim) .agrees .mode ∙ ap (λ (x : Done). x .plain .mode) (plain-served geo c (foundWritten geo c world) (s .plain) r) ∙ k ∙ s .sim .basics .mirrors .mode ∙ o .mode
+        step geo c world (s .sim) .agrees .mode ∙ ap (λ (x : Done). x .plain .mode) (plain-served geo c (fed geo c world) (s .plain) r) ∙ k ∙ s .sim .basics .mirrors .mode ∙ o .mode
 
     local-numbers : (c : Local) → LocalKind geo c → cause geo (Request.local c) st ≡ 0 → Numbers st (dispatch geo (local c) st)
     unfolding called
@@ -143,6 +144,7 @@ module _ (geo : Geometry) where
     served-numbers : (c : Call) → cause geo (requestOf c) st ≡ 0 → Numbers st (dispatch geo c st)
     unfolding called
     served-numbers (local c) h = local-numbers c (local-kind geo c) h
+    served-numbers (direct a b) h = rw (eq-eqb _ 0 h) (carried-numbers _ _ _ st (_⊎_.inr (same-keeps (st .rec))) (same-keeps (st .rec)))
     served-numbers (save Save.sync) h =
         rw (eq-eqb _ 0 h) (sync-numbers geo st (is-open geo st (s .ledger) (s .plain) (s .sim) Request.sync refl (cause-passes geo Request.sync st h) .mode))
     served-numbers (save Save.apply) h = rw (eq-eqb _ 0 h, apply-carried geo st) (apply-numbers st _)
@@ -170,7 +172,7 @@ module _ (geo : Geometry) where
   next-bounded c st l s p b =
       let n = by-mode (numbers geo st l s c) in
       record {
-        power = rw (agrees .power) (plain-power geo c (foundWritten geo c (world geo st l s)) (s .plain) p (rw (s .sim .basics .power) (b .power)));
+        power = rw (agrees .power) (plain-power geo c (fed geo c (world geo st l s)) (s .plain) p (rw (s .sim .basics .power) (b .power)));
         sum = n .0;
         save = n .1;
       }
@@ -200,7 +202,8 @@ module _ (geo : Geometry) where
   fits st l s b =
       let r = record-facts geo st (s .sim .basics .counts) in
       let z = sizes-facts geo st (s .sim .basics .sizes) in
-      omega (arith, r .mode, r .blocks, z .most, r .open-count, r .group-count, r .log-count, r .waiting-count, b .power, b .sum, b .save)
+      let w = any-waits geo st (sound geo st (s .sim .basics .sizes) (s .sim .basics .counts) .counts) in
+      omega (arith, r .mode, r .blocks, z .most, r .open-count, r .group-count, r .log-count, w, b .power, b .sum, b .save)
 
 -- ---- C passes on the state
 
@@ -242,6 +245,7 @@ of-get P (local (Local.get a)) f x g h = g a refl
 of-get P (local (Local.getList xs bs)) f x g h = h
 of-get P (local Local.commit) f x g h = h
 of-get P (local Local.abandon) f x g h = h
+of-get P (direct a b) f x g h = h
 of-get P (save c) f x g h = h
 of-get P (cut ms) f x g h = h
 
@@ -253,6 +257,7 @@ of-list P (local (Local.get a)) f x g h = h
 of-list P (local (Local.getList xs bs)) f x g h = g xs bs refl
 of-list P (local Local.commit) f x g h = h
 of-list P (local Local.abandon) f x g h = h
+of-list P (direct a b) f x g h = h
 of-list P (save c) f x g h = h
 of-list P (cut ms) f x g h = h
 

@@ -36,7 +36,7 @@ use Rattle.script.specs.Transcript.{reply, printed, said, beginning, transcript
 use Rattle.journal.specs.Geometry.{trap}
 use Rattle.journal.specs.Choice.{choose, choiceNumber}
 use Rattle.journal.specs.Ours.{OurHeader}
-use Rattle.history.specs.Call.{Call, requestOf, local, save, cut, power, put, get, getList, commit, abandon, sync, apply, recover}
+use Rattle.history.specs.Call.{Call, requestOf, local, direct, save, cut, power, put, get, getList, commit, abandon, sync, apply, recover}
 use Rattle.store.specs.Get.{blockOf}
 use Rattle.history.specs.Dispatch.{called, dispatch}
 use Rattle.history.specs.History.{World, begun, next, after}
@@ -151,6 +151,7 @@ blank-call (local (Local.get a)) st b = blank-refused (get a) st (blank-closed (
 blank-call (local (Local.getList xs bs)) st b = blank-refused (getList xs bs) st (blank-closed (Request.getList xs bs) st refl b) b
 blank-call (local Local.commit) st b = blank-refused commit st (blank-closed Request.commit st refl b) b
 blank-call (local Local.abandon) st b = blank-refused abandon st (blank-closed Request.abandon st refl b) b
+blank-call (direct a x) st b = blank-refused (direct a x) st (blank-closed (Request.direct a x) st refl b) b
 blank-call (save Save.sync) st b = blank-refused sync st (blank-closed Request.sync st refl b) b
 blank-call (save Save.apply) st b = blank-refused apply st (blank-closed Request.apply st refl b) b
 blank-call (save Save.recover) st b = blank-refused recover st (blank-foreign st b) b
