@@ -1,5 +1,5 @@
 -- The step of a sync: an append behind the batches of the apply inside, if there is one.
-use Prim.Native.Nat.{ℕ, suc, _+_, _*_, _-_, _^_, _≤_, _<_}
+use Prim.Native.Nat.{ℕ, zero, suc, _+_, _*_, _-_, _^_, _≤_, _<_}
 use mathlib.Core.Path.{_≡_, refl, ap, ap₂, sym, subst, _∙_}
 use mathlib.Core.Logic.{_≢_}
 use mathlib.Core.Bool.{Bool, true, false, cond}
@@ -45,7 +45,7 @@ use Rattle.history.specs.Dispatch.{called, dispatch}
 use Rattle.history.specs.Ledger.{Ledger, PlannedHeader, waits, syncHeaders, noted, entered, ownHeader, standing, inner, waitingMet, resolved, sameLog, waitsBehind}
 use Rattle.history.specs.History.{World, ledgerNext, fed}
 use Rattle.history.specs.Statements.{Logged}
-use Rattle.crash.proofs.Plans.{Plan, planned, takes, settles, Asked, Throughout, takes-append, settles-append, throughout-append, throughout-all}
+use Rattle.crash.proofs.Plans.{Plan, planned, takes, settles, FitsBehind, Asked, Throughout, takes-append, settles-append, throughout-append, throughout-all}
 use Rattle.history.proofs.Steps.AppendEnds.{writes-fit, top-none, top-last, top-lists, short-before, short-top, whole-found, done-card, done-sum, done-logged}
 use Rattle.history.proofs.Relation.CauseLaws.{RecordFacts, record-facts}
 use Rattle.history.proofs.Relation.Sim.{Firm, OpenSim, cutWritten, cutSettled, cutLoose, chosen-by, chosen-still}
@@ -192,6 +192,13 @@ module _ (geo : Geometry) where
       settled-card : WholeCard geo Every N (blockAt (settle (waiting ++ []) (st .settled))) v S (st .rec .logged)
       settled-card = rw (append-nil waiting) (f .sim .card)
 
+      missing : (j i : ℕ) → j ≤ 0 → i ≡ 0 + j → Missed (st .settled) (waiting ++ take j []) i
+      missing zero i h e = let none : 0 ≡ i = omega arith in subst (λ (k : ℕ). Missed (st .settled) (waiting ++ []) k) none missed
+      missing (suc j) i h e = absurd (omega arith)
+
+      flush-fits : FitsBehind geo N (length waiting) flushing
+      flush-fits = (record { few = omega (arith, Facts.length-waiting geo st (settledLedger v) d (f .basics) (f .sim), Facts.few geo st (settledLedger v) d (f .basics) (f .sim), geo .queued); whole = tt; low = tt }, tt)
+
       flushed-record : (e : st .rec .waiting ≢ 0) → Gives geo sync w flushing
       unfolding entered barrier noted
       flushed-record e = record {
@@ -207,11 +214,12 @@ module _ (geo : Geometry) where
         list = v;
         plain-done = λ p. plain ∙ sync-nothing geo d none-G ∙ barrier-done geo d e p ∙ ap (λ (l : List ℕ). record { answer = 0; orders = 1; plain = openPlain geo st (st .rec) S (st .rec .power - 1) l }) logs;
         plain-short = λ p. plain ∙ sync-nothing geo d none-G ∙ barrier-short geo d e p;
-        cuts = ((λ j i h q. let zero : _≡_ {A = ℕ} j 0 = omega arith in let none : 0 ≡ i = omega arith in subst (λ (k : ℕ). Missed (st .settled) (waiting ++ []) k) none missed), tt);
+        cuts = (missing, tt);
         noted-all = refl;
-        ends = record {
+        fits = flush-fits;
+        ends = λ p. record {
           none-waits = refl;
-          fits = (record { few = omega (arith, Facts.length-waiting geo st (settledLedger v) d (f .basics) (f .sim), Facts.few geo st (settledLedger v) d (f .basics) (f .sim), geo .queued); whole = tt; low = tt }, tt);
+          fits = flush-fits;
           mode = f .sim .mode;
           blocks = refl;
           opened = open-listed geo st rc (f .sim .mode);
@@ -387,7 +395,8 @@ module _ (geo : Geometry) where
         plain-short = λ p. plain ∙ sync-short geo d some-G (omega (arith, takes-is));
         cuts = cuts;
         noted-all = note-done;
-        ends = record {
+        fits = y .fits W (writes-fit geo (y .meets) (y .few));
+        ends = λ p. record {
           none-waits = y .empties W;
           fits = y .fits W (writes-fit geo (y .meets) (y .few));
           mode = f .sim .mode;
