@@ -1,14 +1,14 @@
 -- What is watched along a list of calls: whether a sync cut short is known, and what the plain disk has then. A refused call changes nothing.
-use Prim.Native.Nat.{ℕ, _-_}
+use Prim.Native.Nat.{ℕ, _+_, _*_, _-_}
 use mathlib.Core.Path.{_≡_, refl, ap, sym, _∙_}
 use mathlib.Core.Logic.{_≢_, _⊎_}
 use mathlib.Core.Bool.{Bool, true, false, false≢true, cond, _&&_}
-use mathlib.Core.List.{List}
+use mathlib.Core.List.{List, _++_}
 use native.Mathlib.Omega.{arith}
 use borrow.Author.Tests.{ne-eqb, eqb-true}
 use lib.Dec.{eqb}
-use lib.ListN.{length}
-use Rattle.cells.specs.Entry.{Entry}
+use lib.ListN.{length, drop}
+use Rattle.cells.specs.Entry.{blockBytes, Entry}
 use Rattle.crash.specs.Laid.{Laid}
 use Rattle.card.specs.Card as Card
 use Rattle.card.specs.Card.{queue}
@@ -20,11 +20,11 @@ use Rattle.store.specs.Save as Save
 use Rattle.store.specs.Request as Request
 use Rattle.store.specs.State.{State, Outcome, closed, openMode, down, withQueue, withRecord, cardIn}
 use Rattle.store.specs.Causes.{cause}
-use Rattle.history.specs.Call.{Call, requestOf, local, save, cut, power, sync, apply, recover}
+use Rattle.history.specs.Call.{Call, requestOf, local, direct, save, cut, power, sync, apply, recover}
 use Rattle.history.specs.Plain.{Plain, Done, withPower, Verdict, verdict, headerKept, lastSave, refusal}
 use Rattle.history.specs.Dispatch.{dispatch}
-use Rattle.history.specs.Ledger.{Ledger, sameLog}
-use Rattle.history.specs.History.{World, storeNext, ledgerNext, foundWritten, acceptedCut}
+use Rattle.history.specs.Ledger.{Ledger, nothing, waits, sameLog}
+use Rattle.history.specs.History.{World, storeNext, ledgerNext, foundWritten, fed, acceptedCut}
 use Rattle.history.specs.Statements.{Fate, quiet, decided, Progress, known, undecided, observe, outcome, WholeIsNew, shortSync, atCut}
 use Rattle.store.proofs.Causes.{needsOpen}
 use Rattle.history.proofs.Relation.CauseLaws.{cause-passes}
@@ -45,25 +45,37 @@ pub record OpenPhase (old : Laid) (st : State) (d : Plain) : Type 0 where
   pub S : d .S ≡ old
 
 module _ (geo : Geometry) where
+  -- the group of a sync that is found new is the end of the log written, and the header needs no fallback
+  abbrev pub NewLog : Fate → Ledger → Plain → Type 0
+  NewLog quiet l d = Unit {0}
+  NewLog (decided G laid all) l d = laid ≡ true → (L : List Entry) × (l .written ≡ L ++ G) × (l .pending ≡ nothing) × (d .F ≡ false)
+
   -- not open, and no cut lays anything
-  pub record OtherPhase (old : Laid) (f : Fate) (st : State) (d : Plain) : Type 0 where
+  pub record OtherPhase (old : Laid) (f : Fate) (st : State) (l : Ledger) (d : Plain) : Type 0 where
     pub mode : st .rec .mode ≢ openMode
     pub S : d .S ≡ outcome f old
     pub laid : (ms : List ℕ) (found : Bool) → planned geo d ms found .laid ≡ false
     pub whole : WholeIsNew f
+    pub log : NewLog f l d
 
   -- down by a sync of the group G
-  pub record ShortPhase (old : Laid) (G : List Entry) (place : ℕ) (made : Bool) (st : State) (l : Ledger) (d : Plain) : Type 0 where
+  -- its own header's place, from the first of its own writes on
+  abbrev pub headerPlace : ℕ → List Entry → ℕ
+  headerPlace from G = from + (length G + geo .descriptors)
+
+  pub record ShortPhase (old : Laid) (G : List Entry) (from : ℕ) (made : Bool) (st : State) (l : Ledger) (d : Plain) : Type 0 where
     pub mode : st .rec .mode ≡ down
     pub S : d .S ≡ old
     pub group : d .G ≡ G
-    pub laid : (ms : List ℕ) (found : Bool) → planned geo d ms found .laid ≡ made && keptAt ms place && found
-    pub whole : made ≡ true → (ms : List ℕ) → marksFit ms (queue (cardIn st)) ≡ true → allKept ms ≡ true → (keptAt ms place ≡ true) × (sameLog (foundIn geo (cutSettled ms st)) (cutWritten ms l) ≡ true)
+    pub laid : (ms : List ℕ) (found : Bool) → planned geo d ms found .laid ≡ made && keptAt ms (headerPlace from G) && found
+    pub whole : made ≡ true → (ms : List ℕ) → marksFit ms (queue (cardIn st)) ≡ true → allKept (drop (blockBytes * from) ms) ≡ true
+        → (keptAt ms (headerPlace from G) ≡ true) × (sameLog (foundIn geo (cutSettled ms st)) (cutWritten ms l) ≡ true)
+    pub log : made ≡ true → (L : List Entry) × (l .pending ≡ waits (headerPlace from G) (L ++ G))
 
   abbrev pub Watch : Laid → Progress → State → Ledger → Plain → Type 0
-  Watch old (known quiet) st l d = OpenPhase old st d ⊎ OtherPhase old quiet st d
-  Watch old (undecided G place made) st l d = ShortPhase old G place made st l d
-  Watch old (known (decided G laid all)) st l d = OtherPhase old (decided G laid all) st d
+  Watch old (known quiet) st l d = OpenPhase old st d ⊎ OtherPhase old quiet st l d
+  Watch old (undecided G from made) st l d = ShortPhase old G from made st l d
+  Watch old (known (decided G laid all)) st l d = OtherPhase old (decided G laid all) st l d
 
 -- ---- a refused call
 
@@ -77,6 +89,7 @@ module _ (geo : Geometry) where
   pub short-is : (c : Call) (w : World) → shortSync geo c w ≡ true → IsShort c w
   unfolding shortSync
   short-is (local c) w h = absurd (false≢true h)
+  short-is (direct a b) w h = absurd (false≢true h)
   short-is (save Save.sync) w h =
       let p = both (eqb (w .store .rec .mode) openMode) (eqb (dispatch geo sync (w .store) .answer) 4) h in
       record { is = refl; mode = eqb-true _ _ (p .0); answer = eqb-true _ _ (p .1) }
@@ -122,9 +135,10 @@ module _ (geo : Geometry) where
 
   refused-at : (c : Call) (w : World) (G : List Entry) (place : ℕ) (made : Bool) → refusal geo c (w .plain) ≢ 0 → WorldSim geo w → atCut geo c w G place made ≡ undecided G place made
   refused-at (local c) w G place made h m = refl
+  refused-at (direct a b) w G place made h m = refl
   refused-at (save c) w G place made h m = refl
   refused-at (cut ms) w G place made h m =
-      ap (λ (t : Bool). cond t (known (decided G (made && keptAt ms place && foundWritten geo (cut ms) w) (made && allKept ms))) (undecided G place made)) (refused-cut ms w h m)
+      ap (λ (t : Bool). cond t (known (decided G (made && keptAt ms (headerPlace geo place G) && foundWritten geo (cut ms) w) (made && allKept (drop (blockBytes * place) ms)))) (undecided G place made)) (refused-cut ms w h m)
 
   pub observe-refused : (c : Call) (w : World) (f : Progress) → refusal geo c (w .plain) ≢ 0 → WorldSim geo w → observe geo c w f ≡ f
   unfolding observe
@@ -140,16 +154,16 @@ module _ (geo : Geometry) where
   watch-refused old c w f h m x =
       let k : cause geo (requestOf c) (w .store) ≢ 0 = λ e. h (sym (same-cause geo (w .store) (w .ledger) (w .plain) m c) ∙ e) in
       watch-at old (observe-refused c w f h m) (ap (λ (o : Outcome). o .state) (dispatch-refused geo c (w .store) k)) (entered-refused geo c (w .store) (w .ledger) k)
-      (ap (λ (o : Done). o .plain) (plain-refused geo c (foundWritten geo c w) (w .plain) h)) x
+      (ap (λ (o : Done). o .plain) (plain-refused geo c (fed geo c w) (w .plain) h)) x
 
   -- ---- a call that is served
 
   pub power-watch : (old : Laid) (k : ℕ) (f : Progress) (st : State) (l : Ledger) (d : Plain) → Watch geo old f st l d → Watch geo old f (withRecord (withQueue (st .rec .waiting) k (st .rec)) st) l (withPower k d)
   unfolding Card.cut queue
   power-watch old k (known quiet) st l d (_⊎_.inl x) = _⊎_.inl (record { mode = x .mode; S = x .S })
-  power-watch old k (known quiet) st l d (_⊎_.inr x) = _⊎_.inr (record { mode = x .mode; S = x .S; laid = x .laid; whole = x .whole })
-  power-watch old k (undecided G place made) st l d x = record { mode = x .mode; S = x .S; group = x .group; laid = x .laid; whole = x .whole }
-  power-watch old k (known (decided G laid all)) st l d x = record { mode = x .mode; S = x .S; laid = x .laid; whole = x .whole }
+  power-watch old k (known quiet) st l d (_⊎_.inr x) = _⊎_.inr (record { mode = x .mode; S = x .S; laid = x .laid; whole = x .whole; log = tt })
+  power-watch old k (undecided G place made) st l d x = record { mode = x .mode; S = x .S; group = x .group; laid = x .laid; whole = x .whole; log = x .log }
+  power-watch old k (known (decided G laid all)) st l d x = record { mode = x .mode; S = x .S; laid = x .laid; whole = x .whole; log = x .log }
 
   pub power-same : (k : ℕ) (w : World) (f : Progress) → observe geo (power k) w f ≡ f
   unfolding observe shortSync
@@ -165,18 +179,18 @@ module _ (geo : Geometry) where
   open-watch old (known (decided G laid all)) st l d x e = absurd (x .mode e)
 
   -- closed: what became of it is known
-  pub record Closed (old : Laid) (f : Progress) (st : State) (d : Plain) : Type 0 where
+  pub record Closed (old : Laid) (f : Progress) (st : State) (l : Ledger) (d : Plain) : Type 0 where
     pub end : Fate
     pub fated : f ≡ known end
-    pub phase : OtherPhase geo old end st d
+    pub phase : OtherPhase geo old end st l d
 
-  pub closed-watch : (old : Laid) (f : Progress) (st : State) (l : Ledger) (d : Plain) → Watch geo old f st l d → st .rec .mode ≡ closed → Closed old f st d
+  pub closed-watch : (old : Laid) (f : Progress) (st : State) (l : Ledger) (d : Plain) → Watch geo old f st l d → st .rec .mode ≡ closed → Closed old f st l d
   closed-watch old (known quiet) st l d (_⊎_.inl x) e = absurd (omega (arith, x .mode))
   closed-watch old (known quiet) st l d (_⊎_.inr x) e = record { end = quiet; fated = refl; phase = x }
   closed-watch old (undecided G place made) st l d x e = absurd (omega (arith, x .mode))
   closed-watch old (known (decided G laid all)) st l d x e = record { end = decided G laid all; fated = refl; phase = x }
 
-  pub to-watch : (old : Laid) (f : Fate) (st : State) (l : Ledger) (d : Plain) → OtherPhase geo old f st d → Watch geo old (known f) st l d
+  pub to-watch : (old : Laid) (f : Fate) (st : State) (l : Ledger) (d : Plain) → OtherPhase geo old f st l d → Watch geo old (known f) st l d
   to-watch old quiet st l d x = _⊎_.inr x
   to-watch old (decided G laid all) st l d x = x
 

@@ -18,7 +18,10 @@ use Rattle.journal.specs.declared.choice.Choice.{Choice}
 use Rattle.journal.specs.Log.{headerOf, entries, sumOf}
 use Rattle.journal.specs.Choice.{takenCount}
 use Rattle.journal.proofs.Choices.{both}
-use Rattle.crash.proofs.Cards.{Every, WholeCard, FallCard}
+use Rattle.crash.proofs.Cards.{WholeCard, FallCard}
+use Rattle.card.specs.Disk.{Disk}
+use Rattle.cells.specs.Entry.{blockBytes}
+use lib.Dec.{eqb}
 use Rattle.crash.proofs.Leads.{read-head, same-logs, logs-same}
 use Rattle.crash.proofs.Logs.{slotE, logD, entries-disk}
 use Rattle.store.specs.Local.{Local}
@@ -27,31 +30,32 @@ use Rattle.store.specs.Request as Request
 use Rattle.store.specs.State.{State, Outcome, closed, openMode, withQueue, withRecord}
 use Rattle.store.specs.Causes.{cause}
 use Rattle.store.specs.Outcomes.{completed}
-use Rattle.history.specs.Call.{Call, requestOf, local, save, cut, power, sync, recover}
+use Rattle.history.specs.Call.{Call, requestOf, local, direct, save, cut, power, sync, apply, recover}
 use Rattle.history.specs.Plain.{Plain, Done, refusal, locally, served, plainStep, plainRecover}
 use Rattle.history.specs.Dispatch.{called, dispatch}
 use Rattle.history.specs.Ledger.{Ledger, recoverHeaders, noted, entered, taken, logFound, sameLog}
-use Rattle.history.specs.History.{World, begun, next, after, storeNext, ledgerNext, foundWritten, acceptedCut, exception}
+use Rattle.history.specs.History.{World, begun, next, after, storeNext, ledgerNext, fed, acceptedCut, exception}
 use Rattle.history.specs.Statements.{noCut, Taken, ReadBack, WrittenSummed}
 use Rattle.history.proofs.Relation.CauseLaws.{cause-passes}
-use Rattle.history.proofs.Relation.Sim.{OpenSim, ClosedSim, DownSim, Sim, Safe}
+use Rattle.history.proofs.Relation.Sim.{Firm, OpenSim, ClosedSim, DownSim, Sim, Safe}
+use Rattle.history.proofs.Relation.OpenFacts as Facts
 use Rattle.history.proofs.Relation.PlainLaws.{recover-whole, recover-fallback, recover-short}
 use Rattle.history.proofs.Steps.Shown.{plainNext, WorldSim, same-cause, dispatch-refused, entered-refused, plain-served, noted-none, small-N, choose-fallback}
 use Rattle.history.proofs.Steps.Local.{is-open}
 use Rattle.history.proofs.Steps.Cut.{served-cut, store-cut}
 use Rattle.history.proofs.Steps.Recover.{is-closed}
 use Rattle.history.proofs.Steps.ListInduction.{step, next-sim, next-safe, after-sim, after-safe, begun-sim, begun-safe, clean-first, clean-before}
-use Rattle.history.proofs.Relation.PlainAnswers.{when-open, save-end, save-mode, LocalKind, powers, opens, local-kind}
+use Rattle.history.proofs.Relation.PlainAnswers.{when-open, save-end, save-mode, direct-mode, LocalKind, powers, opens, local-kind}
 
 -- ---- a call after which the record is closed, that was no accepted cut, found it so
 
-recover-mode : (d : Plain) → plainRecover d .plain .mode ≢ 0
-recover-mode d e = go (d .F) refl (decLe 2 (d .power))
+recover-mode : (geo : Geometry) (u : Disk) (d : Plain) → plainRecover geo u d .plain .mode ≢ 0
+recover-mode geo u d e = go (d .F) refl (decLe 2 (d .power))
   where
     go : (t : Bool) → d .F ≡ t → Dec (2 ≤ d .power) → ⊥
-    go false f q = let k : _≡_ {A = ℕ} 1 0 = sym (ap (λ (o : Done). o .plain .mode) (recover-whole d f)) ∙ e in omega arith
-    go true f (yes q) = let k : _≡_ {A = ℕ} 1 0 = sym (ap (λ (o : Done). o .plain .mode) (recover-fallback d f q)) ∙ e in omega arith
-    go true f (no q) = let k : _≡_ {A = ℕ} 2 0 = sym (ap (λ (o : Done). o .plain .mode) (recover-short d f (omega arith))) ∙ e in omega arith
+    go false f q = let k : _≡_ {A = ℕ} 1 0 = sym (ap (λ (o : Done). o .plain .mode) (recover-whole geo u d f)) ∙ e in omega arith
+    go true f (yes q) = let k : _≡_ {A = ℕ} 1 0 = sym (ap (λ (o : Done). o .plain .mode) (recover-fallback geo u d f q)) ∙ e in omega arith
+    go true f (no q) = let k : _≡_ {A = ℕ} 2 0 = sym (ap (λ (o : Done). o .plain .mode) (recover-short geo u d f (omega arith))) ∙ e in omega arith
 
 module _ (geo : Geometry) where
   pub record Unmoved (c : Call) (w : World) : Type 0 where
@@ -98,21 +102,27 @@ module _ (geo : Geometry) where
       let q : _≡_ {A = ℕ} 1 0 = sym (m .basics .mirrors .mode ∙ o .mode) ∙ sym (s (w .plain) .mode) ∙ e in
       absurd (omega arith)
 
+  -- a test in front that passed
+  behind : (t : Bool) (k : ℕ) → _≡_ {A = ℕ} (cond (not t) 1 k) 0 → k ≡ 0
+  behind true k e = e
+  behind false k e = absurd (omega arith)
+
   -- a call that is not refused: power, or a cut; every other leaves a record that is not closed
   served-unmoved : (c : Call) (w : World) → WorldSim geo w → refusal geo c (w .plain) ≡ 0 → acceptedCut geo c w ≡ false → storeNext geo c w .rec .mode ≡ closed
-      → served geo c (foundWritten geo c w) (w .plain) .plain .mode ≡ 0 → Unmoved c w
+      → served geo c (fed geo c w) (w .plain) .plain .mode ≡ 0 → Unmoved c w
   unfolding refusal
   served-unmoved (local c) w m h a z e = local-unmoved c w (local-kind geo c) m h z e
-  served-unmoved (save Save.sync) w m h a z e = absurd (save-mode geo Save.sync (w .plain) (save-end geo Save.sync (w .plain)) (when-open (w .plain) _ h .0) e)
-  served-unmoved (save Save.apply) w m h a z e = absurd (save-mode geo Save.apply (w .plain) (save-end geo Save.apply (w .plain)) (when-open (w .plain) _ h .0) e)
-  served-unmoved (save Save.recover) w m h a z e = absurd (recover-mode (w .plain) e)
+  served-unmoved (direct i x) w m h a z e = absurd (direct-mode geo i x (w .plain) (when-open (w .plain) _ (behind (eqb (length x) blockBytes) _ h) .0) e)
+  served-unmoved (save Save.sync) w m h a z e = absurd (save-mode geo (fed geo sync w .found) Save.sync (w .plain) (save-end geo (fed geo sync w .found) Save.sync (w .plain)) (when-open (w .plain) _ h .0) e)
+  served-unmoved (save Save.apply) w m h a z e = absurd (save-mode geo (fed geo apply w .found) Save.apply (w .plain) (save-end geo (fed geo apply w .found) Save.apply (w .plain)) (when-open (w .plain) _ h .0) e)
+  served-unmoved (save Save.recover) w m h a z e = absurd (recover-mode geo (fed geo recover w .found) (w .plain) e)
   served-unmoved (cut ms) w m h a z e = absurd (true≢false (sym (cut-accepted ms w m h) ∙ a))
 
   stays : (c : Call) (w : World) → WorldSim geo w → acceptedCut geo c w ≡ false → storeNext geo c w .rec .mode ≡ closed → Unmoved c w
   stays c w m a z = go (ℕ-discrete (refusal geo c (w .plain)) 0)
     where
-      plain-mode : refusal geo c (w .plain) ≡ 0 → served geo c (foundWritten geo c w) (w .plain) .plain .mode ≡ 0
-      plain-mode h = sym (ap (λ (o : Done). o .plain .mode) (plain-served geo c (foundWritten geo c w) (w .plain) h)) ∙ sym (step geo c w m .agrees .mode) ∙ z
+      plain-mode : refusal geo c (w .plain) ≡ 0 → served geo c (fed geo c w) (w .plain) .plain .mode ≡ 0
+      plain-mode h = sym (ap (λ (o : Done). o .plain .mode) (plain-served geo c (fed geo c w) (w .plain) h)) ∙ sym (step geo c w m .agrees .mode) ∙ z
 
       go : Dec (refusal geo c (w .plain) ≡ 0) → Unmoved c w
       go (no h) = unmoved-refused c w m h z
@@ -154,14 +164,18 @@ module _ (geo : Geometry) where
     pub found-closed : ClosedSim geo (w .store) (w .ledger) (w .plain)
     found-closed = is-closed geo (w .store) (w .ledger) (w .plain) m (cause-passes geo Request.recover (w .store) (same-cause geo (w .store) (w .ledger) (w .plain) m recover ∙ served-now))
 
-    -- the plain disk's step, by F
-    plain-is : plainStep geo recover (foundWritten geo recover w) (w .plain) ≡ plainRecover (w .plain)
-    plain-is = plain-served geo recover (foundWritten geo recover w) (w .plain) served-now
+    -- what it is fed
+    abbrev found : Disk
+    found = fed geo recover w .found
 
-    plain-done : plainRecover (w .plain) .answer ≡ 0
+    -- the plain disk's step, by F
+    plain-is : plainStep geo recover (fed geo recover w) (w .plain) ≡ plainRecover geo found (w .plain)
+    plain-is = plain-served geo recover (fed geo recover w) (w .plain) served-now
+
+    plain-done : plainRecover geo found (w .plain) .answer ≡ 0
     plain-done = ap (λ (o : Done). o .answer) (sym plain-is) ∙ sym (step geo recover w m .agrees .answer) ∙ h
 
-    orders-are : dispatch geo recover (w .store) .orders ≡ plainRecover (w .plain) .orders
+    orders-are : dispatch geo recover (w .store) .orders ≡ plainRecover geo found (w .plain) .orders
     orders-are = step geo recover w m .agrees .orders ∙ ap (λ (o : Done). o .orders) plain-is
 
     no-exception : exception geo recover w ≡ false
@@ -169,16 +183,16 @@ module _ (geo : Geometry) where
     no-exception = refl
 
     -- done, the record is open
-    done-by : (P : Done → Type 0) → (w .plain .F ≡ false → P (plainRecover (w .plain))) → (w .plain .F ≡ true → 2 ≤ w .plain .power → P (plainRecover (w .plain))) → P (plainRecover (w .plain))
+    done-by : (P : Done → Type 0) → (w .plain .F ≡ false → P (plainRecover geo found (w .plain))) → (w .plain .F ≡ true → 2 ≤ w .plain .power → P (plainRecover geo found (w .plain))) → P (plainRecover geo found (w .plain))
     done-by P a b = go (w .plain .F) refl (decLe 2 (w .plain .power))
       where
-        go : (t : Bool) → w .plain .F ≡ t → Dec (2 ≤ w .plain .power) → P (plainRecover (w .plain))
+        go : (t : Bool) → w .plain .F ≡ t → Dec (2 ≤ w .plain .power) → P (plainRecover geo found (w .plain))
         go false f q = a f
         go true f (yes q) = b f q
-        go true f (no q) = absurd (let k : _≡_ {A = ℕ} 4 0 = sym (ap (λ (o : Done). o .answer) (recover-short (w .plain) f (omega arith))) ∙ plain-done in omega arith)
+        go true f (no q) = absurd (let k : _≡_ {A = ℕ} 4 0 = sym (ap (λ (o : Done). o .answer) (recover-short geo found (w .plain) f (omega arith))) ∙ plain-done in omega arith)
 
-    plain-open : plainRecover (w .plain) .plain .mode ≡ openMode
-    plain-open = done-by (λ o. o .plain .mode ≡ openMode) (λ f. ap (λ (o : Done). o .plain .mode) (recover-whole (w .plain) f)) (λ f p. ap (λ (o : Done). o .plain .mode) (recover-fallback (w .plain) f p))
+    plain-open : plainRecover geo found (w .plain) .plain .mode ≡ openMode
+    plain-open = done-by (λ o. o .plain .mode ≡ openMode) (λ f. ap (λ (o : Done). o .plain .mode) (recover-whole geo found (w .plain) f)) (λ f p. ap (λ (o : Done). o .plain .mode) (recover-fallback geo found (w .plain) f p))
 
     pub recovered-sim : Sim geo (storeNext geo recover w) (ledgerNext geo recover w) (plainNext geo recover w)
     recovered-sim = step geo recover w m .sim no-exception
@@ -197,7 +211,7 @@ module _ (geo : Geometry) where
 
     -- the list taken is the one noted
     taken-noted : entries geo (storeNext geo recover w .settled) (storeNext geo recover w .rec .logged) ≡ ledgerNext geo recover w .written
-    taken-noted = entries-disk geo (storeNext geo recover w .settled) (storeNext geo recover w .rec .logged) ∙ sym (recovered-open .card .same)
+    taken-noted = entries-disk geo (storeNext geo recover w .settled) (storeNext geo recover w .rec .logged) ∙ sym (Facts.written-is geo (storeNext geo recover w) (ledgerNext geo recover w) (plainNext geo recover w) (recovered-sim .basics) recovered-open)
 
     small : w .store .rec .blocks < 2 ^ 32
     small = small-N geo (w .store) (w .plain) (m .basics)
@@ -208,32 +222,32 @@ module _ (geo : Geometry) where
         ledgerNext geo recover w .written
         ≡ cond (sameLog (logFound geo (w .store)) (w .ledger .written)) (w .ledger .written) (take (headerOf (w .store .settled) .previous) (w .ledger .written))
 
-    noted-orders : (k : ℕ) → plainRecover (w .plain) .orders ≡ k → ledgerNext geo recover w ≡ noted (recoverHeaders geo (w .store)) k (w .ledger)
+    noted-orders : (k : ℕ) → plainRecover geo found (w .plain) .orders ≡ k → ledgerNext geo recover w ≡ noted (recoverHeaders geo (w .store)) k (w .ledger)
     unfolding entered
     noted-orders k e = ap (λ (x : ℕ). noted (recoverHeaders geo (w .store)) x (w .ledger)) (orders-are ∙ e)
 
-    taken-whole : w .plain .F ≡ false → WholeCard geo Every (w .store .rec .blocks) (blockAt (w .store .settled)) (w .ledger .written) (w .plain .S) (w .plain .n) → Chosen
+    taken-whole : w .plain .F ≡ false → WholeCard geo (Firm geo (w .plain .loose)) (w .store .rec .blocks) (blockAt (w .store .settled)) (w .ledger .written) (w .plain .S) (w .plain .n) → Chosen
     unfolding logFound
     taken-whole f r =
         let hd = read-head geo (w .store .settled) (w .store .rec .blocks) (r .p) (r .ps) (w .plain .n) _ (w .plain .S .groups) small (r .head) in
-        let found : logFound geo (w .store) ≡ w .ledger .written =
+        let there : logFound geo (w .store) ≡ w .ledger .written =
         ap (λ (x : Header). entries geo (w .store .settled) (x .count)) hd ∙ entries-disk geo (w .store .settled) (w .plain .n) ∙ sym (r .same) in
-        let same : sameLog (logFound geo (w .store)) (w .ledger .written) ≡ true = ap (λ (x : List Entry). sameLog x (w .ledger .written)) found ∙ logs-same (w .ledger .written) in
-        ap (λ (l : Ledger). l .written) (noted-orders 0 (ap (λ (o : Done). o .orders) (recover-whole (w .plain) f)) ∙ noted-none (recoverHeaders geo (w .store)) (w .ledger))
+        let same : sameLog (logFound geo (w .store)) (w .ledger .written) ≡ true = ap (λ (x : List Entry). sameLog x (w .ledger .written)) there ∙ logs-same (w .ledger .written) in
+        ap (λ (l : Ledger). l .written) (noted-orders 0 (ap (λ (o : Done). o .orders) (recover-whole geo found (w .plain) f)) ∙ noted-none (recoverHeaders geo (w .store)) (w .ledger))
         ∙ sym (ap (λ (t : Bool). cond t (w .ledger .written) (take (headerOf (w .store .settled) .previous) (w .ledger .written))) same)
 
     noted-two : noted (recoverHeaders geo (w .store)) 2 (w .ledger) .written ≡ taken geo (w .store)
     unfolding recoverHeaders noted
     noted-two = refl
 
-    taken-fall : w .plain .F ≡ true → 2 ≤ w .plain .power → FallCard geo Every (w .store .rec .blocks) (blockAt (w .store .settled)) (w .ledger .written) (w .plain .S) (w .plain .n) → Chosen
+    taken-fall : w .plain .F ≡ true → 2 ≤ w .plain .power → FallCard geo (Firm geo (w .plain .loose)) (w .store .rec .blocks) (blockAt (w .store .settled)) (w .ledger .written) (w .plain .S) (w .plain .n) → Chosen
     unfolding logFound
     taken-fall f p r =
         let s = w .store .settled in
         let hd = read-head geo (w .store .settled) (w .store .rec .blocks) (w .plain .n) _ (r .c) (r .ns) (w .plain .S .groups + 1) small (r .head) in
-        let found : logFound geo (w .store) ≡ logD geo (blockAt (w .store .settled)) (r .c) = ap (λ (x : Header). entries geo (w .store .settled) (x .count)) hd ∙ entries-disk geo (w .store .settled) (r .c) in
-        let other : sameLog (logFound geo (w .store)) (w .ledger .written) ≡ false = differ (sameLog (logFound geo (w .store)) (w .ledger .written)) refl (λ e. r .other (sym e ∙ found)) in
-        ap (λ (l : Ledger). l .written) (noted-orders 2 (ap (λ (o : Done). o .orders) (recover-fallback (w .plain) f p)))
+        let there : logFound geo (w .store) ≡ logD geo (blockAt (w .store .settled)) (r .c) = ap (λ (x : Header). entries geo (w .store .settled) (x .count)) hd ∙ entries-disk geo (w .store .settled) (r .c) in
+        let other : sameLog (logFound geo (w .store)) (w .ledger .written) ≡ false = differ (sameLog (logFound geo (w .store)) (w .ledger .written)) refl (λ e. r .other (sym e ∙ there)) in
+        ap (λ (l : Ledger). l .written) (noted-orders 2 (ap (λ (o : Done). o .orders) (recover-fallback geo found (w .plain) f p)))
         ∙ noted-two
         ∙ ap (λ (c : Choice). entries geo (w .store .settled) (takenCount c)) (choose-fallback geo (w .store .rec .blocks) (w .store .settled) small (w .ledger .written) (w .plain .S) (w .plain .n) r)
         ∙ entries-disk geo (w .store .settled) (w .plain .n)
@@ -291,7 +305,7 @@ module _ (geo : Geometry) where
       low : w .store .rec .blocks < 2 ^ 32
       low = small-N geo (w .store) (w .plain) (m .basics)
 
-      whole : WholeCard geo Every (w .store .rec .blocks) (blockAt (w .store .settled)) (w .ledger .written) (w .plain .S) (w .plain .n) → Totals (w .store) (w .ledger)
+      whole : WholeCard geo (Firm geo (w .plain .loose)) (w .store .rec .blocks) (blockAt (w .store .settled)) (w .ledger .written) (w .plain .S) (w .plain .n) → Totals (w .store) (w .ledger)
       whole r =
           let hd = read-head geo (w .store .settled) (w .store .rec .blocks) (r .p) (r .ps) (w .plain .n) _ (w .plain .S .groups) low (r .head) in
           record {
@@ -299,7 +313,7 @@ module _ (geo : Geometry) where
             sum = ap (λ (x : Header). x .sum) hd ∙ ap (sumOf start) (sym (r .same));
           }
 
-      fall : FallCard geo Every (w .store .rec .blocks) (blockAt (w .store .settled)) (w .ledger .written) (w .plain .S) (w .plain .n) → Totals (w .store) (w .ledger)
+      fall : FallCard geo (Firm geo (w .plain .loose)) (w .store .rec .blocks) (blockAt (w .store .settled)) (w .ledger .written) (w .plain .S) (w .plain .n) → Totals (w .store) (w .ledger)
       fall r =
           let hd = read-head geo (w .store .settled) (w .store .rec .blocks) (w .plain .n) _ (r .c) (r .ns) (w .plain .S .groups + 1) low (r .head) in
           record { count = ap (λ (x : Header). x .count) hd ∙ sym (r .size); sum = ap (λ (x : Header). x .sum) hd ∙ sym (r .total) }

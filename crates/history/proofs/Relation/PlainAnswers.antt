@@ -128,6 +128,10 @@ module _ (geo : Geometry) where
   direct-N : (a : ℕ) (b : List ℕ) (d : Plain) → plainDirect geo a b d .plain .N ≡ d .N
   direct-N a b d = direct-cases (λ o. o .plain .N ≡ d .N) a b d (λ q. refl) (λ q. refl)
 
+  -- a direct write on a record that is not closed leaves one
+  pub direct-mode : (a : ℕ) (b : List ℕ) (d : Plain) → d .mode ≢ 0 → plainDirect geo a b d .plain .mode ≢ 0
+  direct-mode a b d h = direct-cases (λ o. o .plain .mode ≢ 0) a b d (λ q. h) (λ q e. omega arith)
+
   -- ---- every call
 
   -- done or power gone
