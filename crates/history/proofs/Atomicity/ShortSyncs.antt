@@ -45,6 +45,23 @@ use Rattle.history.proofs.Atomicity.Phases.{ShortPhase, Watch, closed-w
 -- ---- sync
 
 module _ (geo : Geometry) where
+  -- the ledger behind its own header
+  own-noted : (st : State) (l : Ledger) → st .rec .grouped ≢ 0 → noted (syncHeaders geo st) (inner geo st + (st .rec .grouped + geo .descriptors + 1)) l .pending ≡ waits (waitingMet geo st + (st .rec .grouped + geo .descriptors)) (standing geo st ++ groupOf geo st)
+  unfolding syncHeaders
+  own-noted st l z = rw (ne-eqb _ 0 z) (go (applies geo st) refl)
+    where
+      k : ℕ
+      k = inner geo st + (st .rec .grouped + geo .descriptors + 1)
+
+      own : (m : Ledger) → noted (ownHeader geo st ∷ []) k m .pending ≡ waits (waitingMet geo st + (st .rec .grouped + geo .descriptors)) (standing geo st ++ groupOf geo st)
+      own m = ap (λ (x : Ledger). x .pending) (note-at (ownHeader geo st) [] k m (omega arith))
+
+      go : (t : Bool) → applies geo st ≡ t → noted (cond t (applyHeader st ∷ ownHeader geo st ∷ []) (ownHeader geo st ∷ [])) k l .pending ≡ waits (waitingMet geo st + (st .rec .grouped + geo .descriptors)) (standing geo st ++ groupOf geo st)
+      go true e =
+          let i : inner geo st ≡ st .rec .logged + 3 = ap (λ (t : Bool). cond t (st .rec .logged + 3) 0) e in
+          ap (λ (x : Ledger). x .pending) (note-past (applyHeader st) (ownHeader geo st ∷ []) k l (omega arith)) ∙ own (settledBy [])
+      go false e = own l
+
   module _ (w : World) (m : WorldSim geo w) (h : refusal geo sync (w .plain) ≡ 0) (nf : S.finished geo sync w ≡ false) where
     o : OpenSim geo (w .store) (w .ledger) (w .plain)
     o = open-now geo sync w m refl h
@@ -52,8 +69,8 @@ module _ (geo : Geometry) where
     b : Basics geo (w .store) (w .plain)
     b = m .basics
 
-    plain-is : plainStep geo sync (foundWritten geo sync w) (w .plain) ≡ plainSync geo (w .plain)
-    plain-is = plain-served geo sync (foundWritten geo sync w) (w .plain) h
+    plain-is : plainStep geo sync (fed geo sync w) (w .plain) ≡ plainSync geo (w .plain)
+    plain-is = plain-served geo sync (fed geo sync w) (w .plain) h
 
     answer-not : dispatch geo sync (w .store) .answer ≢ 0
     unfolding S.finished
@@ -62,20 +79,23 @@ module _ (geo : Geometry) where
     answer-plain : dispatch geo sync (w .store) .answer ≡ plainSync geo (w .plain) .answer
     answer-plain = step geo sync w m .agrees .answer ∙ ap (λ (x : Done). x .answer) plain-is
 
-    -- so it was cut short
-    pub record SyncGone : Type 0 where
-      pub some : length (w .plain .G) ≢ 0
-      pub less : w .plain .power < syncTakes geo (w .plain .n) (length (w .plain .G))
-
-    gone : SyncGone
-    gone =
-        sync-cases geo (λ x. SyncGone) (w .plain)
-        (λ z. absurd (answer-not (answer-plain ∙ ap (λ (x : Done). x .answer) (PlainLaws.sync-nothing geo (w .plain) z))))
+    -- so it was cut short: a flush, or with a group
+    pub short-plain : plainStep geo sync (fed geo sync w) (w .plain) ≡ Plain.cutShort geo (ofSync (w .plain .power)) (syncWaits geo (w .plain .waiting) (w .plain .n) (length (w .plain .G)) (w .plain .power)) (w .plain)
+    short-plain =
+        plain-is
+        ∙ sync-cases geo (λ x. x ≡ Plain.cutShort geo (ofSync (w .plain .power)) (syncWaits geo (w .plain .waiting) (w .plain .n) (length (w .plain .G)) (w .plain .power)) (w .plain)) (w .plain)
+        (λ z. barrier z (ℕ-discrete (w .plain .waiting) 0) (decLe 1 (w .plain .power)))
         (λ z p. absurd (answer-not (answer-plain ∙ ap (λ (x : Done). x .answer) (PlainLaws.sync-finished geo (w .plain) z p))))
-        (λ z p. record { some = z; less = p })
-
-    pub short-plain : plainStep geo sync (foundWritten geo sync w) (w .plain) ≡ Plain.cutShort (ofSync (w .plain .power)) (syncWaits geo (w .plain .n) (length (w .plain .G)) (w .plain .power)) (w .plain)
-    short-plain = plain-is ∙ PlainLaws.sync-short geo (w .plain) (gone .some) (gone .less)
+        (λ z p. PlainLaws.sync-short geo (w .plain) z p)
+      where
+        barrier : length (w .plain .G) ≡ 0 → Dec (w .plain .waiting ≡ 0) → Dec (1 ≤ w .plain .power)
+            → plainSync geo (w .plain) ≡ Plain.cutShort geo (ofSync (w .plain .power)) (syncWaits geo (w .plain .waiting) (w .plain .n) (length (w .plain .G)) (w .plain .power)) (w .plain)
+        barrier z (yes e) q = absurd (answer-not (answer-plain ∙ ap (λ (x : Done). x .answer) (PlainLaws.sync-nothing geo (w .plain) z ∙ PlainLaws.barrier-none geo (w .plain) e)))
+        barrier z (no e) (yes q) = absurd (answer-not (answer-plain ∙ ap (λ (x : Done). x .answer) (PlainLaws.sync-nothing geo (w .plain) z ∙ PlainLaws.barrier-done geo (w .plain) e q)))
+        barrier z (no e) (no q) =
+            let few : w .plain .n + length (w .plain .G) ≤ geo .slots = omega (arith, o .n, Facts.n-most geo (w .store) (w .ledger) (w .plain) b o) in
+            let none : w .plain .waiting ≡ syncWaits geo (w .plain .waiting) (w .plain .n) (length (w .plain .G)) (w .plain .power) = rw (PlainLaws.no-apply geo (w .plain .n) (length (w .plain .G)) few) (omega arith) in
+            PlainLaws.sync-nothing geo (w .plain) z ∙ PlainLaws.barrier-short geo (w .plain) e (omega arith) ∙ ap (λ (k : ℕ). Plain.cutShort geo (ofSync (w .plain .power)) k (w .plain)) none
 
     answer-four : dispatch geo sync (w .store) .answer ≡ 4
     answer-four = step geo sync w m .agrees .answer ∙ ap (λ (x : Done). x .answer) short-plain
@@ -86,39 +106,79 @@ module _ (geo : Geometry) where
     count : length (w .plain .G) ≡ w .store .rec .grouped
     count = Facts.plain-count geo (w .store) (w .ledger) (w .plain) b o
 
-    grouped-some : w .store .rec .grouped ≢ 0
-    grouped-some e = gone .some (count ∙ e)
+    -- whether it applies, for the store and for the plain disk
+    applies-is : applies geo (w .store) ≡ Plain.applies geo (w .plain .n) (length (w .plain .G))
+    applies-is = go (ℕ-discrete (w .store .rec .grouped) 0)
+      where
+        go : Dec (w .store .rec .grouped ≡ 0) → applies geo (w .store) ≡ Plain.applies geo (w .plain .n) (length (w .plain .G))
+        go (yes e) = rw (eq-eqb _ 0 e) (sym (PlainLaws.no-apply geo (w .plain .n) (length (w .plain .G)) (omega (arith, count, e, o .n, Facts.n-most geo (w .store) (w .ledger) (w .plain) b o))))
+        go (no e) =
+            ap (λ (t : Bool). not t && not (leb (w .store .rec .logged + w .store .rec .grouped) (geo .slots))) (ne-eqb _ 0 e)
+            ∙ ap₂ (λ (x y : ℕ). not (leb (x + y) (geo .slots))) (sym (o .n)) (sym count)
 
     inner-is : inner geo (w .store) ≡ innerTakes geo (w .plain .n) (length (w .plain .G))
-    inner-is =
-        ap (λ (t : Bool). cond (not t && not (leb (w .store .rec .logged + w .store .rec .grouped) (geo .slots))) (w .store .rec .logged + 3) 0) (ne-eqb _ 0 grouped-some)
-        ∙ ap₂ (λ (x y : ℕ). cond (not (leb (x + y) (geo .slots))) (x + 3) 0) (sym (o .n)) (sym count)
+    inner-is = ap₂ (λ (t : Bool) (x : ℕ). cond t (x + 3) 0) applies-is (sym (o .n))
+
+    -- the first place of its own writes
+    from-is : waitingMet geo (w .store) ≡ PlainLaws.waitsMet geo (w .plain .waiting) (w .plain .n) (length (w .plain .G))
+    from-is = ap₂ (λ (t : Bool) (x : ℕ). cond t 0 x) applies-is (sym (b .mirrors .waiting))
 
     headed-is : headed geo w ≡ eqb (w .plain .power) (innerTakes geo (w .plain .n) (length (w .plain .G)) + (length (w .plain .G) + geo .descriptors + 1))
     headed-is = ap₂ (λ (x y : ℕ). eqb x y) orders-power (ap₂ (λ (x y : ℕ). x + (y + geo .descriptors + 1)) inner-is (sym count))
 
-    observed : observe geo sync w (known quiet) ≡ undecided (groupOf geo (w .store)) (w .store .rec .grouped + geo .descriptors) (headed geo w)
+    observed : observe geo sync w (known quiet) ≡ undecided (groupOf geo (w .store)) (waitingMet geo (w .store)) (headed geo w)
     unfolding observe shortSync
     observed =
         let e : eqb (w .store .rec .mode) openMode && eqb (dispatch geo sync (w .store) .answer) 4 ≡ true = rw (eq-eqb _ _ (o .mode), eq-eqb _ 4 answer-four) in
-        ap (λ (t : Bool). cond t (undecided (groupOf geo (w .store)) (w .store .rec .grouped + geo .descriptors) (headed geo w)) (known quiet)) e
+        ap (λ (t : Bool). cond t (undecided (groupOf geo (w .store)) (waitingMet geo (w .store)) (headed geo w)) (known quiet)) e
+
+    -- with an empty group no order happened
+    powerless : w .store .rec .grouped ≡ 0 → w .plain .power ≡ 0
+    powerless z = go (ℕ-discrete (w .plain .waiting) 0) (decLe 1 (w .plain .power))
+      where
+        none : length (w .plain .G) ≡ 0
+        none = count ∙ z
+
+        go : Dec (w .plain .waiting ≡ 0) → Dec (1 ≤ w .plain .power) → w .plain .power ≡ 0
+        go (yes e) q = absurd (answer-not (answer-plain ∙ ap (λ (x : Done). x .answer) (PlainLaws.sync-nothing geo (w .plain) none ∙ PlainLaws.barrier-none geo (w .plain) e)))
+        go (no e) (yes q) = absurd (answer-not (answer-plain ∙ ap (λ (x : Done). x .answer) (PlainLaws.sync-nothing geo (w .plain) none ∙ PlainLaws.barrier-done geo (w .plain) e q)))
+        go (no e) (no q) = omega arith
 
     sync-watch : (old : Laid) (f : Progress) → Watch geo old f (w .store) (w .ledger) (w .plain) → Watch geo old (observe geo sync w f) (storeNext geo sync w) (ledgerNext geo sync w) (plainNext geo sync w)
+    unfolding entered
     sync-watch old f x =
         let y = open-watch geo old f (w .store) (w .ledger) (w .plain) x (o .mode) in
-        let P : plainNext geo sync w ≡ Plain.cutShort (ofSync (w .plain .power)) (syncWaits geo (w .plain .n) (length (w .plain .G)) (w .plain .power)) (w .plain) .plain = ap (λ (z : Done). z .plain) short-plain in
+        let P : plainNext geo sync w ≡ Plain.cutShort geo (ofSync (w .plain .power)) (syncWaits geo (w .plain .waiting) (w .plain .n) (length (w .plain .G)) (w .plain .power)) (w .plain) .plain = ap (λ (z : Done). z .plain) short-plain in
         watch-at geo old (ap (observe geo sync w) (y .0) ∙ observed) refl refl P
         (record {
           mode = step geo sync w m .agrees .mode ∙ ap (λ (z : Plain). z .mode) P;
           S = y .1;
           group = Facts.plain-group geo (w .store) (w .ledger) (w .plain) b o;
           laid = λ ms u.
-              PlainLaws.sync-laid geo (w .plain .n) (length (w .plain .G)) (w .plain .power) (w .plain .F) u ms
-              ∙ ap₂ (λ (t : Bool) (i : ℕ). t && keptAt ms (i + geo .descriptors) && u) (sym headed-is) count;
+              PlainLaws.sync-laid geo (w .plain .waiting) (w .plain .n) (length (w .plain .G)) (w .plain .power) (w .plain .F) u ms
+              ∙ (λ i. (sym headed-is) i && keptAt ms ((sym from-is) i + (ap length (Facts.plain-group geo (w .store) (w .ledger) (w .plain) b o) i + geo .descriptors)) && u);
           whole = λ e ms l a.
-              let y = short-whole geo w m h o grouped-some answer-four (eqb-true _ _ e) ms l a in
-              (y .0, y .1);
+              let y = short-whole geo w m h o (some-group e) answer-four (eqb-true _ _ e) ms l a in
+              (ap (λ (k : ℕ). keptAt ms (waitingMet geo (w .store) + (k + geo .descriptors))) length-group ∙ y .0, y .1);
+          log = λ e. (standing geo (w .store), own-pending e);
         })
+      where
+        length-group : length (groupOf geo (w .store)) ≡ w .store .rec .grouped
+        length-group = Facts.length-group geo (w .store) (w .ledger) (w .plain) b o
+
+        -- its own header was written, so it has a group
+        some-group : headed geo w ≡ true → w .store .rec .grouped ≢ 0
+        some-group e z =
+            let k : dispatch geo sync (w .store) .orders ≡ inner geo (w .store) + (w .store .rec .grouped + geo .descriptors + 1) = eqb-true _ _ e in
+            let p : w .plain .power ≡ 0 = powerless z in
+            omega (arith, orders-power)
+
+        -- and its list is pending
+        own-pending : headed geo w ≡ true → ledgerNext geo sync w .pending ≡ waits (headerPlace geo (waitingMet geo (w .store)) (groupOf geo (w .store))) (standing geo (w .store) ++ groupOf geo (w .store))
+        own-pending e =
+            ap (λ (l : Ledger). l .pending) (ap (λ (k : ℕ). noted (syncHeaders geo (w .store)) k (w .ledger)) (eqb-true _ _ e))
+            ∙ own-noted geo (w .store) (w .ledger) (some-group e)
+            ∙ ap (λ (k : ℕ). waits (waitingMet geo (w .store) + (k + geo .descriptors)) (standing geo (w .store) ++ groupOf geo (w .store))) (sym length-group)
 
   -- ---- apply
 
@@ -130,19 +190,19 @@ module _ (geo : Geometry) where
       o : OpenSim geo (w .store) (w .ledger) (w .plain)
       o = open-now geo apply w m refl h
 
-      P : plainStep geo apply (foundWritten geo apply w) (w .plain) ≡ plainApply (w .plain)
-      P = plain-served geo apply (foundWritten geo apply w) (w .plain) h
+      P : plainStep geo apply (fed geo apply w) (w .plain) ≡ plainApply geo (w .plain)
+      P = plain-served geo apply (fed geo apply w) (w .plain) h
 
-      kept : (D : Done) → plainApply (w .plain) ≡ D → D .plain .mode ≡ w .plain .mode → D .plain .S ≡ w .plain .S → Watch geo old (observe geo apply w f) (storeNext geo apply w) (ledgerNext geo apply w) (plainNext geo apply w)
+      kept : (D : Done) → plainApply geo (w .plain) ≡ D → D .plain .mode ≡ w .plain .mode → D .plain .S ≡ w .plain .S → Watch geo old (observe geo apply w f) (storeNext geo apply w) (ledgerNext geo apply w) (plainNext geo apply w)
       kept D e p s =
           open-kept geo old apply w f m (o .mode) x (ap (λ (z : Done). z .plain .mode) (P ∙ e) ∙ p) (ap (λ (z : Done). z .plain .S) (P ∙ e) ∙ s) refl
 
       go : Dec (w .plain .n ≡ 0) → Dec (w .plain .n + 3 ≤ w .plain .power) → Watch geo old (observe geo apply w f) (storeNext geo apply w) (ledgerNext geo apply w) (plainNext geo apply w)
-      go (yes z) q = kept _ (PlainLaws.apply-nothing (w .plain) z) refl refl
-      go (no z) (yes q) = kept _ (PlainLaws.apply-finished (w .plain) z q) refl refl
+      go (yes z) q = kept _ (PlainLaws.apply-nothing geo (w .plain) z) refl refl
+      go (no z) (yes q) = kept _ (PlainLaws.apply-finished geo (w .plain) z q) refl refl
       go (no z) (no q) =
           let y = open-watch geo old f (w .store) (w .ledger) (w .plain) x (o .mode) in
-          let e = P ∙ PlainLaws.apply-short (w .plain) z (omega arith) in
+          let e = P ∙ PlainLaws.apply-short geo (w .plain) z (omega arith) in
           let mode : storeNext geo apply w .rec .mode ≡ 2 = step geo apply w m .agrees .mode ∙ ap (λ (d : Done). d .plain .mode) e in
           watch-at geo old (ap (observe geo apply w) (y .0)) refl refl (ap (λ (d : Done). d .plain) e)
           (_⊎_.inr
@@ -174,21 +234,21 @@ module _ (geo : Geometry) where
   unfolding S.finished
   recover-watch old w f m h nf x = go (w .plain .F) refl (decLe 2 (w .plain .power))
     where
-      P : plainStep geo recover (foundWritten geo recover w) (w .plain) ≡ plainRecover (w .plain)
-      P = plain-served geo recover (foundWritten geo recover w) (w .plain) h
+      P : plainStep geo recover (fed geo recover w) (w .plain) ≡ plainRecover geo (fed geo recover w .found) (w .plain)
+      P = plain-served geo recover (fed geo recover w) (w .plain) h
 
-      not-zero : plainRecover (w .plain) .answer ≡ 0 → ⊥
+      not-zero : plainRecover geo (fed geo recover w .found) (w .plain) .answer ≡ 0 → ⊥
       not-zero e = true≢false (sym (eq-eqb _ 0 (step geo recover w m .agrees .answer ∙ ap (λ (d : Done). d .answer) P ∙ e)) ∙ nf)
 
       shut : w .store .rec .mode ≡ closed
       shut = is-closed geo (w .store) (w .ledger) (w .plain) m (cause-passes geo Request.recover (w .store) (same-cause geo (w .store) (w .ledger) (w .plain) m recover ∙ h)) .mode
 
       go : (t : Bool) → w .plain .F ≡ t → Dec (2 ≤ w .plain .power) → Watch geo old (observe geo recover w f) (storeNext geo recover w) (ledgerNext geo recover w) (plainNext geo recover w)
-      go false e q = absurd (not-zero (ap (λ (d : Done). d .answer) (PlainLaws.recover-whole (w .plain) e)))
-      go true e (yes q) = absurd (not-zero (ap (λ (d : Done). d .answer) (PlainLaws.recover-fallback (w .plain) e q)))
+      go false e q = absurd (not-zero (ap (λ (d : Done). d .answer) (PlainLaws.recover-whole geo (fed geo recover w .found) (w .plain) e)))
+      go true e (yes q) = absurd (not-zero (ap (λ (d : Done). d .answer) (PlainLaws.recover-fallback geo (fed geo recover w .found) (w .plain) e q)))
       go true e (no q) =
           let y = closed-watch geo old f (w .store) (w .ledger) (w .plain) x shut in
-          let k = P ∙ PlainLaws.recover-short (w .plain) e (omega arith) in
+          let k = P ∙ PlainLaws.recover-short geo (fed geo recover w .found) (w .plain) e (omega arith) in
           let mode : storeNext geo recover w .rec .mode ≡ 2 = step geo recover w m .agrees .mode ∙ ap (λ (d : Done). d .plain .mode) k in
           watch-at geo old (recover-same w f ∙ y .fated) refl refl (ap (λ (d : Done). d .plain) k)
           (to-watch geo old (y .end) (storeNext geo recover w) (ledgerNext geo recover w) _
@@ -202,6 +262,7 @@ module _ (geo : Geometry) where
 
   module _ (ms : List ℕ) (w : World) (m : WorldSim geo w) (h : refusal geo (cut ms) (w .plain) ≡ 0) where
     pub cut-plain : plainNext geo (cut ms) w ≡ CutStep.plainAt (w .store) (w .plain) (cond (planned geo (w .plain) ms (cut-found ms w) .laid) (layOver (w .plain .G) (w .plain .S)) (w .plain .S)) (planned geo (w .plain) ms (cut-found ms w) .n) (planned geo (w .plain) ms (cut-found ms w) .F)
+        (logAt (planned geo (w .plain) ms (cut-found ms w)) (w .plain .G) (w .plain .log))
     cut-plain = ap (λ (d : Done). d .plain) (CutStep.plain-cut geo ms w m h)
 
     closed-now : storeNext geo (cut ms) w .rec .mode ≢ openMode
@@ -261,10 +322,10 @@ module _ (geo : Geometry) where
       → Watch geo old (observe geo (local c) w f) (storeNext geo (local c) w) (ledgerNext geo (local c) w) (plainNext geo (local c) w)
   unfolding observe shortSync entered
   local-watch old c w f (powers k) m h x =
-      watch-at geo old (power-same geo k w f) (ap (λ (o : Outcome). o .state) (power-served geo k w m)) refl (ap (λ (d : Done). d .plain) (plain-served geo (power k) (foundWritten geo (power k) w) (w .plain) h))
+      watch-at geo old (power-same geo k w f) (ap (λ (o : Outcome). o .state) (power-served geo k w m)) refl (ap (λ (d : Done). d .plain) (plain-served geo (power k) (fed geo (power k) w) (w .plain) h))
       (power-watch geo old k f (w .store) (w .ledger) (w .plain) x)
   local-watch old c w f (opens _ n s) m h x =
-      let P = plain-served geo (local c) (foundWritten geo (local c) w) (w .plain) h in
+      let P = plain-served geo (local c) (fed geo (local c) w) (w .plain) h in
       open-kept geo old (local c) w f m (open-now geo (local c) w m n h .mode) x (ap (λ (d : Done). d .plain .mode) P ∙ s (w .plain) .mode) (ap (λ (d : Done). d .plain .S) P ∙ s (w .plain) .S) refl
 
   served-watch : (old : Laid) (c : Call) (w : World) (f : Progress) → WorldSim geo w → refusal geo c (w .plain) ≡ 0 → S.finished geo c w ≡ false → Watch geo old f (w .store) (w .ledger) (w .plain)
