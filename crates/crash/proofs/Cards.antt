@@ -76,6 +76,12 @@ module _ (geo : Geometry) where
     pub total : sumOf start w ≡ sumOf start v
     pub card : ClosedCard X N d w S n F
 
+  -- ---- another disk under the log, at all data blocks
+
+  pub recard : {X : ℕ → Type 0} {N : ℕ} {d : Disk} {w : List Entry} {S : Laid} {n : ℕ} (D : Disk) → WholeCard X N d w S n → ((a : ℕ) → isData geo N a ≡ true → D a ≡ overlay (logD geo d n) d a)
+      → WholeCard Every N d w (record { disk = D; groups = S .groups }) n
+  recard D r f = record { p = r .p; ps = r .ps; head = r .head; all = r .all; same = r .same; disk = λ a q y. f a q }
+
   -- ---- another disk, with the data blocks Y in question
 
   -- the same header and log, and the same disk under it

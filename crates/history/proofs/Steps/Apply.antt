@@ -130,7 +130,8 @@ module _ (geo : Geometry) where
         cuts = cuts;
         list = [];
         noted-all = note-past (applyHeader st) [] (takes plan) (settledLedger v) (omega (arith, count)) ∙ noted-end (takes plan) _;
-        ends = record {
+        fits = checkpoint-fits geo st (settledLedger v) (plainNow geo st S) b o;
+        ends = λ p. record {
           none-waits = refl;
           fits = checkpoint-fits geo st (settledLedger v) (plainNow geo st S) b o;
           mode = o .mode;

@@ -25,7 +25,7 @@ use Rattle.history.specs.Plain.{Plain, Short, addresses, headerWaits, Do
 use Rattle.history.specs.Dispatch.{dispatch}
 use Rattle.history.specs.Ledger.{PlannedHeader, noted, settledBy}
 use Rattle.history.specs.History.{World, ledgerNext, fed}
-use Rattle.crash.proofs.Plans.{Plan, planned, takes, settles, Asked, Throughout, length-planned, Stopped, plan-short}
+use Rattle.crash.proofs.Plans.{Plan, planned, takes, settles, FitsBehind, Asked, Throughout, length-planned, Stopped, plan-short}
 use Rattle.history.proofs.Relation.CauseLaws.{RecordFacts, facts-sizes, record-facts, facts-record}
 use Rattle.history.proofs.Relation.Sim.{Basics, Sim, CutLeads}
 use Rattle.history.proofs.Steps.Shown.{StepOK, sim-step, sim-at, small-N}
@@ -82,7 +82,8 @@ module _ (geo : Geometry) where
     pub cuts : Throughout (CutsAt w headers short waits) (queue (cardIn (w .store))) plan (w .store .settled) 0
     -- done
     pub noted-all : noted headers (takes plan) (w .ledger) ≡ settledBy list
-    pub ends : Ends geo (w .store) plan done S list
+    pub fits : FitsBehind geo (w .store .rec .blocks) (length (queue (cardIn (w .store)))) plan
+    pub ends : takes plan ≤ w .store .rec .power → Ends geo (w .store) plan done S list
     pub no-get : (a : ℕ) → c ≡ get a → ⊥
 
   module _ (c : Call) (w : World) (plan : Plan) (b : Basics geo (w .store) (w .plain)) (f : Gives c w plan) where
@@ -116,7 +117,7 @@ module _ (geo : Geometry) where
         f .call ∙ carried-short (planned plan) (f .done) (f .gone) st (omega arith)
 
     pub stopped : (X : Asked) (k : ℕ) → k ≡ P → P < takes plan → Throughout X (queue (cardIn (w .store))) plan (st .settled) 0 → Stopped geo N (cardIn st) r X (st .settled) k
-    stopped X k e p x = plan-short geo N (cardIn st) (small-N geo st (w .plain) b) (sz .waiting) X plan (cardIn st) (st .settled) (queue (cardIn (w .store))) P 0 k (omega arith) (waiting-left st) (below-queue N (cardIn st) (rc .waiting-below)) (f .ends .fits) p x
+    stopped X k e p x = plan-short geo N (cardIn st) (small-N geo st (w .plain) b) (sz .waiting) X plan (cardIn st) (st .settled) (queue (cardIn (w .store))) P 0 k (omega arith) (waiting-left st) (below-queue N (cardIn st) (rc .waiting-below)) (f .fits) p x
 
     shows : (k : ℕ) (o : Outcome) (d : Done) → dispatch geo c st ≡ o → plainStep geo c (fed geo c w) (w .plain) ≡ d → o .answer ≡ d .answer → o .orders ≡ k → d .orders ≡ k
         → Sim geo (o .state) (noted (f .headers) k (w .ledger)) (d .plain) → StepOK geo c w
@@ -133,7 +134,7 @@ module _ (geo : Geometry) where
     done-step : takes plan ≤ P → StepOK geo c w
     done-step p =
         shows (takes plan) _ _ (done-call p) (f .plain-done (omega (arith, b .power))) refl refl refl
-        (sim-at geo refl (f .noted-all) (ap (λ (k : ℕ). openPlain geo st (f .done) (f .S) (k - takes plan) (addresses (f .list))) (b .power)) (ends-sim geo st plan (f .done) (f .S) (f .list) (b .sizes) (b .counts) (f .ends) p))
+        (sim-at geo refl (f .noted-all) (ap (λ (k : ℕ). openPlain geo st (f .done) (f .S) (k - takes plan) (addresses (f .list))) (b .power)) (ends-sim geo st plan (f .done) (f .S) (f .list) (b .sizes) (b .counts) (f .ends p) p))
 
     -- with less
     short-step : P < takes plan → StepOK geo c w
@@ -194,4 +195,4 @@ module _ (geo : Geometry) where
         go (no p) = omega arith
 
     pub gives-settled : takes plan ≤ P → dispatch geo c st .state .settled ≡ settles (queue (cardIn (w .store))) plan (st .settled)
-    gives-settled p = ap (λ (o : Outcome). o .state .settled) (done-call p) ∙ ends-left geo st plan (f .done) (f .S) (f .list) (b .sizes) (b .counts) (f .ends) p .settled
+    gives-settled p = ap (λ (o : Outcome). o .state .settled) (done-call p) ∙ ends-left geo st plan (f .done) (f .S) (f .list) (b .sizes) (b .counts) (f .ends p) p .settled
