@@ -28,10 +28,10 @@ use Rattle.store.specs.Causes.{cause}
 use Rattle.store.specs.Outcomes.{refused, completed, unless}
 use Rattle.store.specs.Put.{putAt}
 use Rattle.history.specs.Call.{power, put, get, commit, sync, recover, cut}
-use Rattle.history.specs.Plain.{Plain, blank, plainFit, refusal, headerKept, plainStep, still}
+use Rattle.history.specs.Plain.{Plain, Fed, blank, plainFit, refusal, headerKept, plainStep, still}
 use Rattle.history.specs.Dispatch.{called, dispatch}
 use Rattle.history.specs.Ledger.{sameLog, collides}
-use Rattle.history.specs.History.{World, next, after, storeNext, ledgerNext, foundWritten, acceptedCut, exception}
+use Rattle.history.specs.History.{World, next, after, storeNext, ledgerNext, foundWritten, fed, acceptedCut, exception}
 use Rattle.history.specs.Statements as S
 use Rattle.history.specs.Statements.{noneFinished, shortSync, quiet, decided, Progress, known, undecided, observe, fate}
 use Rattle.history.specs.Worked.{cut101, cut111, half, cutHalf, cutFifth, cutHeader, sevens, nines, at40, crashed, answers}
@@ -200,8 +200,8 @@ pub record Cuts (w : World) (ms : List ℕ) (same : Bool) (k : ℕ) (laid : Laid
   pub n : ℕ
   pub F : Bool
   pub left : ℕ
-  pub cuts : plainStep trap (cut ms) same (downAt old (at40 nines ∷ [])) ≡ still (closedAt laid n 0 F)
-  pub recovers : (t : Bool) → plainStep trap recover t (closedAt laid n 100 F) ≡ record { answer = 0; orders = k; plain = openAt laid [] [] n left }
+  pub cuts : (t : Fed) → t .same ≡ same → plainStep trap (cut ms) t (downAt old (at40 nines ∷ [])) ≡ still (closedAt laid n 0 F)
+  pub recovers : (t : Fed) → plainStep trap recover t (closedAt laid n 100 F) ≡ record { answer = 0; orders = k; plain = openAt laid [] [] n left }
 
 pub all-111 : allKept cut111 ≡ true
 all-111 = marksOf-all _
@@ -281,7 +281,7 @@ module _ (w : World) (m : Filed w) (ms : List ℕ) (same : Bool) (k : ℕ) (laid
   t₅ : Went (cut ms) (v₄ w) (still (closedAt laid (c .n) 0 (c .F)))
   t₅ =
       went (cut ms) (v₄ w) _ _ (t₄ w m .sim) (c .usual) (t₄ w m .plain)
-      (ap (λ (t : Bool). plainStep trap (cut ms) t (downAt old (at40 nines ∷ []))) (c .found) ∙ c .cuts)
+      (c .cuts (fed trap (cut ms) (v₄ w)) (c .found))
 
   pub t₆ : Went (power 100) v₅ (still (closedAt laid (c .n) 100 (c .F)))
   unfolding exception acceptedCut
