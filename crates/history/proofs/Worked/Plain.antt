@@ -11,7 +11,7 @@ use Rattle.card.specs.Marks.{keptAt, marksFor, marksOf}
 use Rattle.card.proofs.Spreads.{marksOf-for, marksOf-whole, marksOf-kept}
 use Rattle.journal.specs.Geometry.{trap}
 use Rattle.journal.specs.Header.{mostSave}
-use Rattle.history.specs.Call.{Call, power, put, commit, sync, apply, recover, cut}
+use Rattle.history.specs.Call.{Call, power, put, get, commit, sync, apply, recover, cut}
 use Rattle.history.specs.Plain.{Plain, Done, Fed, ofSync, among, addresses, flushes, withLog, blankPlain, withS, withLists, withCount, withPower, done, cutShort, closedWith, has, insert, merge, headerWaits, plainFit, refusal, headerKept, verdict, ownVerdict, plainSync, plainApply, plainRecover, plainCut, plainStep, still}
 use Rattle.history.specs.Dispatch.{dispatch}
 use Rattle.history.specs.History.{World, next, fed, exception}
@@ -118,6 +118,10 @@ plain-fallback t S n = refl
 pub plain-found : (t : Fed) (S : Laid) (n : ℕ) → plainStep trap recover t (closedAt S n 100 false) ≡ still (openAt S [] [] n 100)
 unfolding plainStep refusal plainRecover among
 plain-found t S n = refl
+
+pub plain-shown : (t : Fed) (S : Laid) (n p : ℕ) → plainStep trap (get 40) t (openAt S [] [] n p) ≡ still (openAt S [] [] n p)
+unfolding plainStep refusal trap
+plain-shown t S n p = refl
 
 -- ---- a call of the list that comes to o on the plain disk
 
