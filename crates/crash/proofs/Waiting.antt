@@ -1,24 +1,28 @@
 -- A card on which direct writes wait (W-209): what stands once they are settled, and what every cut leaves alone.
 use Prim.Native.Nat.{ℕ, _+_, _*_, _-_, _/_, _^_, _≤_, _<_}
 use mathlib.Core.Path.{_≡_, refl, ap, sym, _∙_}
-use mathlib.Core.Bool.{Bool}
+use mathlib.Core.Logic.{_≢_}
+use mathlib.Core.Bool.{Bool, true}
 use mathlib.Core.List.{List, [], _∷_, _++_}
 use native.Mathlib.Omega.{arith}
+use native.Mathlib.Decide.{ℕ-discrete}
 use lib.ListN.{length, drop}
 use Rattle.cells.specs.Upto.Laws.{ext-upTo}
 use Rattle.cells.specs.Entry.{blockBytes, Entry}
+use Rattle.card.specs.Disk.{Disk, lay, overlay}
 use Rattle.card.specs.Card.{settle, blockAt, blocksIn}
 use Rattle.card.proofs.All.{All}
-use Rattle.card.proofs.Runs.{Whole, settle-append, settle-other, length-settle}
+use Rattle.card.proofs.Overlays.{lay-same, lay-other, overlay-agree, overlay-other}
+use Rattle.card.proofs.Runs.{Whole, settle-append, settle-other, settle-overlay, length-settle}
 use Rattle.journal.specs.Geometry.{Geometry, perDescriptor}
-use Rattle.journal.specs.Layout.{descriptorAt, firstData}
+use Rattle.journal.specs.Layout.{descriptorAt, firstData, isData}
 use Rattle.journal.specs.Header.{header}
 use Rattle.journal.specs.Log.{sumOf}
 use Rattle.journal.specs.Orders.{describe, descriptorEntry}
 use Rattle.journal.proofs.OrderLists.{slotBlocks, headerEntry, appendWrites}
 use Rattle.crash.specs.Laid.{Laid}
-use Rattle.crash.proofs.Logs.{logD, same-log, same-agree}
-use Rattle.crash.proofs.Cards.{Every, ClosedCard, SafeCard, closed-agree}
+use Rattle.crash.proofs.Logs.{logD, same-log, same-agree, data-above, data-below}
+use Rattle.crash.proofs.Cards.{Every, WholeCard, ClosedCard, SafeCard, recard, whole-frame, closed-agree}
 use Rattle.crash.proofs.Frames.{Besides, KeepOff, off-low}
 use Rattle.crash.proofs.Leads.{Leads, Behind}
 use Rattle.crash.proofs.Plans.{Plan, settles}
@@ -67,6 +71,40 @@ module _ (geo : Geometry) where
       spared = λ a y. (y, y);
       card = closed-agree geo Every (Besides q₀) N (blockAt (settle q₀ s)) (blockAt s) w S n (λ a l. sym (settled-low a l)) (λ a q y. (tt, sym (settle-other q₀ s a y))) F c;
     }
+
+-- ---- one write more, to a data block that is not in the log, is settled
+
+module _ (geo : Geometry) where
+  pub drawn-card : (N : ℕ) (s : List ℕ) (w : List Entry) (S : Laid) (n : ℕ) (e : Entry) → N ≡ blocksIn s → Whole e → isData geo N (e .address) ≡ true → Besides (logD geo (blockAt s) n) (e .address)
+      → WholeCard geo Every N (blockAt s) w S n → WholeCard geo Every N (blockAt (settle (e ∷ []) s)) w (record { disk = lay e (S .disk); groups = S .groups }) n
+  unfolding overlay
+  drawn-card N s w S n e size whole place off r = recard geo (lay e (S .disk)) others (λ a q. go a q (ℕ-discrete a (e .address)))
+    where
+      t : Disk
+      t = blockAt (settle (e ∷ []) s)
+
+      other : (a : ℕ) → a ≢ e .address → t a ≡ blockAt s a
+      other a z = settle-other (e ∷ []) s a (z, tt)
+
+      low : (a : ℕ) → a < firstData geo → t a ≡ blockAt s a
+      low a l = other a (λ z. let u = data-above geo N (e .address) place in omega arith)
+
+      log : logD geo t n ≡ logD geo (blockAt s) n
+      log = same-log geo n t (blockAt s) (same-agree geo n t (blockAt s) (r .head .most) low)
+
+      others : WholeCard geo (λ a. a ≢ e .address) N t w S n
+      others =
+          whole-frame geo Every (λ a. a ≢ e .address) N (blockAt s) t w S n (low 0 (omega arith)) log
+          (λ a q y. (tt, overlay-agree (logD geo (blockAt s) n) t (blockAt s) a (other a y))) r
+
+      go : (a : ℕ) → isData geo N a ≡ true → Dec (a ≡ e .address) → lay e (S .disk) a ≡ overlay (logD geo t n) t a
+      go a q (yes z) =
+          lay-same e (S .disk) a z
+          ∙ sym (ap (λ (l : List Entry). overlay l t a) log
+          ∙ overlay-other (logD geo (blockAt s) n) t a (rw z off)
+          ∙ settle-overlay (e ∷ []) s a (rw (← size) (data-below geo N a q)) (whole, tt)
+          ∙ lay-same e (blockAt s) a z)
+      go a q (no z) = lay-other e (S .disk) a z ∙ others .disk a q z
 
 -- a plan's first flush settles q₀ too: as if it were settled before
 pub settles-from : (q₀ W : List Entry) (Ws : Plan) (s : List ℕ) → settles q₀ (W ∷ Ws) s ≡ settles [] (W ∷ Ws) (settle q₀ s)

@@ -12,5 +12,6 @@ pub mod Apply
 pub mod Recover
 pub mod AppendEnds
 pub mod SyncMeets
+pub mod Directs
 pub mod Sync
 pub mod ListInduction

@@ -12,7 +12,7 @@ use Rattle.cells.specs.Cell.{cell, setCell}
 use Rattle.cells.specs.Cell.Laws.{length-setCell, cell-same, cell-other, cell-zeros}
 use Rattle.cells.specs.Entry.{blockBytes}
 use Rattle.fnv.specs.Fnv.{start}
-use Rattle.card.specs.Card.{blockAt, blocksIn}
+use Rattle.card.specs.Card.{queue, settle, blockAt, blocksIn}
 use Rattle.journal.specs.Geometry.{Geometry}
 use Rattle.journal.specs.Layout.{headerAt, isData}
 use Rattle.journal.specs.Header.{encode, emptyHeader}
@@ -28,8 +28,8 @@ use Rattle.store.specs.Causes.{cause}
 use Rattle.store.specs.Outcomes.{completed, refused}
 use Rattle.store.specs.Format.{formatted, formatCall}
 use Rattle.store.proofs.Causes.{SizeFacts, sizes-facts}
-use Rattle.history.specs.Call.{Call, local, save, cut}
-use Rattle.history.specs.Plain.{blank, fresh}
+use Rattle.history.specs.Call.{Call, local, direct, save, cut}
+use Rattle.history.specs.Plain.{addresses, blank, fresh}
 use Rattle.history.specs.Dispatch.{dispatch}
 use Rattle.history.specs.Ledger.{Ledger, entered}
 use Rattle.history.specs.History.{World, begun, next, after, exception}
@@ -41,6 +41,8 @@ use Rattle.history.proofs.Steps.Local.{power-step, put-step, get-step, 
 use Rattle.history.proofs.Steps.Cut.{cut-step}
 use Rattle.history.proofs.Steps.Apply.{apply-step}
 use Rattle.history.proofs.Steps.Recover.{recover-step}
+
+use Rattle.history.proofs.Steps.Directs.{direct-step}
 use Rattle.history.proofs.Steps.Sync.{sync-step}
 
 -- ---- one call
@@ -53,6 +55,7 @@ module _ (geo : Geometry) where
   step (local (Local.getList xs bs)) w m = list-step geo xs bs w m
   step (local Local.commit) w m = commit-step geo w m
   step (local Local.abandon) w m = abandon-step geo w m
+  step (direct a b) w m = direct-step geo a b w m
   step (save Save.sync) w m = sync-step geo w m
   step (save Save.apply) w m = apply-step geo w m
   step (save Save.recover) w m = recover-step geo w m
@@ -146,7 +149,7 @@ module _ (geo : Geometry) where
     begun-blank a z l = rw formatted-now (blank-now a z l)
 
     pub begun-sim : WorldSim geo (begun geo st)
-    unfolding begun fresh formatted
+    unfolding begun fresh formatted addresses queue settle
     begun-sim =
         rw formatted-now
         (record {
@@ -166,12 +169,11 @@ module _ (geo : Geometry) where
                   group-count = omega arith;
                   log-count = omega arith;
                   waiting-count = omega arith;
-                  waiting-down = λ z. absurd (z refl);
                   blocks = sym (rw (length-setCell, length-replicate));
                   waiting-below = λ i z. absurd (omega arith);
                   lists = λ z. record { open-data = tt; group-data = tt; log-data = tt; open-distinct = tt; group-distinct = tt };
                 });
-            mirrors = record { mode = refl; N = refl; waiting = refl; T = λ z. refl; G = λ z. refl; save = λ z. refl };
+            mirrors = record { mode = refl; N = refl; waiting = refl; T = λ z. refl; G = λ z. refl; save = λ z. refl; log = λ z. refl; writes = λ z. refl };
             power = refl;
           };
           phase = _⊎_.inl (record {
@@ -179,8 +181,10 @@ module _ (geo : Geometry) where
             n = refl;
             F = refl;
             short = refl;
+            loose = refl;
             pending = refl;
             sum = sym (sumOf-nil start);
+            waits = tt;
             card = emptied geo Every N (blockAt (setCell blockBytes zeros headerAt (encode (emptyHeader N 0)))) blank (lib.Dec.lit< tt) header-now (λ a q y. sym (data-now a q));
           });
         })
