@@ -1,6 +1,6 @@
 -- What is settled under the log of an open store, the direct writes that wait left out: a call keeps it, or what waited has settled, and then
 -- it is S.
-use Prim.Native.Nat.{ℕ, _-_, _≤_}
+use Prim.Native.Nat.{ℕ, _≤_}
 use mathlib.Core.Path.{_≡_, refl, ap, sym, _∙_}
 use mathlib.Core.Logic.{_≢_}
 use mathlib.Core.Bool.{Bool, true, false, cond}
@@ -12,7 +12,7 @@ use lib.Dec.{eqb, leb}
 use lib.ListN.{length}
 use Rattle.cells.specs.Entry.{Entry}
 use Rattle.card.specs.Disk.{overlay}
-use Rattle.card.specs.Card.{Card, Order, write, flush, order, run, queue, blockAt}
+use Rattle.card.specs.Card.{Card, Order, write, flush, order, run, blockAt}
 use Rattle.journal.specs.Geometry.{Geometry}
 use Rattle.journal.specs.declared.lookup.Found.{Found}
 use Rattle.journal.specs.declared.lookup.Found.the-variants.{At, Absent}
@@ -20,7 +20,6 @@ use Rattle.journal.specs.Layout.{isData}
 use Rattle.journal.specs.Log.{entries}
 use Rattle.crash.proofs.Batches.{no-queue}
 use Rattle.crash.proofs.Logs.{entries-disk}
-use Rattle.store.specs.declared.record.Record.{Record}
 use Rattle.store.specs.Local as Local
 use Rattle.store.specs.Local.{Local}
 use Rattle.store.specs.Request as Request
@@ -29,7 +28,7 @@ use Rattle.store.specs.Lists.{openFrom, find}
 use Rattle.store.specs.Causes.{cause}
 use Rattle.store.specs.Outcomes.{completed}
 use Rattle.store.specs.Put.{putAt}
-use Rattle.store.specs.Saves.{carried, emptying, applying}
+use Rattle.store.specs.Saves.{carried, applying}
 use Rattle.store.specs.Direct.{directWrite, directOrders, directing}
 use Rattle.history.specs.Call.{local, direct, apply}
 use Rattle.history.specs.Plain.{Plain, Done, ofSync, ofApply, still, done, spent, flushed, cutShort, applyTakes, applyWaits, syncTakes, syncWaits, synced, cleared, plainBarrier, plainSync, plainApply}

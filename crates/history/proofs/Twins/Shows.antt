@@ -2,7 +2,7 @@
 use Prim.Native.Nat.{ℕ, _+_, _≤_, _<_}
 use mathlib.Core.Path.{_≡_, refl, ap, sym, _∙_}
 use mathlib.Core.Logic.{_≢_}
-use mathlib.Core.Bool.{true, false}
+use mathlib.Core.Bool.{false}
 use mathlib.Core.List.{List}
 use native.Mathlib.Omega.{arith}
 use native.Mathlib.Decide.{ℕ-discrete, decLe}
@@ -35,7 +35,7 @@ use Rattle.journal.proofs.Logs.{neither}
 use Rattle.inspect.proofs.Readings.{right-chosen}
 use Rattle.inspect.proofs.Comparisons.{alike-yes}
 use Rattle.history.specs.Call.{Call, save, power, get, recover}
-use Rattle.history.specs.Plain.{Plain, plainGet, plainListing}
+use Rattle.history.specs.Plain.{plainGet, plainListing}
 use Rattle.history.specs.Dispatch.{called, dispatch}
 use Rattle.history.specs.History.{World}
 use Rattle.history.specs.AlikeCards.{SameAt, StillAlike}
