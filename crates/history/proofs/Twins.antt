@@ -2,6 +2,7 @@
 pub mod Regrouped
 pub mod Reopens
 pub mod LastNumber
+pub mod Homes
 pub mod Pairs
 pub mod Shows
 pub mod Recovered

@@ -6,6 +6,7 @@ use mathlib.Core.Bool.{Bool, true, false, cond}
 use mathlib.Core.List.{List, [], _∷_}
 use native.Mathlib.Omega.{arith}
 use Rattle.cells.specs.Upto.Laws.{ext-upTo}
+use Rattle.cells.specs.Entry.{Entry}
 use Rattle.journal.specs.Geometry.{Geometry}
 use Rattle.journal.specs.Layout.{isData}
 use Rattle.journal.specs.Log.{slotEntry, entries}
@@ -20,7 +21,7 @@ use Rattle.history.specs.Ledger.{settledBy}
 use Rattle.history.specs.History.{World, next, after}
 use Rattle.history.specs.AlikeCards.{Clones, left, recovered, Reaches, AlikeCards}
 use Rattle.history.proofs.Twins.Reopens.{plainReopened}
-use Rattle.history.proofs.Twins.Pairs.{worldOf, TwinsOf, twins-left}
+use Rattle.history.proofs.Twins.Pairs.{homes-none, worldOf, TwinsOf, twins-left}
 use Rattle.history.proofs.Boundary.FaceRefusals.{reads}
 use Rattle.history.proofs.Twins.Shows.{same-at, still-alike}
 use Rattle.history.proofs.Twins.Recovered.{size, enough, opens}
@@ -46,18 +47,21 @@ module _ (geo : Geometry) (a b : State) (c : Clones geo a b) where
   twins k d e =
       let p = opens geo a (c .first) (yes .first) k n (laidOver geo (a .settled)) refl (λ x q. refl) d in
       let q = opens geo b (c .second) (yes .second) k n (laidOver geo (a .settled)) (sym (yes .count)) data-blocks e in
+      let same-plain : plainReopened (b .rec .blocks) (laidOver geo (a .settled)) (q .0) n (entries geo (b .settled) n) k ≡ plainReopened (a .rec .blocks) (laidOver geo (a .settled)) (q .0) n (entries geo (a .settled) n) k =
+      ap₂ (λ (N : ℕ) (es : List Entry). plainReopened N (laidOver geo (a .settled)) (q .0) n es k) (sym blocks) (sym log) in
       record {
         ledger = settledBy (entries geo (a .settled) n);
         other-ledger = settledBy (entries geo (b .settled) n);
-        plain = plainReopened (a .rec .blocks) (laidOver geo (a .settled)) (p .0) n k;
-        other-plain = plainReopened (b .rec .blocks) (laidOver geo (a .settled)) (q .0) n k;
+        plain = plainReopened (a .rec .blocks) (laidOver geo (a .settled)) (p .0) n (entries geo (a .settled) n) k;
+        other-plain = plainReopened (b .rec .blocks) (laidOver geo (a .settled)) (q .0) n (entries geo (b .settled) n) k;
         twins = record {
           first = p .1;
           second = q .1;
           groups = q .0;
-          plain = ap (λ (N : ℕ). plainReopened N (laidOver geo (a .settled)) (q .0) n k) (sym blocks);
+          plain = same-plain;
           ledger = ap settledBy log;
           first-mode = λ z. omega (arith, p .1 .basics .mirrors .mode, z);
+          homes = homes-none geo (worldOf _ _ _) (worldOf _ _ _) (p .1) (q .1) (q .0) same-plain refl;
         };
       }
 

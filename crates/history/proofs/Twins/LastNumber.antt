@@ -27,7 +27,8 @@ use Rattle.store.specs.Causes.{cause}
 use Rattle.store.specs.Outcomes.{completed}
 use Rattle.store.specs.Put.{putAt}
 use Rattle.store.specs.Saves.{carried, emptying, savedAs, metByAppend, innerOrders, applies, syncing, applying, saveOrders}
-use Rattle.history.specs.Call.{Call, local, save, cut}
+use Rattle.store.specs.Direct.{directOrders, directing}
+use Rattle.history.specs.Call.{Call, local, direct, save, cut}
 use Rattle.history.specs.Dispatch.{called, dispatch, servedLocal, servedSave, served}
 use Rattle.history.specs.AlikeCards.{Uncut, left}
 use Rattle.history.proofs.Relation.CauseLaws.{record-facts, cause-passes}
@@ -72,6 +73,9 @@ module _ (geo : Geometry) (st : State) (z : st .rec .mode ≢ closed) where
   local-goes (Local.getList xs bs) = kept _ refl refl
   local-goes Local.commit = kept _ refl refl
   local-goes Local.abandon = kept _ refl refl
+
+  direct-goes : (a : ℕ) (b : List ℕ) → Goes st (directing geo a b st)
+  direct-goes a b = carried-goes (directOrders geo a b st) (st .rec) (st .rec) st z (λ e. e) (omega arith) refl
 
   met-mode : metByAppend geo st .mode ≡ st .rec .mode
   met-mode = go (applies geo st)
@@ -129,6 +133,7 @@ module _ (geo : Geometry) (st : State) (z : st .rec .mode ≢ closed) where
   pub goes : (c : Call) → ((ms : List ℕ) → c ≡ cut ms → dispatch geo c st .answer ≢ 0) → Goes st (dispatch geo c st)
   unfolding called
   goes (local c) u = unless-either (Goes st) (cause geo (Request.local c) st) st (completed (servedLocal geo c st)) (λ e. local-goes c) (kept _ refl refl)
+  goes (direct a b) u = unless-either (Goes st) (cause geo (Request.direct a b) st) st (directing geo a b st) (λ e. direct-goes a b) (kept _ refl refl)
   goes (save Save.sync) u = unless-either (Goes st) (cause geo Request.sync st) st (syncing geo st) sync-goes (kept _ refl refl)
   goes (save Save.apply) u = unless-either (Goes st) (cause geo Request.apply st) st (applying geo st) (λ e. apply-goes) (kept _ refl refl)
   goes (save Save.recover) u = unless-either (Goes st) (cause geo Request.recover st) st (servedSave geo Save.recover st) (λ e. absurd (recover-refused e)) (kept _ refl refl)

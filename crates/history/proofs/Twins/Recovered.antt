@@ -31,10 +31,12 @@ use Rattle.history.specs.History.{World, next, acceptedCut, exception}
 use Rattle.history.specs.AlikeCards.{Shut, Uncut, recovered, CutFree, Recovery}
 use Rattle.history.proofs.Relation.CauseLaws.{record-facts, cause-passes}
 use Rattle.history.proofs.Relation.Sim.{OpenSim, Sim}
+use Rattle.history.proofs.Relation.OpenFacts as Facts
 use Rattle.history.proofs.Steps.Shown.{dispatch-refused}
 use Rattle.history.proofs.Steps.ListInduction.{next-sim}
 use Rattle.history.proofs.Twins.Reopens.{plainReopened, reopens, two-enough}
 use Rattle.history.proofs.Twins.LastNumber.{grows}
+use Rattle.history.proofs.Twins.Homes.{beneath-none}
 use Rattle.history.proofs.Twins.Pairs.{open-sim, worldOf}
 use Rattle.history.proofs.Twins.Shows.{right-one, slots-of, power-keeps, open-size, open-accepted, open-count, open-laid}
 
@@ -60,21 +62,21 @@ module _ (geo : Geometry) (st : State) (f : Shut geo st) (accepted : inspection 
 
   -- recovered, it has the log that was chosen, over the data blocks D
   reopened : (n : ℕ) (D : Disk) → chosenCount geo (st .settled) ≡ n → ((x : ℕ) → isData geo (st .rec .blocks) x ≡ true → D x ≡ laidOver geo (st .settled) x) → dispatch geo recover st .answer ≡ 0
-      → (g : ℕ) × ((p : ℕ) × Sim geo (dispatch geo recover st .state) (settledBy (entries geo (st .settled) n)) (plainReopened (st .rec .blocks) D g n p))
+      → (g : ℕ) × ((p : ℕ) × Sim geo (dispatch geo recover st .state) (settledBy (entries geo (st .settled) n)) (plainReopened (st .rec .blocks) D g n (entries geo (st .settled) n) p))
   reopened n D e under d =
       let count : takenCount (choose geo (st .rec .blocks) (st .settled)) ≡ n = taken ∙ e in
       let r = reopens geo st sizes counts (f .mode) (f .bytes) chosen D (λ x q. under x q ∙ ap (λ (m : ℕ). overlay (entries geo (st .settled) m) (blockAt (st .settled)) x) (sym taken)) d in (
         r .0,
-        (r .1 .0, subst (λ (m : ℕ). Sim geo (dispatch geo recover st .state) (settledBy (entries geo (st .settled) m)) (plainReopened (st .rec .blocks) D (r .0) m (r .1 .0))) count (r .1 .1)),
+        (r .1 .0, subst (λ (m : ℕ). Sim geo (dispatch geo recover st .state) (settledBy (entries geo (st .settled) m)) (plainReopened (st .rec .blocks) D (r .0) m (entries geo (st .settled) m) (r .1 .0))) count (r .1 .1)),
       )
 
   -- and given the power k
   pub opens : (k n : ℕ) (D : Disk) → chosenCount geo (st .settled) ≡ n → ((x : ℕ) → isData geo (st .rec .blocks) x ≡ true → D x ≡ laidOver geo (st .settled) x) → dispatch geo recover st .answer ≡ 0
-      → (g : ℕ) × Sim geo (recovered geo k st) (settledBy (entries geo (st .settled) n)) (plainReopened (st .rec .blocks) D g n k)
+      → (g : ℕ) × Sim geo (recovered geo k st) (settledBy (entries geo (st .settled) n)) (plainReopened (st .rec .blocks) D g n (entries geo (st .settled) n) k)
   unfolding next entered plainStep refusal exception acceptedCut
   opens k n D e under d =
       let r = reopened n D e under d in
-      (r .0, next-sim geo (power k) (worldOf (dispatch geo recover st .state) (settledBy (entries geo (st .settled) n)) (plainReopened (st .rec .blocks) D (r .0) n (r .1 .0))) (r .1 .1) refl)
+      (r .0, next-sim geo (power k) (worldOf (dispatch geo recover st .state) (settledBy (entries geo (st .settled) n)) (plainReopened (st .rec .blocks) D (r .0) n (entries geo (st .settled) n) (r .1 .0))) (r .1 .1) refl)
 
 -- ---- a card that a recover left
 
@@ -108,11 +110,11 @@ module _ (geo : Geometry) (st : State) (f : Shut geo st) (done : dispatch geo re
   abbrev n : ℕ
   n = chosenCount geo (st .settled)
 
-  now : (g : ℕ) × ((p : ℕ) × Sim geo (dispatch geo recover st .state) (settledBy (entries geo (st .settled) n)) (plainReopened (st .rec .blocks) (laidOver geo (st .settled)) g n p))
+  now : (g : ℕ) × ((p : ℕ) × Sim geo (dispatch geo recover st .state) (settledBy (entries geo (st .settled) n)) (plainReopened (st .rec .blocks) (laidOver geo (st .settled)) g n (entries geo (st .settled) n) p))
   now = reopened geo st f met n (laidOver geo (st .settled)) refl (λ x q. refl) done
 
   abbrev left-world : World
-  left-world = worldOf (dispatch geo recover st .state) (settledBy (entries geo (st .settled) n)) (plainReopened (st .rec .blocks) (laidOver geo (st .settled)) (now .0) n (now .1 .0))
+  left-world = worldOf (dispatch geo recover st .state) (settledBy (entries geo (st .settled) n)) (plainReopened (st .rec .blocks) (laidOver geo (st .settled)) (now .0) n (entries geo (st .settled) n) (now .1 .0))
 
   m : Sim geo (left-world .store) (left-world .ledger) (left-world .plain)
   m = now .1 .1
@@ -124,7 +126,7 @@ module _ (geo : Geometry) (st : State) (f : Shut geo st) (done : dispatch geo re
   blocks-stay = sym (size geo st f met) ∙ m .basics .mirrors .N ∙ open-size geo left-world m o
 
   log-stays : entries geo (st .settled) n ≡ entries geo (left-world .store .settled) n
-  log-stays = o .card .same ∙ sym (entries-disk geo (left-world .store .settled) (left-world .store .rec .logged)) ∙ ap (entries geo (left-world .store .settled)) (sym (o .n))
+  log-stays = Facts.written-is geo (left-world .store) (left-world .ledger) (left-world .plain) (m .basics) o ∙ sym (entries-disk geo (left-world .store .settled) (left-world .store .rec .logged)) ∙ ap (entries geo (left-world .store .settled)) (sym (o .n))
 
   met-again : alikeOf geo (st .settled) (dispatch geo recover st .state .settled) .yes ≡ true
   met-again = alike-yes geo (st .settled) (left-world .store .settled) .1
@@ -134,7 +136,9 @@ module _ (geo : Geometry) (st : State) (f : Shut geo st) (done : dispatch geo re
         blocks = blocks-stay;
         count = o .n ∙ sym (open-count geo left-world m o);
         slots = slots-of geo (st .settled) (left-world .store .settled) n log-stays;
-        laid = λ x q. sym (open-laid geo left-world m o x (ap (λ (N : ℕ). isData geo N x) (sym blocks-stay) ∙ q));
+        laid = λ x q.
+            sym (open-laid geo left-world m o x
+            ∙ beneath-none geo (left-world .store) (left-world .ledger) (left-world .plain) o (sym (m .basics .mirrors .waiting)) x (ap (λ (N : ℕ). isData geo N x) (sym (m .basics .mirrors .N) ∙ size geo st f met) ∙ q));
       })
 
   not-closed : (k : ℕ) → recovered geo k st .rec .mode ≢ closed

@@ -14,10 +14,11 @@ use Rattle.cells.specs.Little.{Bytes}
 use Rattle.cells.specs.Cell.Laws.{bytes-cell}
 use Rattle.fnv.specs.Fnv.{start}
 use Rattle.card.specs.Disk.{Disk, overlay}
-use Rattle.card.specs.Card.{Order, settle, blockAt}
+use Rattle.card.specs.Card.{Order, queue, settle, blockAt}
 use Rattle.card.proofs.Overlays.{lay-same}
 use Rattle.card.proofs.Runs.{settle-other, settle-overlay}
 use Rattle.crash.specs.Laid.{Laid}
+use Rattle.crash.proofs.Batches.{no-queue}
 use Rattle.crash.proofs.Cards.{Every, WholeCard, fallen}
 use Rattle.crash.proofs.Logs.{sum-lt, logD, entries-disk, data-above}
 use Rattle.crash.proofs.Plans.{Plan, planned, takes, length-planned}
@@ -35,12 +36,12 @@ use Rattle.journal.proofs.Choices.{ours, alike-zero, choose-foreign, choose-who
 use Rattle.journal.proofs.OrderLists.{headerEntry, fallback-writes, length-fallback}
 use Rattle.store.specs.declared.record.Record.{Record}
 use Rattle.store.specs.Request as Request
-use Rattle.store.specs.State.{State, Outcome, closed}
+use Rattle.store.specs.State.{State, Outcome, closed, cardIn}
 use Rattle.store.specs.Causes.{wrongSizes, wrongRecord, cause}
 use Rattle.store.specs.Saves.{carried, reopened, recovering}
 use Rattle.store.proofs.Causes.{SizeFacts, sizes-facts}
 use Rattle.history.specs.Call.{recover}
-use Rattle.history.specs.Plain.{Plain, withS, withCount, withPower, blankPlain}
+use Rattle.history.specs.Plain.{Plain, addresses, withS, withCount, withPower, withLog, blankPlain}
 use Rattle.history.specs.Dispatch.{called, dispatch}
 use Rattle.history.specs.Ledger.{settledBy}
 use Rattle.history.proofs.Relation.CauseLaws.{RecordFacts, record-facts, idle}
@@ -48,9 +49,9 @@ use Rattle.history.proofs.Relation.Sim.{Sim}
 use Rattle.history.proofs.Steps.CallEnds.{carried-done, carried-short}
 use Rattle.history.proofs.Steps.Ends.{none-listed, Ends, ends-sim}
 
--- the plain disk then: N, the data blocks D, into which g groups were laid, n entries in the log, the power p
-abbrev pub plainReopened : ℕ → Disk → ℕ → ℕ → ℕ → Plain
-plainReopened N D g n p = withCount n (withPower p (withS (record { disk = D; groups = g }) (blankPlain N)))
+-- the plain disk then: N, the data blocks D, into which g groups were laid, n entries in the log, which is the list, the power p
+abbrev pub plainReopened : ℕ → Disk → ℕ → ℕ → List Entry → ℕ → Plain
+plainReopened N D g n list p = withCount n (withLog (addresses list) (withPower p (withS (record { disk = D; groups = g }) (blankPlain N))))
 
 module _ (geo : Geometry) where
   module _ (st : State) (sizes : wrongSizes geo st ≡ false) (counts : wrongRecord geo st ≡ false) (shut : st .rec .mode ≡ closed) where
@@ -66,8 +67,8 @@ module _ (geo : Geometry) where
     rc : RecordFacts geo st
     rc = record-facts geo st counts
 
-    none : st .rec .waiting ≡ 0
-    none = idle geo st rc (λ z. omega (arith, shut))
+    none : queue (cardIn st) ≡ []
+    none = no-queue (cardIn st) (idle geo st rc shut)
 
     -- ---- the call
 
@@ -93,14 +94,14 @@ module _ (geo : Geometry) where
 
       reopens-by : (n sum : ℕ) (list : List Entry) → recovering c st ≡ carried (planned plan) (reopened n sum g (st .rec)) (st .rec) st
           → Ends geo st plan (reopened n sum g (st .rec)) S list
-          → dispatch geo recover st .answer ≡ 0 → (p : ℕ) × Sim geo (dispatch geo recover st .state) (settledBy list) (plainReopened N D g n p)
+          → dispatch geo recover st .answer ≡ 0 → (p : ℕ) × Sim geo (dispatch geo recover st .state) (settledBy list) (plainReopened N D g n list p)
       reopens-by n sum list same f d =
           let at = call c e z ∙ same in
           let long : length (planned plan) ≤ st .rec .power = enough (planned plan) _ _ (sym (ap (λ (o : Outcome). o .answer) at) ∙ d) in
           let whole = length-planned plan in
           let left = at ∙ carried-done (planned plan) (reopened n sum g (st .rec)) (st .rec) st long in (
             st .rec .power - takes plan,
-            subst (λ (t : State). Sim geo t (settledBy list) (plainReopened N D g n (st .rec .power - takes plan))) (sym (ap (λ (o : Outcome). o .state) left))
+            subst (λ (t : State). Sim geo t (settledBy list) (plainReopened N D g n list (st .rec .power - takes plan))) (sym (ap (λ (o : Outcome). o .state) left))
                 (ends-sim geo st plan (reopened n sum g (st .rec)) S list sizes counts f (omega arith)),
           )
 
@@ -132,7 +133,7 @@ module _ (geo : Geometry) where
 
     -- a recover that is done leaves the first n entries as the log, D under it
     abbrev Reopens : Disk → ℕ → Type 0
-    Reopens D n = dispatch geo recover st .answer ≡ 0 → (g : ℕ) × ((p : ℕ) × Sim geo (dispatch geo recover st .state) (settledBy (entries geo s n)) (plainReopened N D g n p))
+    Reopens D n = dispatch geo recover st .answer ≡ 0 → (g : ℕ) × ((p : ℕ) × Sim geo (dispatch geo recover st .state) (settledBy (entries geo s n)) (plainReopened N D g n (entries geo s n) p))
 
     -- the first n entries are taken, and nothing is written
     module _ (bytes : Bytes s) (f : foreign geo N h ≡ false) (t : good geo N (entries geo s (h .count)) (h .sum) ≡ true) where
@@ -243,15 +244,15 @@ module _ (geo : Geometry) where
             reopens-by (Fallback p (h .presum) g) ((top ∷ []) ∷ []) g D (choose-fallback geo N s h refl f no t) refl p (h .presum) (entries geo s p)
                 (ap (λ (os : List Order). carried os (reopened p (h .presum) g (st .rec)) (st .rec) st) orders-are)
                 (record {
-                  none-waits = none;
-                  fits = (record { few = omega (arith, geo .queued); whole = (length-encode (header N p ps p ps g), tt); low = (omega (arith, big), tt) }, tt);
+                  none-waits = refl;
+                  fits = (record { few = let e : length (queue (cardIn st)) ≡ 0 = ap length none in omega (arith, geo .queued); whole = (length-encode (header N p ps p ps g), tt); low = (omega (arith, big), tt) }, tt);
                   mode = refl;
                   blocks = refl;
                   opened = none-listed geo _ _ _;
                   grouped = none-listed geo _ _ _;
                   save = refl;
-                  sum = good-log p (h .presum) t ∙ ap (sumOf start) (w .same);
-                  card = rw list-now w;
+                  sum = rw none (good-log p (h .presum) t ∙ ap (sumOf start) (w .same));
+                  card = rw (none, list-now) w;
                 })
                 d,
           )

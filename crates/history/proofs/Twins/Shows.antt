@@ -2,7 +2,7 @@
 use Prim.Native.Nat.{ℕ, _+_, _≤_, _<_}
 use mathlib.Core.Path.{_≡_, refl, ap, sym, _∙_}
 use mathlib.Core.Logic.{_≢_}
-use mathlib.Core.Bool.{true, false}
+use mathlib.Core.Bool.{false}
 use mathlib.Core.List.{List}
 use native.Mathlib.Omega.{arith}
 use native.Mathlib.Decide.{ℕ-discrete, decLe}
@@ -18,7 +18,6 @@ use Rattle.journal.specs.Layout.{isData, wrongSize}
 use Rattle.journal.specs.Log.{slotEntry, entries, sumOf}
 use Rattle.journal.specs.declared.choice.Choice.the-variants.{Whole}
 use Rattle.journal.specs.Choice.{choose, takenCount}
-use Rattle.crash.proofs.Logs.{entries-disk}
 use Rattle.store.specs.Request as Request
 use Rattle.store.specs.State.{State, openMode, withSave, cardIn}
 use Rattle.store.specs.Causes.{wrongSizes, cause}
@@ -29,25 +28,27 @@ use Rattle.store.specs.Save as Save
 use Rattle.store.specs.Save.{Save}
 use Rattle.store.specs.Saves.{saveOrders}
 use Rattle.store.specs.Cost.{figures, noFigures, costOf}
-use Rattle.store.proofs.Costs.{sync-cost-none, sync-cost-room, sync-cost-full, apply-cost-none, apply-cost-some, cost-refused, cost-served}
+use Rattle.store.proofs.Costs.{sync-cost-none, sync-cost-flush, sync-cost-room, sync-cost-full, apply-cost-none, apply-cost-some, cost-refused, cost-served}
 use Rattle.inspect.specs.Reading as Reading
 use Rattle.inspect.specs.Reading.{inspection, chosenCount, laidOver}
 use Rattle.journal.proofs.Logs.{neither}
 use Rattle.inspect.proofs.Readings.{right-chosen}
 use Rattle.inspect.proofs.Comparisons.{alike-yes}
 use Rattle.history.specs.Call.{Call, save, power, get, recover}
-use Rattle.history.specs.Plain.{Plain, plainGet, plainListing}
+use Rattle.history.specs.Plain.{plainGet, plainListing}
 use Rattle.history.specs.Dispatch.{called, dispatch}
 use Rattle.history.specs.History.{World}
 use Rattle.history.specs.AlikeCards.{SameAt, StillAlike}
 use Rattle.history.proofs.Relation.CauseLaws.{record-facts, cause-passes}
 use Rattle.history.proofs.Relation.Forms.{unless-either}
 use Rattle.history.proofs.Relation.Sim.{OpenSim, Sim}
+use Rattle.history.proofs.Relation.OpenFacts as Facts
 use Rattle.history.proofs.Steps.Shown.{small-N, choose-whole}
 use Rattle.history.proofs.Steps.Local.{is-open, get-plain, list-plain}
 use Rattle.history.proofs.Twins.Regrouped.{same-get, same-listing}
 use Rattle.history.proofs.Twins.LastNumber.{recover-refused}
-use Rattle.history.proofs.Twins.Pairs.{Twins, as-first, same-mode, same-waiting, same-power, first-open, second-open, same-logged, same-log, same-grouped, same-opened, same-row, same-end}
+use Rattle.history.proofs.Twins.Homes.{beneath}
+use Rattle.history.proofs.Twins.Pairs.{Twins, as-first, same-mode, same-waiting, same-power, same-size, first-open, second-open, same-logged, same-log, same-grouped, same-opened, same-row, same-end}
 use Rattle.history.proofs.Boundary.FaceRefusals.{parts}
 
 module _ (geo : Geometry) where
@@ -72,8 +73,12 @@ module _ (geo : Geometry) (a b : State) (n : a .rec .logged ≡ b .rec .logged) 
       → figures (saveOrders geo Save.sync a) (cardIn a) ≡ figures (saveOrders geo Save.sync b) (cardIn b)
   sync-counted m w p = go (ℕ-discrete (a .rec .grouped) 0) (decLe (a .rec .logged + a .rec .grouped) (geo .slots))
     where
+      none : a .rec .grouped ≡ 0 → Dec (a .rec .waiting ≡ 0) → figures (saveOrders geo Save.sync a) (cardIn a) ≡ figures (saveOrders geo Save.sync b) (cardIn b)
+      none z (yes k) = sync-cost-none geo a z k ∙ rw (w, p) (sym (sync-cost-none geo b (sym m ∙ z) (sym w ∙ k)))
+      none z (no k) = sync-cost-flush geo a z k ∙ rw (w, p) (sym (sync-cost-flush geo b (sym m ∙ z) (λ e. k (w ∙ e))))
+
       go : Dec (a .rec .grouped ≡ 0) → Dec (a .rec .logged + a .rec .grouped ≤ geo .slots) → figures (saveOrders geo Save.sync a) (cardIn a) ≡ figures (saveOrders geo Save.sync b) (cardIn b)
-      go (yes z) l = sync-cost-none geo a z ∙ rw (w, p) (sym (sync-cost-none geo b (sym m ∙ z)))
+      go (yes z) l = none z (ℕ-discrete (a .rec .waiting) 0)
       go (no z) (yes l) =
           sync-cost-room geo a z l ∙ rw (m, w, p) (sym (sync-cost-room geo b (λ e. z (m ∙ e)) (omega (arith, n, m))))
       go (no z) (no l) =
@@ -146,7 +151,7 @@ module _ (geo : Geometry) (w : World) (m : Sim geo (w .store) (w .ledger) (w .pl
   open-choice : Reading.chosen geo s ≡ Whole (w .store .rec .logged) (sumOf start (entries geo s (w .store .rec .logged))) (w .plain .S .groups)
   open-choice =
       ap (λ (N : ℕ). choose geo N s) (sym open-size)
-      ∙ choose-whole geo (w .store .rec .blocks) s (small-N geo (w .store) (w .plain) (m .basics)) (w .ledger .written) (w .plain .S) (w .store .rec .logged) (o .card)
+      ∙ choose-whole geo (w .store .rec .blocks) s (small-N geo (w .store) (w .plain) (m .basics)) (w .ledger .written) (w .plain .S) (w .store .rec .logged) (Facts.behind geo (w .store) (w .ledger) (w .plain) (m .basics) o .card)
 
   pub open-accepted : inspection geo s ≡ 0
   open-accepted = right-chosen geo s _ (right-one geo (w .store) (m .basics .sizes)) open-choice
@@ -154,11 +159,8 @@ module _ (geo : Geometry) (w : World) (m : Sim geo (w .store) (w .ledger) (w .pl
   pub open-count : chosenCount geo s ≡ w .store .rec .logged
   open-count = ap takenCount open-choice
 
-  pub open-laid : (x : ℕ) → isData geo (blocksIn s) x ≡ true → laidOver geo s x ≡ w .plain .S .disk x
-  open-laid x q =
-      ap (λ (k : ℕ). overlay (entries geo s k) (blockAt s) x) open-count
-      ∙ ap (λ (es : List Entry). overlay es (blockAt s) x) (entries-disk geo s (w .store .rec .logged))
-      ∙ sym (o .card .disk x (ap (λ (N : ℕ). isData geo N x) open-size ∙ q) tt)
+  pub open-laid : (x : ℕ) → laidOver geo s x ≡ beneath geo (w .store) x
+  open-laid x = ap (λ (k : ℕ). overlay (entries geo s k) (blockAt s) x) open-count
 
 -- ---- so twins that are open are alike
 
@@ -169,11 +171,8 @@ module _ (geo : Geometry) (w v : World) (t : Twins geo w v) (e : w .store .rec .
   abbrev q : OpenSim geo (v .store) (v .ledger) (v .plain)
   q = second-open geo w v t e
 
-  same-size : w .store .rec .blocks ≡ v .store .rec .blocks
-  same-size = sym (t .first .basics .mirrors .N) ∙ sym (as-first geo w v t (λ (d : Plain). d .N)) ∙ t .second .basics .mirrors .N
-
   same-blocks : blocksIn (w .store .settled) ≡ blocksIn (v .store .settled)
-  same-blocks = sym (open-size geo w (t .first) p) ∙ same-size ∙ open-size geo v (t .second) q
+  same-blocks = sym (open-size geo w (t .first) p) ∙ same-size geo w v t ∙ open-size geo v (t .second) q
 
   same-count : chosenCount geo (w .store .settled) ≡ chosenCount geo (v .store .settled)
   same-count = open-count geo w (t .first) p ∙ same-logged geo w v t e ∙ sym (open-count geo v (t .second) q)
@@ -186,7 +185,7 @@ module _ (geo : Geometry) (w v : World) (t : Twins geo w v) (e : w .store .rec .
   same-records : withSave 0 (w .store .rec) ≡ withSave 0 (v .store .rec)
   same-records = λ i. record {
     mode = same-mode geo w v t i;
-    blocks = same-size i;
+    blocks = same-size geo w v t i;
     opened = same-opened geo w v t e i;
     grouped = same-grouped geo w v t e i;
     logged = same-logged geo w v t e i;
@@ -206,9 +205,9 @@ module _ (geo : Geometry) (w v : World) (t : Twins geo w v) (e : w .store .rec .
           count = same-count;
           slots = same-slots;
           laid = λ x y.
-              open-laid geo w (t .first) p x y
-              ∙ sym (as-first geo w v t (λ (d : Plain). d .S .disk x))
-              ∙ sym (open-laid geo v (t .second) q x (ap (λ (N : ℕ). isData geo N x) (sym same-blocks) ∙ y));
+              open-laid geo w (t .first) p x
+              ∙ t .homes e x (ap (λ (N : ℕ). isData geo N x) (open-size geo w (t .first) p) ∙ y)
+              ∙ sym (open-laid geo v (t .second) q x);
         });
     rec = same-records;
   }

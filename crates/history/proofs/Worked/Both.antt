@@ -1,6 +1,6 @@
 -- Document 01's two worked scripts, and those in which a block is torn. The statement stands in specs/Worked.antt.
 use Prim.Native.Nat.{ℕ, _+_, _-_, _^_, _<_}
-use mathlib.Core.Path.{_≡_, refl, ap, ap₂, sym, subst, _∙_}
+use mathlib.Core.Path.{_≡_, refl, ap, sym, subst, _∙_}
 use mathlib.Core.Logic.{_⊎_}
 use mathlib.Core.Bool.{Bool, true, false, _&&_}
 use mathlib.Core.List.{List, [], _∷_, _++_, map}
@@ -12,31 +12,26 @@ use Rattle.card.specs.Card.{blockAt, blocksIn}
 use Rattle.card.specs.Marks.{keptAt, allKept, marksOf, spread}
 use Rattle.card.proofs.Spreads.{marksOf-all}
 use Rattle.journal.specs.Geometry.{trap}
-use Rattle.journal.specs.Layout.{isData}
 use Rattle.script.specs.Replies.{values}
 use Rattle.store.specs.State.{State}
 use Rattle.store.specs.Outcomes.{refused}
 use Rattle.store.specs.Format.{formatCall}
 use Rattle.history.specs.Call.{power, put, commit, sync, apply, cut}
-use Rattle.history.specs.Plain.{Plain, blank, fresh, blankPlain, still}
+use Rattle.history.specs.Plain.{blank, fresh, blankPlain, still}
 use Rattle.history.specs.Dispatch.{dispatch}
 use Rattle.history.specs.History.{World, begun, next, after, acceptedCut, exception}
 use Rattle.history.specs.Statements as S
-use Rattle.history.specs.Statements.{noCut, EndsFinished, Fate, quiet, decided, known, fate, outcome}
+use Rattle.history.specs.Statements.{noCut, EndsFinished, decided, known}
 use Rattle.history.specs.Linked.{AllPassable}
 use Rattle.history.specs.Worked.{halted, cut101, cut111, cutHalf, cutFifth, cutHeader, metByCut, metByRecover, sevens, nines, at40, filed, crashed, answers, Script, Worked}
 use Rattle.history.proofs.Steps.ListInduction.{begun-sim, begun-blank}
-use Rattle.history.proofs.Atomicity.Splits.{SplitReading, split-reading, found-counted}
+use Rattle.history.proofs.Atomicity.Splits.{found-counted}
 use Rattle.history.proofs.Worked.TornMarks.{header-half, all-half, halved, header-fifth, all-fifth}
 use Rattle.history.proofs.Worked.Plain.{openAt, plain-put, plain-commit, plain-filed, plain-applied, header-101, header-111, Went, went}
 use Rattle.history.proofs.Worked.Sync.{filed-log, filed-next, filed-slot}
-use Rattle.history.proofs.Worked.Second.{put-settled, commit-settled, length-sevens, zeros, old, Filed, Cuts, lost-cuts, lost-falls, halved-cuts, all-111, whole-cuts, fifth-cuts, header-refused, accepted, t₆, t₇, number, all-clean, none-done, fated, later-lines}
+use Rattle.history.proofs.Worked.Second.{put-settled, commit-settled, length-sevens, zeros, old, Filed, Cuts, lost-cuts, lost-falls, halved-cuts, all-111, whole-cuts, fifth-cuts, header-refused, accepted, t₆, t₇, block, number, all-clean, none-done, fated, later-lines}
 use Rattle.history.proofs.Worked.Formats.{format-turned, format-served, open-count, fall-count}
 use Rattle.history.proofs.Worked.Blank as Blank
-
--- what is known is one
-known-same : {e f : Fate} → known e ≡ known f → e ≡ f
-known-same p = cc
 
 -- ---- the whole scripts
 
@@ -85,15 +80,6 @@ module _ (st : State) (f : formatCall trap st .answer ≡ 0) (size : blocksIn (s
   ends = _⊎_.inr (put 40 sevens ∷ commit ∷ [], sync, refl, ap (λ (a : ℕ). eqb a 0) (s₃ .answer))
 
   module _ (ms : List ℕ) (same : Bool) (k : ℕ) (laid : Laid) (c : Cuts w₃ ms same k laid) where
-    -- the disk found, by crash atomicity
-    read : SplitReading trap st filed (crashed ms)
-    unfolding after
-    read = split-reading trap st f filed (crashed ms) ends (none-done w₃ all-filed ms same k laid c) (t₇ w₃ all-filed ms same k laid c .answer) (all-clean w₃ all-filed ms same k laid c)
-
-    is-40 : isData trap (blocksIn (st .settled)) 40 ≡ true
-    unfolding trap
-    is-40 = ap (λ (N : ℕ). isData trap N 40) size
-
     passable : AllPassable (filed ++ crashed ms)
     passable =
         let none : (k : ℕ) → _≡_ {A = ℕ} 0 1 → k < 2 ^ 32 = λ k z. omega arith in
@@ -103,14 +89,11 @@ module _ (st : State) (f : formatCall trap st .answer ≡ 0) (size : blocksIn (s
     unfolding noCut acceptedCut
     last-cut = refl
 
-    script : (new all : Bool) (b : List ℕ) → keptAt ms 2 && same ≡ new → allKept ms ≡ all → outcome (decided (at40 nines ∷ []) new all) old .disk 40 ≡ b → Script st ms same new all k (laid .groups) b
+    script : (new all : Bool) (b : List ℕ) → keptAt ms 2 && same ≡ new → allKept ms ≡ all → laid .disk 40 ≡ b → Script st ms same new all k (laid .groups) b
     unfolding after answers next
     script new all b p q e =
-        let x = read .found 40 is-40 in
-        let y : fate trap (crashed ms) w₃ (known quiet) ≡ known (decided (at40 nines ∷ []) new all) = fated w₃ all-filed ms same k laid c ∙ (λ j. known (decided (at40 nines ∷ []) (p j) (q j))) in
-        let z : read .end ≡ decided (at40 nines ∷ []) new all = known-same (sym (read .fated) ∙ y) in
         record {
-          lines = λ j. (s₁ .answer j, s₁ .orders j) ∷ (s₂ .answer j, s₂ .orders j) ∷ (s₃ .answer j, s₃ .orders j) ∷ later-lines w₃ all-filed ms same k laid c (x .0) j;
+          lines = λ j. (s₁ .answer j, s₁ .orders j) ∷ (s₂ .answer j, s₂ .orders j) ∷ (s₃ .answer j, s₃ .orders j) ∷ later-lines w₃ all-filed ms same k laid c j;
           ends = ends;
           none = none-done w₃ all-filed ms same k laid c;
           accepted = accepted w₃ all-filed ms (c .fit);
@@ -121,12 +104,12 @@ module _ (st : State) (f : formatCall trap st .answer ≡ 0) (size : blocksIn (s
           clean = all-clean w₃ all-filed ms same k laid c;
           answer = t₇ w₃ all-filed ms same k laid c .answer;
           orders = t₇ w₃ all-filed ms same k laid c .orders;
-          fated = y;
+          fated = fated w₃ all-filed ms same k laid c ∙ (λ j. known (decided (at40 nines ∷ []) (p j) (q j)));
           number = number w₃ all-filed ms same k laid c;
           groups =
               sym (found-counted trap st f (filed ++ crashed ms) (t₇ w₃ all-filed ms same k laid c .answer) (all-clean w₃ all-filed ms same k laid c))
               ∙ number w₃ all-filed ms same k laid c;
-          block = x .1 ∙ ap₂ (λ (u : Fate) (d : Plain). outcome u (d .S) .disk 40) z (s₃ .plain) ∙ e;
+          block = block w₃ all-filed ms same k laid c ∙ e;
         }
 
   lost : Script st cut101 false false false 2 1 sevens

@@ -61,11 +61,16 @@ describe-beyond old n es i h l k =
     ∙ sym (cell-part 4 zeros j)
     ∙ cell-zeros 4 (blockBytes - 4 * (n + length es)) j (omega arith)
 
+-- where nothing waits before
+pub as-settled : {N : ℕ} {s : List ℕ} {n h : ℕ} {G v : List Entry} {S : Laid} → Appends trap N s [] n h G v S → Appends trap N (settle [] s) [] n h G v S
+unfolding settle
+as-settled x = x
+
 pub no-number : num (replicate 4 0) ≡ 0
 no-number = rw (num-cons, num-cons, num-cons, num-cons, num-nil)
 
 -- after a first append of one entry the descriptor has 0 in its second place
-pub second-zero : {N : ℕ} {s : List ℕ} {h : ℕ} {e : Entry} {v : List Entry} {S : Laid} → Appends trap N s 0 h (e ∷ []) v S
+pub second-zero : {N : ℕ} {s : List ℕ} {h : ℕ} {e : Entry} {v : List Entry} {S : Laid} → Appends trap N s [] 0 h (e ∷ []) v S
     → cell 4 (blockAt (settle (appendWrites trap N s 0 h (S .groups + 1) (e ∷ [])) s) descriptorAt) 1 ≡ replicate 4 0
 unfolding overlay lay slotBlocks trap
 second-zero {N} {s} {h} {e} {v} {S} x =
@@ -77,20 +82,20 @@ second-zero {N} {s} {h} {e} {v} {S} x =
 -- ---- a second append, by what a cut leaves of it
 
 -- after a first append of one entry the second slot is as it was
-pub second-slot : {N : ℕ} {s : List ℕ} {h : ℕ} {e : Entry} {v : List Entry} {S : Laid} → Appends trap N s 0 h (e ∷ []) v S
+pub second-slot : {N : ℕ} {s : List ℕ} {h : ℕ} {e : Entry} {v : List Entry} {S : Laid} → Appends trap N s [] 0 h (e ∷ []) v S
     → blockAt (settle (appendWrites trap N s 0 h (S .groups + 1) (e ∷ [])) s) 3 ≡ blockAt s 3
 unfolding slotBlocks trap
 second-slot {N} {s} {h} {e} {v} {S} x =
     settle-other (appendWrites trap N s 0 h (S .groups + 1) (e ∷ [])) s 3 ((λ z. omega arith), ((λ z. omega arith), ((λ z. omega arith), tt)))
 
 -- marks of three writes, the last one whole, fit the second
-fits-writes : {N : ℕ} {s : List ℕ} {h : ℕ} {e : Entry} {v : List Entry} {S : Laid} (ms : List ℕ) → Appends trap N s 1 h (e ∷ []) v S → marksFor ms 3 ≡ true → wholeAt ms 2 ≡ true
+fits-writes : {N : ℕ} {s : List ℕ} {h : ℕ} {e : Entry} {v : List Entry} {S : Laid} (ms : List ℕ) → Appends trap N s [] 1 h (e ∷ []) v S → marksFor ms 3 ≡ true → wholeAt ms 2 ≡ true
     → marksFit ms (appendWrites trap N s 1 h (S .groups + 1) (e ∷ [])) ≡ true
 unfolding slotBlocks trap
 fits-writes {N} {s} {h} {e} {v} {S} ms x f w = fits-last true ms (appendWrites trap N s 1 h (S .groups + 1) (e ∷ [])) (top-last trap x 3 refl) ∙ rw (f, w)
 
 -- a second one behind a cut that keeps its header: descriptor and log block are torn by their marks
-torn-found : {N : ℕ} {s : List ℕ} {h : ℕ} {e : Entry} {v : List Entry} {S : Laid} (ms : List ℕ) → Appends trap N s 1 h (e ∷ []) v S
+torn-found : {N : ℕ} {s : List ℕ} {h : ℕ} {e : Entry} {v : List Entry} {S : Laid} (ms : List ℕ) → Appends trap N s [] 1 h (e ∷ []) v S
     → (c r : Card) → Left c r s (take 3 (appendWrites trap N s 1 h (S .groups + 1) (e ∷ []))) 0 → marksFor ms 3 ≡ true → wholeAt ms 2 ≡ true → keptAt ms 2 ≡ true
     → (d b : List ℕ) → torn (marksAt ms 1) (descriptorEntry s 1 (e ∷ []) 0 .block) (blockAt s 1) ≡ d → torn (marksAt ms 0) (e .block) (blockAt s 3) ≡ b
     → foundIn trap (cut ms r .settled) ≡ record { address = num (cell 4 d 0); block = blockAt s 2 } ∷ record { address = num (cell 4 d 1); block = b } ∷ []
@@ -119,14 +124,14 @@ torn-found {N} {s} {h} {e} {v} {S} ms x c r f fits whole-top kept d b one three 
     (entry-eq (ap (λ (y : List ℕ). num (cell 4 y 1)) now-one) now-three)
 
 -- its descriptor block, and the one that stood there
-described-whole : {N : ℕ} {s : List ℕ} {h : ℕ} {e : Entry} {v : List Entry} {S : Laid} → Appends trap N s 1 h (e ∷ []) v S
+described-whole : {N : ℕ} {s : List ℕ} {h : ℕ} {e : Entry} {v : List Entry} {S : Laid} → Appends trap N s [] 1 h (e ∷ []) v S
     → (length (descriptorEntry s 1 (e ∷ []) 0 .block) ≡ blockBytes) × (length (blockAt s 1) ≡ blockBytes)
 unfolding slotBlocks trap
 described-whole {N} {s} {h} {e} {v} {S} x =
     (writes-whole trap N s 1 h (S .groups + 1) (e ∷ []) (x .blocks) .1 .0, length-blockAt s 1 (omega (arith, x .behind .size, x .behind .big)))
 
 -- whose descriptor alone is lost: the new block is found under the address that stood there
-pub lost-found : {N : ℕ} {s : List ℕ} {h : ℕ} {e : Entry} {v : List Entry} {S : Laid} → Appends trap N s 1 h (e ∷ []) v S
+pub lost-found : {N : ℕ} {s : List ℕ} {h : ℕ} {e : Entry} {v : List Entry} {S : Laid} → Appends trap N s [] 1 h (e ∷ []) v S
     → (c r : Card) → Left c r s (take 3 (appendWrites trap N s 1 h (S .groups + 1) (e ∷ []))) 0
     → foundIn trap (cut cut101 r .settled) ≡ slotE trap (blockAt s) 0 ∷ record { address = num (cell 4 (blockAt s descriptorAt) 1); block = e .block } ∷ []
 unfolding slotE trap
@@ -138,7 +143,7 @@ lost-found {N} {s} {h} {e} {v} {S} x c r f =
     (torn-kept cut101 0 (e .block) (blockAt s 3) (marksOf-kept ks 0 (lib.Dec.lit< tt)) (x .blocks .0) (length-blockAt s 3 (omega (arith, x .behind .size, x .behind .big))))
 
 -- of whose log block the first half is kept: that half is found in its slot, before the half that stood there
-pub halved-found : {N : ℕ} {s : List ℕ} {h : ℕ} {e : Entry} {v : List Entry} {S : Laid} → Appends trap N s 1 h (e ∷ []) v S
+pub halved-found : {N : ℕ} {s : List ℕ} {h : ℕ} {e : Entry} {v : List Entry} {S : Laid} → Appends trap N s [] 1 h (e ∷ []) v S
     → (c r : Card) → Left c r s (take 3 (appendWrites trap N s 1 h (S .groups + 1) (e ∷ []))) 0
     → foundIn trap (cut cutHalf r .settled) ≡ slotE trap (blockAt s) 0 ∷ record { address = e .address; block = torn half (e .block) (blockAt s 3) } ∷ []
 unfolding slotBlocks slotE overlay lay trap
@@ -146,7 +151,7 @@ halved-found {N} {s} {h} {e} {v} {S} x c r f =
     let W : List Entry = appendWrites trap N s 1 h (S .groups + 1) (e ∷ []) in
     let described : List ℕ = descriptorEntry s 1 (e ∷ []) 0 .block in
     let now : blockAt (settle W s) 1 ≡ described = settle-overlay W s 1 (omega (arith, x .behind .big, x .behind .size)) (writes-whole trap N s 1 h (S .groups + 1) (e ∷ []) (x .blocks)) in
-    let all : slotE trap (blockAt s) 0 ∷ e ∷ [] ≡ logD trap (blockAt (settle W s)) 2 = done-card trap x .same in
+    let all : slotE trap (blockAt s) 0 ∷ e ∷ [] ≡ logD trap (blockAt (settle W s)) 2 = done-card trap x (as-settled x) .same in
     torn-found cutHalf x c r f for-half whole-half header-half described _ (torn-kept cutHalf 1 described (blockAt s 1) descriptor-half (described-whole x .0) (described-whole x .1))
     (ap (λ (m : List ℕ). torn m (e .block) (blockAt s 3)) log-half)
     ∙ ap₂ (λ (a b : Entry). a ∷ b ∷ [])
@@ -193,7 +198,7 @@ fifth-kept new old n o a z = (
     behind (suc (suc (suc (suc j)))) h = absurd (omega arith)
 
 -- of whose descriptor that byte alone is kept: the log written is found
-pub fifth-found : {N : ℕ} {s : List ℕ} {h : ℕ} {b : List ℕ} {v : List Entry} {S : Laid} → Appends trap N s 1 h (at40 b ∷ []) v S
+pub fifth-found : {N : ℕ} {s : List ℕ} {h : ℕ} {b : List ℕ} {v : List Entry} {S : Laid} → Appends trap N s [] 1 h (at40 b ∷ []) v S
     → (c r : Card) → Left c r s (take 3 (appendWrites trap N s 1 h (S .groups + 1) (at40 b ∷ []))) 0 → cell 4 (blockAt s descriptorAt) 1 ≡ replicate 4 0
     → foundIn trap (cut cutFifth r .settled) ≡ slotE trap (blockAt s) 0 ∷ at40 b ∷ []
 unfolding slotE trap

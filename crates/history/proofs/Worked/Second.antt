@@ -10,6 +10,7 @@ use Rattle.cells.specs.Cell.{cell}
 use Rattle.cells.specs.Little.{num}
 use Rattle.cells.specs.Entry.{blockBytes, Entry}
 use Rattle.crash.specs.Laid.{Laid, layOver}
+use Rattle.card.specs.Disk.{overlay}
 use Rattle.card.specs.Card as Card
 use Rattle.card.specs.Card.{queue, blockAt}
 use Rattle.card.specs.Marks.{marksFit, keptAt, allKept}
@@ -27,24 +28,26 @@ use Rattle.store.specs.Lists.{openFrom, find}
 use Rattle.store.specs.Causes.{cause}
 use Rattle.store.specs.Outcomes.{refused, completed, unless}
 use Rattle.store.specs.Put.{putAt}
+use Rattle.store.specs.Get.{blockOf}
 use Rattle.history.specs.Call.{power, put, get, commit, sync, recover, cut}
-use Rattle.history.specs.Plain.{Plain, blank, plainFit, refusal, headerKept, plainStep, still}
+use Rattle.history.specs.Plain.{Plain, Fed, blank, plainFit, refusal, headerKept, plainStep, plainGet, still}
 use Rattle.history.specs.Dispatch.{called, dispatch}
 use Rattle.history.specs.Ledger.{sameLog, collides}
-use Rattle.history.specs.History.{World, next, after, storeNext, ledgerNext, foundWritten, acceptedCut, exception}
+use Rattle.history.specs.History.{World, next, after, storeNext, ledgerNext, foundWritten, fed, acceptedCut, exception}
 use Rattle.history.specs.Statements as S
 use Rattle.history.specs.Statements.{noneFinished, shortSync, quiet, decided, Progress, known, undecided, observe, fate}
 use Rattle.history.specs.Worked.{cut101, cut111, half, cutHalf, cutFifth, cutHeader, sevens, nines, at40, crashed, answers}
-use Rattle.history.proofs.Relation.Forms.{called-refused, get-called}
+use Rattle.history.proofs.Relation.Forms.{called-refused}
 use Rattle.history.proofs.Relation.Sim.{cutSettled, cutWritten}
 use Rattle.history.proofs.Steps.Shown.{WorldSim, same-cause}
+use Rattle.history.proofs.Steps.ListInduction.{step}
 use Rattle.history.proofs.Steps.Cut.{fits-cut, found-cut, exception-cut}
 use Rattle.history.proofs.Atomicity.ReadsBack.{power-served, cut-accepted}
 use Rattle.history.proofs.Worked.TornMarks.{header-half, halved, header-fifth}
 use Rattle.history.proofs.Worked.Card.{no-number}
 use Rattle.history.proofs.Worked.Sums.{log-written, log-found, other-log, no-collision, log-halved, halved-log, halved-no-collision, same-fits}
-use Rattle.history.proofs.Worked.Plain.{openAt, downAt, closedAt, plain-put, plain-commit, plain-power, plain-halted, fits-101, header-101, fits-111, header-111, fits-half, fits-fifth, refused-header, plain-other, plain-new, plain-again, plain-fallback, plain-found, Went, went}
-use Rattle.history.proofs.Worked.Sync.{group-is, grouped-is, no-inner, halted-written, halted-lost, halted-halved, halted-fifth, halted-whole}
+use Rattle.history.proofs.Worked.Plain.{openAt, downAt, closedAt, plain-put, plain-commit, plain-power, plain-halted, fits-101, header-101, fits-111, header-111, fits-half, fits-fifth, refused-header, plain-other, plain-new, plain-again, plain-fallback, plain-found, plain-shown, Went, went}
+use Rattle.history.proofs.Worked.Sync.{group-is, grouped-is, no-inner, met-none, halted-written, halted-lost, halted-halved, halted-fifth, halted-whole}
 
 -- ---- put and commit leave the settled bytes
 
@@ -162,14 +165,15 @@ module _ (w : World) (m : Filed w) where
   open-then : v₃ w .store .rec .mode ≡ openMode
   open-then = sym (t₃ .sim .basics .mirrors .mode) ∙ ap (λ (x : Plain). x .mode) (t₃ .plain)
 
-  observed : observe trap sync (v₃ w) (known quiet) ≡ undecided (at40 nines ∷ []) 2 true
+  observed : observe trap sync (v₃ w) (known quiet) ≡ undecided (at40 nines ∷ []) 0 true
   unfolding observe shortSync
   observed =
       let g = group-is (v₃ w) (t₃ .sim) old refl nines 1 3 (omega arith) (t₃ .plain) in
       let k = grouped-is (v₃ w) (t₃ .sim) old refl nines 1 3 (omega arith) (t₃ .plain) in
       let i = no-inner (v₃ w) (t₃ .sim) old refl nines 1 3 (omega arith) (t₃ .plain) in
+      let z = met-none (v₃ w) (t₃ .sim) old refl nines 1 3 (omega arith) (t₃ .plain) in
       λ j.
-      cond (eqb (open-then j) openMode && eqb (t₄ .answer j) 4) (undecided (g j) (k j + trap-descriptors j) (eqb (t₄ .orders j) (i j + (k j + trap-descriptors j + 1)))) (known quiet)
+      cond (eqb (open-then j) openMode && eqb (t₄ .answer j) 4) (undecided (g j) (z j) (eqb (t₄ .orders j) (i j + (k j + trap-descriptors j + 1)))) (known quiet)
 
   -- ---- a cut that is accepted
 
@@ -200,8 +204,8 @@ pub record Cuts (w : World) (ms : List ℕ) (same : Bool) (k : ℕ) (laid : Laid
   pub n : ℕ
   pub F : Bool
   pub left : ℕ
-  pub cuts : plainStep trap (cut ms) same (downAt old (at40 nines ∷ [])) ≡ still (closedAt laid n 0 F)
-  pub recovers : (t : Bool) → plainStep trap recover t (closedAt laid n 100 F) ≡ record { answer = 0; orders = k; plain = openAt laid [] [] n left }
+  pub cuts : (t : Fed) → t .same ≡ same → plainStep trap (cut ms) t (downAt old (at40 nines ∷ [])) ≡ still (closedAt laid n 0 F)
+  pub recovers : (t : Fed) → plainStep trap recover t (closedAt laid n 100 F) ≡ record { answer = 0; orders = k; plain = openAt laid [] [] n left }
 
 pub all-111 : allKept cut111 ≡ true
 all-111 = marksOf-all _
@@ -281,7 +285,7 @@ module _ (w : World) (m : Filed w) (ms : List ℕ) (same : Bool) (k : ℕ) (laid
   t₅ : Went (cut ms) (v₄ w) (still (closedAt laid (c .n) 0 (c .F)))
   t₅ =
       went (cut ms) (v₄ w) _ _ (t₄ w m .sim) (c .usual) (t₄ w m .plain)
-      (ap (λ (t : Bool). plainStep trap (cut ms) t (downAt old (at40 nines ∷ []))) (c .found) ∙ c .cuts)
+      (c .cuts (fed trap (cut ms) (v₄ w)) (c .found))
 
   pub t₆ : Went (power 100) v₅ (still (closedAt laid (c .n) 100 (c .F)))
   unfolding exception acceptedCut
@@ -290,6 +294,18 @@ module _ (w : World) (m : Filed w) (ms : List ℕ) (same : Bool) (k : ℕ) (laid
   pub t₇ : Went recover v₆ (record { answer = 0; orders = k; plain = openAt laid [] [] (c .n) (c .left) })
   unfolding exception acceptedCut
   t₇ = went recover v₆ _ _ (t₆ .sim) refl (t₆ .plain) (c .recovers _)
+
+  -- then block 40 is read
+  abbrev v₇ : World
+  v₇ = next trap recover v₆
+
+  t₈ : Went (get 40) v₇ (still (openAt laid [] [] (c .n) (c .left)))
+  unfolding exception acceptedCut
+  t₈ = went (get 40) v₇ _ _ (t₇ .sim) refl (t₇ .plain) (plain-shown _ laid (c .n) (c .left))
+
+  pub block : blockOf trap 40 (storeNext trap recover v₆) ≡ laid .disk 40
+  unfolding next plainGet overlay
+  block = step trap (get 40) v₇ (t₇ .sim) .agrees .block 40 refl (t₈ .answer) ∙ ap (plainGet 40) (t₇ .plain)
 
   pub number : storeNext trap recover v₆ .rec .save ≡ laid .groups
   unfolding next
@@ -311,12 +327,11 @@ module _ (w : World) (m : Filed w) (ms : List ℕ) (same : Bool) (k : ℕ) (laid
       ap (λ (x : Progress). fate trap (cut ms ∷ power 100 ∷ []) (v₄ w) x) (observed w m)
       ∙ (λ j.
       fate trap (power 100 ∷ []) v₅
-      (cond (accepted w m ms (c .fit) j) (known (decided (at40 nines ∷ []) (keptAt ms 2 && c .found j) (allKept ms))) (undecided (at40 nines ∷ []) 2 true)))
+      (cond (accepted w m ms (c .fit) j) (known (decided (at40 nines ∷ []) (keptAt ms (0 + (1 + trap-descriptors j)) && c .found j) (allKept ms))) (undecided (at40 nines ∷ []) 0 true)))
 
-  pub later-lines : dispatch trap (get 40) (storeNext trap recover v₆) .answer ≡ 0
-      → answers (crashed ms ++ (recover ∷ get 40 ∷ [])) w ≡ (0, 0) ∷ (0, 0) ∷ (0, 0) ∷ (4, 3) ∷ (0, 0) ∷ (0, 0) ∷ (0, k) ∷ (0, 0) ∷ []
+  pub later-lines : answers (crashed ms ++ (recover ∷ get 40 ∷ [])) w ≡ (0, 0) ∷ (0, 0) ∷ (0, 0) ∷ (4, 3) ∷ (0, 0) ∷ (0, 0) ∷ (0, k) ∷ (0, 0) ∷ []
   unfolding answers next
-  later-lines g =
+  later-lines =
       λ j.
       (t₁ w m .answer j, t₁ w m .orders j) ∷ (t₂ w m .answer j, t₂ w m .orders j) ∷ (t₃ w m .answer j, t₃ w m .orders j) ∷ (t₄ w m .answer j, t₄ w m .orders j)
-      ∷ (t₅ .answer j, t₅ .orders j) ∷ (t₆ .answer j, t₆ .orders j) ∷ (t₇ .answer j, t₇ .orders j) ∷ (g j, get-called trap 40 (storeNext trap recover v₆) j .orders) ∷ []
+      ∷ (t₅ .answer j, t₅ .orders j) ∷ (t₆ .answer j, t₆ .orders j) ∷ (t₇ .answer j, t₇ .orders j) ∷ (t₈ .answer j, t₈ .orders j) ∷ []
