@@ -10,7 +10,7 @@ from pathlib import Path
 MAP = Path(__file__).resolve().parent.parent / "crates/powercut/stdout"
 COLOURS = {"o": "#4a7fb5", "n": "#f08a24"}
 INK, FAINT = "#222", "#777"
-LEFT, TOP, WIDTH = 60, 96, 1100
+LEFT, TOP, WIDTH = 60, 96, 1130
 
 # The height of a row; the widths of a set's cell and of a tear, a third of a cell; the gap between the sets and the tears.
 ROW, SET, TEAR, GAP = 11, 8, 3, 16
