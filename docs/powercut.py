@@ -3,32 +3,35 @@
 usage: python3 -B docs/powercut.py >docs/powercut.svg
 
 A row is a power, a cell a set of writes kept whole, or a write torn in three ways. Fails if a cut finds neither old nor new, or if a line
-has more or fewer cuts than its waiting writes give."""
+has more or fewer cuts than its waiting writes give, of which the photograph is the first."""
 import sys
 from pathlib import Path
 
 MAP = Path(__file__).resolve().parent.parent / "crates/powercut/stdout"
 COLOURS = {"o": "#4a7fb5", "n": "#f08a24"}
 INK, FAINT = "#222", "#777"
-LEFT, TOP, WIDTH = 60, 96, 1100
+LEFT, TOP, WIDTH = 60, 96, 1130
 
 # The height of a row; the widths of a set's cell and of a tear, a third of a cell; the gap between the sets and the tears.
 ROW, SET, TEAR, GAP = 11, 8, 3, 16
 
-# The orders of a save, a word for each; row p is the loss behind the first p of them.
+# What waits before the save, and the orders of a save, a word for each; row p is the loss behind the first p of them.
+BEFORE = ["photograph"]
 SAVE = ["log block"] * 3 + ["descriptor", "header", "flush"]
 APPLY = ["home block"] * 30 + ["flush", "header of the empty log", "flush"]
 SCENARIOS = {
     "append": ("The log has room: 6 orders", SAVE),
     "apply": ("The log has no room and is applied first: 39 orders", APPLY + SAVE),
 }
-FEW = 5  # up to so many waiting writes every set is tried
+FEW = 6  # up to so many waiting writes every set is tried
 WAYS = 3  # the ways in which a write is torn
 
 
 def tries(orders):
-    """How many sets and how many tears are tried behind these orders: by the writes since the last flush. A header is not torn."""
-    waiting = orders[len(orders) - orders[::-1].index("flush") if "flush" in orders else 0:]
+    """How many sets and how many tears are tried behind these orders: by the writes since the last flush, the photograph's too. A header is
+    not torn."""
+    writes = BEFORE + orders
+    waiting = writes[len(writes) - writes[::-1].index("flush") if "flush" in writes else 0:]
     torn = sum(not word.startswith("header") for word in waiting)
     n = len(waiting)
     return 2**n if n <= FEW else 2 * n + 2, WAYS * (torn + 1) if torn else 0
@@ -95,7 +98,7 @@ def panel(y, head, orders, lines):
         at = y + ROW * power
         out += [text(LEFT - 8, at + 9, power, 9, FAINT, "end"), *row(at, torn_at, *line)]
     side = torn_at + (WAYS * TEAR + 1) * most_tears // WAYS + 10
-    out.append(text(side + 8, y + 9, "nothing written", 10, FAINT))
+    out.append(text(side + 8, y + 9, "the photograph waits", 10, FAINT))
     for word, first, last in phases(orders):
         top, bottom = y + ROW * first, y + ROW * (last + 1) - 1
         bold = word.startswith("header")
@@ -121,6 +124,8 @@ def notes(y):
         f"Up to {FEW} waiting: every set, none first and all last. More: none, each alone kept, each alone lost, all.",
         "A cell on the right is a waiting write that was torn, a third for each way: first half kept, second half, every other byte.",
         "Each write is torn alone, oldest first, and at last all at once. What is not torn is kept; block 0, the header, is never torn.",
+        "Before the save a block of a photograph, written directly, waits: it is the oldest write up to the first flush. Found, it is byte by byte",
+        "as it was or the photograph, and the colour is that of the other blocks.",
         "New exactly where the save's own header was kept or flushed and the log found is the log written.",
         "Each cell stands for the recovery behind that cut and for every cut inside the recovery, recovered again.",
     ]
@@ -130,7 +135,7 @@ def notes(y):
 def main():
     found = rows()
     counts = {c: sum(part.count(c) for lines in found.values() for line in lines for part in line) for c in COLOURS}
-    out = [text(LEFT, 34, "A save of three blocks, cut at every order", 20, weight="bold")]
+    out = [text(LEFT, 34, "A save of three blocks with a photograph waiting, cut at every order", 20, weight="bold")]
     out += legend(62, counts)
     y = TOP
     for name, (head, orders) in SCENARIOS.items():
@@ -138,7 +143,7 @@ def main():
         out += drawn
         y += 34
     out += notes(y)
-    height = y + 96
+    height = y + 128
     print(f'<svg xmlns="http://www.w3.org/2000/svg" viewBox="0 0 {WIDTH} {height}" width="{WIDTH}" height="{height}" '
           'font-family="Helvetica, Arial, sans-serif">')
     print(f"<title>The map of power cuts: {counts['o']} cuts find the old blocks, {counts['n']} the new, none a mixture</title>")

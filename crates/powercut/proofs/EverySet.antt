@@ -1,4 +1,4 @@
--- Up to 5 waiting writes the map tries every set of kept writes.
+-- Up to 6 waiting writes the map tries every set of kept writes.
 use Prim.Native.Nat.{zero, suc}
 use mathlib.Core.Path.{refl}
 use native.Mathlib.Omega.{arith}
@@ -12,4 +12,5 @@ every-set (suc (suc zero)) h = refl
 every-set (suc (suc (suc zero))) h = refl
 every-set (suc (suc (suc (suc zero)))) h = refl
 every-set (suc (suc (suc (suc (suc zero))))) h = refl
-every-set (suc (suc (suc (suc (suc (suc n)))))) h = absurd (omega arith)
+every-set (suc (suc (suc (suc (suc (suc zero)))))) h = refl
+every-set (suc (suc (suc (suc (suc (suc (suc n))))))) h = absurd (omega arith)

@@ -1,5 +1,5 @@
 -- The sets of kept writes that a cut is tried with, by number. Each write is kept whole or lost whole. Write i is the i-th waiting one,
--- oldest first, from 0. Up to 5: all sets, each by its bits. More, n of them: 0 keeps none; 1 to n keep one alone; n + 1 to 2n lose one
+-- oldest first, from 0. Up to 6: all sets, each by its bits. More, n of them: 0 keeps none; 1 to n keep one alone; n + 1 to 2n lose one
 -- alone; 2n + 1 keeps all.
 use Prim.Native.Nat.{ℕ, zero, suc, _≤_, _+_, _*_, _/_, _%_, _^_}
 use mathlib.Core.Path.{_≡_}
@@ -10,7 +10,7 @@ use Rattle.cells.specs.Upto.{upTo}
 
 -- up to how many waiting writes all sets are tried
 abbrev pub few : ℕ
-few = 5
+few = 6
 
 -- how many sets there are for n waiting writes
 unfoldable pub setCount : ℕ → ℕ
@@ -33,6 +33,6 @@ unfoldable pub allMarks : ℕ → List (List ℕ)
 allMarks zero = [] ∷ []
 allMarks (suc n) = map (λ l. l ++ (0 ∷ [])) (allMarks n) ++ map (λ l. l ++ (1 ∷ [])) (allMarks n)
 
--- up to 5 waiting writes, the sets are all there are, each once
+-- up to 6 waiting writes, the sets are all there are, each once
 abbrev pub EverySet : Type 0
 EverySet = (n : ℕ) → n ≤ few → upTo (marks n) (setCount n) ≡ allMarks n

@@ -1,9 +1,9 @@
-// The buffers of a card of 64 blocks.
+// The buffers of a card of 65 blocks.
 use cells::BLOCK;
 use store::WAITING;
 use store::WORK;
 
-pub(crate) const BLOCKS: u32 = 64;
+pub(crate) const BLOCKS: u32 = 65;
 
 pub(crate) const SETTLED: usize = BLOCK * BLOCKS as usize;
 

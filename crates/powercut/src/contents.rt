@@ -1,4 +1,5 @@
-// What the data blocks hold. A block is filled with one byte, by its address and its age: 0 at home, 1 in the log, 2 in the save.
+// What the data blocks hold. A block is filled with one byte, by its address and its age: 0 at home, 1 in the log, 2 in the save or as the
+// photograph.
 use crate::buffers::BLOCKS;
 use crate::buffers::Settled;
 use crate::buffers::Waiting;
@@ -10,21 +11,26 @@ use journal::FIRST_DATA;
 use store::record::Record;
 ghost use mathlib.Core.Path.{_≡_};
 ghost use Prim.Native.Nat.{_+_, _*_, _≤_, _<_};
+ghost use Rattle.journal.specs.Geometry.{trap};
 ghost use Rattle.store.specs.CodeState.{stateOf};
-ghost use Rattle.powercut.specs.Contents.{ofSave, oldAge, ageOf, holds, hasOther, letterOf};
+ghost use Rattle.store.specs.Get.{getPlace, bytesAt};
+ghost use Rattle.powercut.specs.Contents.{ofSave, oldAge, ageOf, photograph, isEither, isSpoilt, holds, hasOther, letterOf};
 
-// How many data blocks there are, and how many a save has. The one that is cut has the first of them, one in the middle, the last.
-const DATA: u32 = BLOCKS - FIRST_DATA;
+// The photograph's block, the last one.
+const PHOTOGRAPH: u32 = BLOCKS - 1;
+
+// How many data blocks there are before it, and how many a save has. The one that is cut has the first of them, one in the middle, the last.
+const DATA: u32 = PHOTOGRAPH - FIRST_DATA;
 
 const SAVED: u32 = 3;
 
 const MIDDLE: u32 = 48;
 
-const LAST: u32 = BLOCKS - 1;
+const LAST: u32 = PHOTOGRAPH - 1;
 
-// The byte of a block: 34 to 63, 98 to 127, 162 to 191.
+// The byte of a block: 34 to 64, 98 to 128, 162 to 192.
 fn byte(address: u32, age: u32) -> u8
-    requires { ⌜ (address < 64) × (age < 3) ⌝ }
+    requires { ⌜ (address < 65) × (age < 3) ⌝ }
     ensures { λ r. ⌜ r ≡ address + 64 * age ⌝ }
 {
     (address + 64 * age) as u8
@@ -40,7 +46,7 @@ fn group(
     count: u32,
     age: u32,
 ) -> Record
-    requires { ⌜ (from + count ≤ 64) × (age < 3) ⌝ }
+    requires { ⌜ (from + count ≤ 65) × (age < 3) ⌝ }
 {
     let mut now = r;
     let mut i = 0;
@@ -53,7 +59,7 @@ fn group(
 }
 
 fn put(r: Record, s: &Settled, w: &Waiting, k: &mut Work, address: u32, age: u32) -> Record
-    requires { ⌜ (address < 64) × (age < 3) ⌝ }
+    requires { ⌜ (address < 65) × (age < 3) ⌝ }
 {
     let block = [byte(address, age); BLOCK];
     let a = r.put(s, w, k, address, &block);
@@ -70,7 +76,7 @@ fn save(
     count: u32,
     age: u32,
 ) -> Record
-    requires { ⌜ (from + count ≤ 64) × (age < 3) ⌝ }
+    requires { ⌜ (from + count ≤ 65) × (age < 3) ⌝ }
 {
     let grouped = group(r, s, w, k, from, count, age);
     let saved = grouped.sync(s, w, k);
@@ -103,7 +109,7 @@ fn to_save(r: Record, s: &Settled, w: &Waiting, k: &mut Work) -> Record {
 fn home(s: &mut Settled, w: &mut Waiting, k: &mut Work) -> Record {
     zero(s);
     let made = Record::fresh(BLOCKS).format(s, w, k);
-    let saved = save(made.rec, s, w, k, FIRST_DATA, DATA, 0);
+    let saved = save(made.rec, s, w, k, FIRST_DATA, DATA + 1, 0);
     let applied = saved.apply(s, w, k);
     applied.rec
 }
@@ -122,6 +128,13 @@ pub(crate) fn ready(s: &mut Settled, w: &mut Waiting, k: &mut Work, saves: u32) 
     let old = log(empty, s, w, k, saves);
     let rec = to_save(old, s, w, k);
     Scenario { rec, saves }
+}
+
+// The photograph, written directly, so that it waits.
+pub(crate) fn photographed(r: Record, s: &mut Settled, w: &mut Waiting, k: &Work) -> Record {
+    let block = [byte(PHOTOGRAPH, 2); BLOCK];
+    let a = r.direct(s, w, k, PHOTOGRAPH, &block);
+    a.rec
 }
 
 // Whether the save has a block.
@@ -163,19 +176,53 @@ fn age(address: u32, saves: u32, after: bool) -> u32
 }
 
 // Whether a get gives the block of that age.
-fn has<'a>(r: Record, s: &'a [u8], w: &[u8], k: &'a [u8], address: u32, age: u32) -> bool
-    requires { ⌜ (address < 64) × (age < 3) ⌝ }
+fn has<'a>(r: Record, s: &'a [u8], w: &'a [u8], k: &'a [u8], address: u32, age: u32) -> bool
+    requires { ⌜ (address < 65) × (age < 3) ⌝ }
     ensures { λ b. ⌜ b ≡ holds address age (stateOf r (now (s .entry)) (now (w .entry)) (now (k .entry))) ⌝ }
 {
     let block = [byte(address, age); BLOCK];
     same(r.get(s, w, k, address), &block)
 }
 
-// Whether a data block is not as before the save, or not as after it.
+// Whether a byte of the photograph's block is as it was, or the photograph's.
+fn is_either(found: u8) -> bool
+    ensures { λ b. ⌜ b ≡ isEither found ⌝ }
+{
+    if found == byte(PHOTOGRAPH, 0) {
+        return true;
+    }
+    found == byte(PHOTOGRAPH, 2)
+}
+
+// Whether a byte is neither.
+fn is_spoilt(block: &[u8]) -> bool
+    ensures { λ b. ⌜ b ≡ isSpoilt (now (block .entry)) ⌝ }
+{
+    if block.len() != BLOCK {
+        return true;
+    }
+    let mut i = BLOCK;
+    while 0 < i {
+        i -= 1;
+        if !is_either(block[i]) {
+            return true;
+        }
+    }
+    false
+}
+
+// Whether a get of the photograph's block gives such a byte.
+fn has_spoilt<'a>(r: Record, s: &'a [u8], w: &'a [u8], k: &'a [u8]) -> bool
+    ensures { λ b. ⌜ b ≡ isSpoilt (bytesAt (getPlace trap photograph (stateOf r (now (s .entry)) (now (w .entry)) (now (k .entry)))) (stateOf r (now (s .entry)) (now (w .entry)) (now (k .entry)))) ⌝ }
+{
+    is_spoilt(r.get(s, w, k, PHOTOGRAPH))
+}
+
+// Whether the photograph's block is spoilt, or another data block not as before the save, or not as after it.
 fn has_other<'a>(
     r: Record,
     s: &'a Settled,
-    w: &Waiting,
+    w: &'a Waiting,
     k: &'a Work,
     saves: u32,
     after: bool,
@@ -183,6 +230,9 @@ fn has_other<'a>(
     requires { ⌜ saves ≤ 10 ⌝ }
     ensures { λ b. ⌜ b ≡ hasOther saves after (stateOf r (now (s .entry)) (now (w .entry)) (now (k .entry))) ⌝ }
 {
+    if has_spoilt(r, s, w, k) {
+        return true;
+    }
     let mut i = DATA;
     while 0 < i {
         i -= 1;
@@ -195,7 +245,7 @@ fn has_other<'a>(
 }
 
 // What is found: old, new, or something else.
-pub(crate) fn letter<'a>(r: Record, s: &'a Settled, w: &Waiting, k: &'a Work, saves: u32) -> u8
+pub(crate) fn letter<'a>(r: Record, s: &'a Settled, w: &'a Waiting, k: &'a Work, saves: u32) -> u8
     requires { ⌜ saves ≤ 10 ⌝ }
     ensures { λ c. ⌜ c ≡ letterOf saves (stateOf r (now (s .entry)) (now (w .entry)) (now (k .entry))) ⌝ }
 {

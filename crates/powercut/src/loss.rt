@@ -1,7 +1,8 @@
-// Power losses: of the save, and of the recovery that follows. Each experiment starts from the same card.
+// Power losses: of the save, and of the recovery that follows. Each experiment starts from the same card, on which the photograph is written.
 use crate::buffers::Settled;
 use crate::buffers::Waiting;
 use crate::buffers::Work;
+use crate::contents::photographed;
 use crate::tears;
 use crate::tries;
 use cells::BLOCK;
@@ -25,7 +26,7 @@ pub(crate) struct Loss {
 // The power that suffices for any recovery.
 pub(crate) const ENOUGH: u32 = 2;
 
-// The save with power for so many orders.
+// The photograph, then the save with power for so many orders.
 pub(crate) fn saved(
     r: Record,
     start: &Settled,
@@ -35,7 +36,8 @@ pub(crate) fn saved(
     orders: u32,
 ) -> Record {
     copy(s, start);
-    let powered = r.power(s, w, k, orders);
+    let waits = photographed(r, s, w, k);
+    let powered = waits.power(s, w, k, orders);
     let save = powered.rec.sync(s, w, k);
     save.rec
 }

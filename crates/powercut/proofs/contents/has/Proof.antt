@@ -35,7 +35,7 @@ returns c =
     let a = c .before .before .before .before .before .before .before .args in
     let st = stateOf (a .r) (a .s .now) (a .w .now) (a .k .now) in
     let part : c .before .before .get .result .now ≡ bytesAt (getPlace trap (a .address) st) st =
-    ap (λ (v : View). v .bytes) (c .before .before .get .ensures) ∙ part-bytes (getPlace trap (a .address) st) (a .r) (a .s) (a .k) (a .w .now) in
+    ap (λ (v : View). v .bytes) (c .before .before .get .ensures) ∙ part-bytes (getPlace trap (a .address) st) (a .r) (a .s) (a .w) (a .k) in
     compared (c .same .result) _ _ _ _ (c .same .ensures) part (c .before .before .before .byte .ensures)
 
 pub has-spec : {M : Type 1} → statement M

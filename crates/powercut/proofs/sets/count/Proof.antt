@@ -11,14 +11,15 @@ use Rattle.powercut.proofs.sets.count.Statement.{statement}
 use Rattle.powercut.proofs.sets.count.Tie as tie
 
 -- a shift by so few bits loses none
-shifted : (n : ℕ) → n ≤ few → (1 * 2 ^ n % 4294967296 ≡ 2 ^ n) × (2 ^ n ≤ 70)
+shifted : (n : ℕ) → n ≤ few → (1 * 2 ^ n % 4294967296 ≡ 2 ^ n) × (2 ^ n ≤ 134)
 shifted zero h = (refl, lit≤ tt)
 shifted (suc zero) h = (refl, lit≤ tt)
 shifted (suc (suc zero)) h = (refl, lit≤ tt)
 shifted (suc (suc (suc zero))) h = (refl, lit≤ tt)
 shifted (suc (suc (suc (suc zero)))) h = (refl, lit≤ tt)
 shifted (suc (suc (suc (suc (suc zero))))) h = (refl, lit≤ tt)
-shifted (suc (suc (suc (suc (suc (suc n)))))) h = absurd (omega arith)
+shifted (suc (suc (suc (suc (suc (suc zero)))))) h = (refl, lit≤ tt)
+shifted (suc (suc (suc (suc (suc (suc (suc n))))))) h = absurd (omega arith)
 
 shl-result : tie.Need-shl-result
 shl-result c = search needs
