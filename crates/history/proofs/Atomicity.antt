@@ -4,4 +4,5 @@ pub mod Phases
 pub mod ShortSyncs
 pub mod Finished
 pub mod Counts
+pub mod NeverDirect
 pub mod Splits
