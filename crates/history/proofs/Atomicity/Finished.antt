@@ -1,19 +1,20 @@
 -- After a finished sync or recovery the record is open.
-use Prim.Native.Nat.{ℕ}
+use Prim.Native.Nat.{ℕ, _≤_}
 use mathlib.Core.Path.{_≡_, refl, ap, sym, _∙_}
 use mathlib.Core.Logic.{_≢_}
 use mathlib.Core.Bool.{true}
 use native.Mathlib.Omega.{arith}
-use native.Mathlib.Decide.{ℕ-discrete}
+use native.Mathlib.Decide.{ℕ-discrete, decLe}
 use borrow.Author.Tests.{eqb-true}
+use lib.ListN.{length}
 use Rattle.journal.specs.Geometry.{Geometry}
 use Rattle.store.specs.Save as Save
 use Rattle.store.specs.State.{Outcome, openMode}
 use Rattle.store.specs.Causes.{cause}
-use Rattle.history.specs.Call.{Call, requestOf, local, save, cut, sync}
-use Rattle.history.specs.Plain.{Done, refusal}
+use Rattle.history.specs.Call.{Call, requestOf, local, direct, save, cut, sync}
+use Rattle.history.specs.Plain.{Done, refusal, plainStep, plainSync, plainBarrier}
 use Rattle.history.specs.Dispatch.{dispatch}
-use Rattle.history.specs.History.{World, storeNext, foundWritten}
+use Rattle.history.specs.History.{World, storeNext, fed}
 use Rattle.history.specs.Statements as S
 use Rattle.history.proofs.Relation.PlainLaws as PlainLaws
 use Rattle.history.proofs.Relation.PlainAnswers.{sync-cases}
@@ -37,18 +38,26 @@ module _ (geo : Geometry) where
   sync-opens w m h =
       let r = served-of sync w m h in
       let o = open-now geo sync w m refl r in
-      let P = plain-served geo sync (foundWritten geo sync w) (w .plain) r in
+      let P = plain-served geo sync (fed geo sync w) (w .plain) r in
       let d : w .plain .mode ≡ 1 = m .basics .mirrors .mode ∙ o .mode in
       step geo sync w m .agrees .mode
       ∙ ap (λ (x : Done). x .plain .mode) P
       ∙ sync-cases geo (λ x. x .plain .mode ≡ 1) (w .plain)
-      (λ z. ap (λ (x : Done). x .plain .mode) (PlainLaws.sync-nothing geo (w .plain) z) ∙ d)
+      (λ z. ap (λ (x : Done). x .plain .mode) (PlainLaws.sync-nothing geo (w .plain) z) ∙ barrier z P (ℕ-discrete (w .plain .waiting) 0) (decLe 1 (w .plain .power)) d)
       (λ z p. ap (λ (x : Done). x .plain .mode) (PlainLaws.sync-finished geo (w .plain) z p) ∙ d)
       (λ z p. absurd (let k : _≡_ {A = ℕ} 4 0 = sym (ap (λ (x : Done). x .answer) (P ∙ PlainLaws.sync-short geo (w .plain) z p)) ∙ sym (step geo sync w m .agrees .answer) ∙ h in omega arith))
+
+    where
+      barrier : length (w .plain .G) ≡ 0 → plainStep geo sync (fed geo sync w) (w .plain) ≡ plainSync geo (w .plain) → Dec (w .plain .waiting ≡ 0) → Dec (1 ≤ w .plain .power) → w .plain .mode ≡ 1 → plainBarrier geo (w .plain) .plain .mode ≡ 1
+      barrier z P (yes e) q d = ap (λ (x : Done). x .plain .mode) (PlainLaws.barrier-none geo (w .plain) e) ∙ d
+      barrier z P (no e) (yes q) d = ap (λ (x : Done). x .plain .mode) (PlainLaws.barrier-done geo (w .plain) e q) ∙ d
+      barrier z P (no e) (no q) d =
+          absurd (let k : _≡_ {A = ℕ} 4 0 = sym (ap (λ (x : Done). x .answer) (P ∙ PlainLaws.sync-nothing geo (w .plain) z ∙ PlainLaws.barrier-short geo (w .plain) e (omega arith))) ∙ sym (step geo sync w m .agrees .answer) ∙ h in omega arith)
 
   pub finished-opens : (c : Call) (w : World) → WorldSim geo w → S.finished geo c w ≡ true → storeNext geo c w .rec .mode ≡ openMode
   unfolding S.finished
   finished-opens (local c) w m h = absurd (mathlib.Core.Bool.false≢true h)
+  finished-opens (direct a b) w m h = absurd (mathlib.Core.Bool.false≢true h)
   finished-opens (save Save.sync) w m h = sync-opens w m (eqb-true _ _ h)
   finished-opens (save Save.apply) w m h = absurd (mathlib.Core.Bool.false≢true h)
   finished-opens (save Save.recover) w m h = recovered-mode geo w m (eqb-true _ _ h)
