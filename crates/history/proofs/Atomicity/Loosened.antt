@@ -1,0 +1,166 @@
+-- Behind the first accepted cut: a block that nothing waits for stays up to the recovery, a block that waited is byte by byte as settled or as
+-- one of its waiting writes, and the loose addresses are those that waited at that cut.
+use Prim.Native.Nat.{ℕ, _≤_, _<_}
+use mathlib.Core.Path.{_≡_, refl, ap, sym, subst, _∙_}
+use mathlib.Core.Logic.{_≢_, _⊎_}
+use mathlib.Core.Bool.{Bool, true, false, cond, not, _&&_, true≢false, false≢true}
+use mathlib.Core.List.{List, [], _∷_, _++_, append-nil}
+use native.Mathlib.Omega.{arith}
+use native.Mathlib.Decide.{ℕ-discrete, decLe}
+use borrow.Author.Tests.{eq-eqb, eqb-true, eqb-false, not-true}
+use lib.Dec.{eqb, lit<}
+use lib.ListN.{length, getD}
+use Rattle.cells.specs.Entry.{blockBytes, Entry}
+use Rattle.card.specs.Card as Card
+use Rattle.card.specs.Card.{Card, Order, queue, run, blockAt, blocksIn}
+use Rattle.card.specs.Disk.{Disk}
+use Rattle.card.proofs.All.{All, all-append, all-map, all-take, Any}
+use Rattle.card.proofs.Runs.{run-nil, settle-other}
+use Rattle.card.proofs.Leaves.{Leaves, cut-leaves}
+use Rattle.journal.specs.Geometry.{Geometry}
+use Rattle.journal.specs.declared.choice.Choice.{Choice}
+use Rattle.journal.specs.declared.choice.Choice.the-variants.{Whole, Fallback, Foreign, Neither}
+use Rattle.journal.specs.Header.{header}
+use Rattle.journal.specs.Layout.{headerAt, isData}
+use Rattle.journal.specs.Choice.{choose, recoverOrders}
+use Rattle.journal.proofs.Choices.{both}
+use Rattle.journal.proofs.Headers.{length-encode}
+use Rattle.journal.proofs.OrderLists.{headerEntry, fallback-writes}
+use Rattle.crash.proofs.Batches.{batch, Room, no-queue, queued-short, queued-done}
+use Rattle.crash.proofs.Logs.{data-above, data-below}
+use Rattle.store.specs.Local.{Local}
+use Rattle.store.specs.Save as Save
+use Rattle.store.specs.Request as Request
+use Rattle.store.specs.State.{State, Outcome, closed, openMode, down, cardIn}
+use Rattle.store.specs.Causes.{waitingBytes, cause}
+use Rattle.store.specs.Saves.{carried}
+use Rattle.store.proofs.Causes.{needsOpen, sizes-facts, sound}
+use Rattle.history.specs.Call.{Call, requestOf, local, direct, save, cut, power, recover}
+use Rattle.history.specs.Plain.{Plain, Done, among, flushes, refusal, served, plainStep, plainRecover, locally}
+use Rattle.history.specs.Dispatch.{called, dispatch}
+use Rattle.history.specs.History.{World, next, after, storeNext, fed, acceptedCut, exception}
+use Rattle.history.specs.Statements.{noCut, finished, noneFinished}
+use Rattle.history.proofs.Relation.CauseLaws.{record-facts, idle, cause-passes}
+use Rattle.history.proofs.Relation.Sim.{OpenSim, ClosedSim, DownSim}
+use Rattle.history.proofs.Relation.PlainLaws.{recover-whole, recover-fallback, recover-short}
+use Rattle.history.proofs.Relation.PlainAnswers.{LocalKind, powers, opens, local-kind}
+use Rattle.history.proofs.Steps.Shown.{plainNext, WorldSim, same-cause, dispatch-refused, plain-refused, plain-served}
+use Rattle.history.proofs.Steps.Local.{is-open}
+use Rattle.history.proofs.Steps.Cut.{afterCut, served-cut, store-cut, plain-cut, fits-cut}
+use Rattle.history.proofs.Steps.Recover.{is-closed}
+use Rattle.history.proofs.Steps.ListInduction.{step, next-sim, after-append, after-sim, clean-before, clean-first}
+use Rattle.history.proofs.Boundary.Cuts.{waits-whole}
+use Rattle.history.proofs.Atomicity.ReadsBack.{power-served, cut-accepted, as-cut}
+
+-- ---- the orders of a recovery on a card on which nothing waits
+
+module _ (geo : Geometry) where
+  -- a block other than the header's stays, and at most a header waits then
+  pub record HeaderAlone (c r : Card) : Type 0 where
+    pub blocks : (x : ℕ) → x ≢ headerAt → blockAt (r .settled) x ≡ blockAt (c .settled) x
+    pub waits : All (λ e. e .address ≡ headerAt) (queue r)
+
+  fallback-alone : (c : Card) (e : Entry) → c .count ≡ 0 → Room c (e ∷ []) → e .address ≡ headerAt → HeaderAlone c (run (batch (e ∷ [])) c)
+  fallback-alone c e z f at = go (decLe (c .power) 1)
+    where
+      none : queue c ≡ []
+      none = no-queue c z
+
+      go : Dec (c .power ≤ 1) → HeaderAlone c (run (batch (e ∷ [])) c)
+      go (yes p) =
+          let l = queued-short c (e ∷ []) f p in
+          record {
+            blocks = λ x h. ap (λ (s : List ℕ). blockAt s x) (l .settled);
+            waits = rw (l .waits, none) (all-take (λ e. e .address ≡ headerAt) (c .power) (e ∷ []) (at, tt));
+          }
+      go (no p) =
+          let l = queued-done c (e ∷ []) f (omega arith) in
+          record {
+            blocks = λ x h.
+                ap (λ (s : List ℕ). blockAt s x) (l .settled)
+                ∙ settle-other (queue c ++ (e ∷ [])) (c .settled) x (rw none ((λ q. h (q ∙ at)), tt));
+            waits = rw (l .waits) tt;
+          }
+
+  orders-alone : (st : State) → st .rec .waiting ≡ 0 → length (st .waiting) ≡ waitingBytes geo → (N : ℕ) (c : Choice) → HeaderAlone (cardIn st) (run (recoverOrders N c) (cardIn st))
+  orders-alone st z room N (Whole n h k) = rw (run-nil) (record { blocks = λ x h. refl; waits = rw (no-queue (cardIn st) z) tt })
+  orders-alone st z room N (Fallback p h k) =
+      rw (fallback-writes N p h k)
+      (fallback-alone (cardIn st) (headerEntry (header N p h p h k)) z (record { places = omega (arith, geo .queued); whole = (length-encode (header N p h p h k), tt); low = (lit< tt, tt) }) refl)
+  orders-alone st z room N Foreign = rw (run-nil) (record { blocks = λ x h. refl; waits = rw (no-queue (cardIn st) z) tt })
+  orders-alone st z room N Neither = rw (run-nil) (record { blocks = λ x h. refl; waits = rw (no-queue (cardIn st) z) tt })
+
+  recover-card : (st : State) → cause geo Request.recover st ≡ 0 → cardIn (dispatch geo recover st .state) ≡ run (recoverOrders (st .rec .blocks) (choose geo (st .rec .blocks) (st .settled))) (cardIn st)
+  unfolding called carried
+  recover-card st e = rw (eq-eqb _ 0 e)
+
+  -- a call that answers 0 was not refused
+  answered : (c : Call) (w : World) → WorldSim geo w → dispatch geo c (w .store) .answer ≡ 0 → refusal geo c (w .plain) ≡ 0
+  answered c w m h = go (ℕ-discrete (refusal geo c (w .plain)) 0)
+    where
+      go : Dec (refusal geo c (w .plain) ≡ 0) → refusal geo c (w .plain) ≡ 0
+      go (yes e) = e
+      go (no e) =
+          let k : cause geo (requestOf c) (w .store) ≢ 0 = λ q. e (sym (same-cause geo (w .store) (w .ledger) (w .plain) m c) ∙ q) in
+          absurd (k (sym (ap (λ (o : Outcome). o .answer) (dispatch-refused geo c (w .store) k)) ∙ h))
+
+  module _ (w : World) (m : WorldSim geo w) (h : refusal geo recover (w .plain) ≡ 0) where
+    recover-passes : cause geo Request.recover (w .store) ≡ 0
+    recover-passes = same-cause geo (w .store) (w .ledger) (w .plain) m recover ∙ h
+
+    recover-shut : ClosedSim geo (w .store) (w .ledger) (w .plain)
+    recover-shut = is-closed geo (w .store) (w .ledger) (w .plain) m (cause-passes geo Request.recover (w .store) recover-passes)
+
+    recover-alone : HeaderAlone (cardIn (w .store)) (cardIn (storeNext geo recover w))
+    recover-alone =
+        rw (recover-card (w .store) recover-passes)
+        (orders-alone (w .store) (idle geo (w .store) (record-facts geo (w .store) (m .basics .counts)) (recover-shut .mode)) (sizes-facts geo (w .store) (m .basics .sizes) .waiting) (w .store .rec .blocks) (choose geo (w .store .rec .blocks) (w .store .settled)))
+
+  data-high : (N x : ℕ) → isData geo N x ≡ true → x ≢ headerAt
+  data-high N x d z = let u = data-above geo N x d in omega arith
+
+  -- a recover that is done leaves the data blocks
+  pub recover-keeps : (x : ℕ) (w : World) → WorldSim geo w → isData geo (w .store .rec .blocks) x ≡ true → dispatch geo recover (w .store) .answer ≡ 0
+      → blockAt (storeNext geo recover w .settled) x ≡ blockAt (w .store .settled) x
+  recover-keeps x w m d h = recover-alone w m (answered recover w m h) .blocks x (data-high (w .store .rec .blocks) x d)
+
+  -- ---- an accepted cut
+
+  module _ (ms : List ℕ) (w : World) (m : WorldSim geo w) (h : refusal geo (cut ms) (w .plain) ≡ 0) where
+    -- what it leaves
+    cut-left : Leaves (blocksIn (w .store .settled)) ms (queue (cardIn (w .store))) (blockAt (w .store .settled)) (blockAt (Card.cut ms (cardIn (w .store)) .settled))
+    cut-left =
+        cut-leaves ms (cardIn (w .store)) (omega (arith, sizes-facts geo (w .store) (m .basics .sizes) .least)) (fits-cut geo ms w m h)
+        (waits-whole geo (w .store) (sound geo (w .store) (m .basics .sizes) (m .basics .counts)))
+
+    data-inside : (x : ℕ) → isData geo (w .store .rec .blocks) x ≡ true → x < blocksIn (w .store .settled)
+    data-inside x d = omega (arith, data-below geo (w .store .rec .blocks) x d, record-facts geo (w .store) (m .basics .counts) .blocks)
+
+    cut-settled : storeNext geo (cut ms) w .settled ≡ Card.cut ms (cardIn (w .store)) .settled
+    cut-settled = ap (λ (s : State). s .settled) (store-cut geo ms w m h)
+
+    pub cut-untouched : (x : ℕ) → isData geo (w .store .rec .blocks) x ≡ true → All (λ e. x ≢ e .address) (queue (cardIn (w .store)))
+        → blockAt (storeNext geo (cut ms) w .settled) x ≡ blockAt (w .store .settled) x
+    cut-untouched x d o = ap (λ (s : List ℕ). blockAt s x) cut-settled ∙ cut-left .untouched x (data-inside x d) o
+
+    pub cut-long : (x : ℕ) → isData geo (w .store .rec .blocks) x ≡ true → length (blockAt (storeNext geo (cut ms) w .settled) x) ≡ blockBytes
+    cut-long x d = ap (λ (s : List ℕ). length (blockAt s x)) cut-settled ∙ cut-left .long x (data-inside x d)
+
+  -- each byte is as settled or as a waiting write has it
+  pub cut-bytes : (ms : List ℕ) (w : World) → WorldSim geo w → refusal geo (cut ms) (w .plain) ≡ 0 → (x : ℕ) → isData geo (w .store .rec .blocks) x ≡ true → (j : ℕ) → j < blockBytes
+      → (getD (blockAt (storeNext geo (cut ms) w .settled) x) j 0 ≡ getD (blockAt (w .store .settled) x) j 0)
+      ⊎ Any (λ e. (e .address ≡ x) × (getD (blockAt (storeNext geo (cut ms) w .settled) x) j 0 ≡ getD (e .block) j 0)) (queue (cardIn (w .store)))
+  cut-bytes ms w m h x d j l =
+      subst (λ (s : List ℕ). (getD (blockAt s x) j 0 ≡ getD (blockAt (w .store .settled) x) j 0) ⊎ Any (λ e. (e .address ≡ x) × (getD (blockAt s x) j 0 ≡ getD (e .block) j 0)) (queue (cardIn (w .store))))
+      (sym (cut-settled ms w m h)) (cut-left ms w m h .byte x j (data-inside ms w m h x d))
+
+  -- nothing waits behind it, and the record is closed
+  pub record Emptied (st : State) : Type 0 where
+    pub queue-none : queue (cardIn st) ≡ []
+    pub mode : st .rec .mode ≡ closed
+
+  pub cut-empties : (ms : List ℕ) (w : World) → WorldSim geo w → refusal geo (cut ms) (w .plain) ≡ 0 → Emptied (storeNext geo (cut ms) w)
+  unfolding Card.cut
+  cut-empties ms w m h =
+      let e : storeNext geo (cut ms) w ≡ afterCut ms (w .store) = store-cut geo ms w m h in
+      record { queue-none = no-queue (cardIn (storeNext geo (cut ms) w)) (ap (λ (s : State). s .rec .waiting) e); mode = ap (λ (s : State). s .rec .mode) e }
