@@ -35,8 +35,8 @@ use Rattle.store.specs.State.{State, Outcome, closed, openMode, down, cardIn}
 use Rattle.store.specs.Causes.{waitingBytes, cause}
 use Rattle.store.specs.Saves.{carried}
 use Rattle.store.proofs.Causes.{needsOpen, sizes-facts, sound}
-use Rattle.history.specs.Call.{Call, requestOf, local, direct, save, cut, power, recover}
-use Rattle.history.specs.Plain.{Plain, Done, among, flushes, refusal, served, plainStep, plainRecover, locally}
+use Rattle.history.specs.Call.{Call, requestOf, local, direct, save, cut, power, sync, apply, recover}
+use Rattle.history.specs.Plain.{Plain, Done, ofRecover, among, flushes, cutShort, refusal, served, plainStep, plainRecover, locally}
 use Rattle.history.specs.Dispatch.{called, dispatch}
 use Rattle.history.specs.History.{World, next, after, storeNext, fed, acceptedCut, exception}
 use Rattle.history.specs.Statements.{noCut, finished, noneFinished}
@@ -164,3 +164,101 @@ module _ (geo : Geometry) where
   cut-empties ms w m h =
       let e : storeNext geo (cut ms) w ≡ afterCut ms (w .store) = store-cut geo ms w m h in
       record { queue-none = no-queue (cardIn (storeNext geo (cut ms) w)) (ap (λ (s : State). s .rec .waiting) e); mode = ap (λ (s : State). s .rec .mode) e }
+
+  -- ---- a call on a record that is not open, no accepted cut and no finished recovery
+
+  pub record Passed (c : Call) (w : World) : Type 0 where
+    pub mode : storeNext geo c w .rec .mode ≢ openMode
+    pub N : storeNext geo c w .rec .blocks ≡ w .store .rec .blocks
+    pub block : (x : ℕ) → x ≢ headerAt → blockAt (storeNext geo c w .settled) x ≡ blockAt (w .store .settled) x
+    pub waits : (x : ℕ) → x ≢ headerAt → All (λ e. x ≢ e .address) (queue (cardIn (w .store))) → All (λ e. x ≢ e .address) (queue (cardIn (storeNext geo c w)))
+    pub loose : plainNext geo c w .loose ≡ w .plain .loose
+    pub writes : plainNext geo c w .writes ≡ w .plain .writes
+
+  module _ (w : World) (m : WorldSim geo w) (shut : w .store .rec .mode ≢ openMode) where
+    -- refused
+    refused-passed : (c : Call) → refusal geo c (w .plain) ≢ 0 → Passed c w
+    refused-passed c h =
+        let k : cause geo (requestOf c) (w .store) ≢ 0 = λ e. h (sym (same-cause geo (w .store) (w .ledger) (w .plain) m c) ∙ e) in
+        let D : storeNext geo c w ≡ w .store = ap (λ (o : Outcome). o .state) (dispatch-refused geo c (w .store) k) in
+        let P : plainNext geo c w ≡ w .plain = ap (λ (o : Done). o .plain) (plain-refused geo c (fed geo c w) (w .plain) h) in
+        record {
+          mode = λ z. shut (sym (ap (λ (s : State). s .rec .mode) D) ∙ z);
+          N = ap (λ (s : State). s .rec .blocks) D;
+          block = λ x a. ap (λ (s : State). blockAt (s .settled) x) D;
+          waits = λ x a o. subst (λ (s : State). All (λ e. x ≢ e .address) (queue (cardIn s))) (sym D) o;
+          loose = ap (λ (d : Plain). d .loose) P;
+          writes = ap (λ (d : Plain). d .writes) P;
+        }
+
+    -- one that needs an open record is
+    needs-open : (c : Call) → needsOpen geo (requestOf c) ≡ true → refusal geo c (w .plain) ≡ 0 → ⊥
+    needs-open c n h = shut (is-open geo (w .store) (w .ledger) (w .plain) m (requestOf c) n (cause-passes geo (requestOf c) (w .store) (same-cause geo (w .store) (w .ledger) (w .plain) m c ∙ h)) .mode)
+
+    power-passed : (k : ℕ) → refusal geo (power k) (w .plain) ≡ 0 → Passed (power k) w
+    unfolding queue
+    power-passed k h =
+        let D = ap (λ (o : Outcome). o .state) (power-served geo k w m) in
+        let P = ap (λ (o : Done). o .plain) (plain-served geo (power k) (fed geo (power k) w) (w .plain) h) in
+        record {
+          mode = λ z. shut (sym (ap (λ (s : State). s .rec .mode) D) ∙ z);
+          N = ap (λ (s : State). s .rec .blocks) D;
+          block = λ x a. ap (λ (s : State). blockAt (s .settled) x) D;
+          waits = λ x a o. subst (λ (s : State). All (λ e. x ≢ e .address) (queue (cardIn s))) (sym D) (same x o);
+          loose = ap (λ (d : Plain). d .loose) P;
+          writes = ap (λ (d : Plain). d .writes) P;
+        }
+      where
+        same : (x : ℕ) → All (λ e. x ≢ e .address) (queue (cardIn (w .store)))
+            → All (λ e. x ≢ e .address) (queue (record { settled = w .store .settled; waiting = w .store .waiting; count = w .store .rec .waiting; power = k }))
+        same x o = o
+
+    -- a recover that is not done was cut short
+    recover-passed : refusal geo recover (w .plain) ≡ 0 → dispatch geo recover (w .store) .answer ≢ 0 → Passed recover w
+    unfolding exception acceptedCut flushes
+    recover-passed h z = go (w .plain .F) refl (decLe 2 (w .plain .power))
+      where
+        found : Disk
+        found = fed geo recover w .found
+
+        plain-is : plainStep geo recover (fed geo recover w) (w .plain) ≡ plainRecover geo found (w .plain)
+        plain-is = plain-served geo recover (fed geo recover w) (w .plain) h
+
+        answers : dispatch geo recover (w .store) .answer ≡ plainRecover geo found (w .plain) .answer
+        answers = step geo recover w m .agrees .answer ∙ ap (λ (o : Done). o .answer) plain-is
+
+        go : (t : Bool) → w .plain .F ≡ t → Dec (2 ≤ w .plain .power) → Passed recover w
+        go false f q = absurd (z (answers ∙ ap (λ (o : Done). o .answer) (recover-whole geo found (w .plain) f)))
+        go true f (yes q) = absurd (z (answers ∙ ap (λ (o : Done). o .answer) (recover-fallback geo found (w .plain) f q)))
+        go true f (no q) =
+            let P : plainNext geo recover w ≡ cutShort geo (ofRecover (w .plain .power)) (w .plain .power) (w .plain) .plain =
+            ap (λ (o : Done). o .plain) (plain-is ∙ recover-short geo found (w .plain) f (omega arith)) in
+            let alone = recover-alone w m h in
+            record {
+              mode = λ e. let k : _≡_ {A = ℕ} 2 1 = sym (step geo recover w m .agrees .mode ∙ ap (λ (d : Plain). d .mode) P) ∙ e in omega arith;
+              N = sym (step geo recover w m .sim refl .basics .mirrors .N) ∙ ap (λ (d : Plain). d .N) P ∙ m .basics .mirrors .N;
+              block = alone .blocks;
+              waits = λ x a o. all-map (λ e. e .address ≡ headerAt) (λ e. x ≢ e .address) (λ e b y. a (y ∙ b)) (queue (cardIn (storeNext geo recover w))) (alone .waits);
+              loose = ap (λ (d : Plain). d .loose) P;
+              writes = ap (λ (d : Plain). d .writes) P;
+            }
+
+    local-passed : (c : Local) → LocalKind geo c → refusal geo (local c) (w .plain) ≡ 0 → Passed (local c) w
+    local-passed c (powers k) h = power-passed k h
+    local-passed c (opens _ n s) h = absurd (needs-open (local c) n h)
+
+    served-passed : (c : Call) → refusal geo c (w .plain) ≡ 0 → acceptedCut geo c w ≡ false → finished geo c w ≡ false → Passed c w
+    unfolding finished
+    served-passed (local c) h a f = local-passed c (local-kind geo c) h
+    served-passed (direct x b) h a f = absurd (needs-open (direct x b) refl h)
+    served-passed (save Save.sync) h a f = absurd (needs-open sync refl h)
+    served-passed (save Save.apply) h a f = absurd (needs-open apply refl h)
+    served-passed (save Save.recover) h a f = recover-passed h (eqb-false _ _ f)
+    served-passed (cut ms) h a f = absurd (true≢false (sym (cut-accepted geo ms w m h) ∙ a))
+
+    pub passed : (c : Call) → acceptedCut geo c w ≡ false → finished geo c w ≡ false → Passed c w
+    passed c a f = go (ℕ-discrete (refusal geo c (w .plain)) 0)
+      where
+        go : Dec (refusal geo c (w .plain) ≡ 0) → Passed c w
+        go (no h) = refused-passed c h
+        go (yes h) = served-passed c h a f
