@@ -8,13 +8,13 @@ use mathlib.Core.List.{List, [], _∷_, _++_, append-nil}
 use native.Mathlib.Omega.{arith}
 use native.Mathlib.Decide.{ℕ-discrete, decLe}
 use borrow.Author.Tests.{eq-eqb, eqb-true, eqb-false, not-true}
-use lib.Dec.{eqb, lit<}
+use lib.Dec.{eqb, leb, lit<}
 use lib.ListN.{length, getD}
 use Rattle.cells.specs.Entry.{blockBytes, Entry}
 use Rattle.card.specs.Card as Card
-use Rattle.card.specs.Card.{Card, Order, queue, run, blockAt, blocksIn}
+use Rattle.card.specs.Card.{Card, queue, run, blockAt, blocksIn}
 use Rattle.card.specs.Disk.{Disk}
-use Rattle.card.proofs.All.{All, all-append, all-map, all-take, Any}
+use Rattle.card.proofs.All.{All, all-map, all-take, Any}
 use Rattle.card.proofs.Runs.{run-nil, settle-other}
 use Rattle.card.proofs.Leaves.{Leaves, cut-leaves}
 use Rattle.journal.specs.Geometry.{Geometry}
@@ -28,25 +28,26 @@ use Rattle.journal.proofs.Headers.{length-encode}
 use Rattle.journal.proofs.OrderLists.{headerEntry, fallback-writes}
 use Rattle.crash.proofs.Batches.{batch, Room, no-queue, queued-short, queued-done}
 use Rattle.crash.proofs.Logs.{data-above, data-below}
+use Rattle.store.specs.Local as Local
 use Rattle.store.specs.Local.{Local}
 use Rattle.store.specs.Save as Save
 use Rattle.store.specs.Request as Request
-use Rattle.store.specs.State.{State, Outcome, closed, openMode, down, cardIn}
+use Rattle.store.specs.State.{State, Outcome, closed, openMode, cardIn}
 use Rattle.store.specs.Causes.{waitingBytes, cause}
 use Rattle.store.specs.Saves.{carried}
 use Rattle.store.proofs.Causes.{needsOpen, sizes-facts, sound}
 use Rattle.history.specs.Call.{Call, requestOf, local, direct, save, cut, power, sync, apply, recover}
-use Rattle.history.specs.Plain.{Plain, Done, ofRecover, among, flushes, cutShort, refusal, served, plainStep, plainRecover, locally}
+use Rattle.history.specs.Plain.{Plain, Done, ofSync, ofApply, ofRecover, among, flushes, still, done, spent, flushed, cutShort, synced, cleared, syncTakes, syncWaits, applyTakes, applyWaits, plainBarrier, plainSync, plainApply, refusal, served, plainStep, plainRecover, locally}
 use Rattle.history.specs.Dispatch.{called, dispatch}
 use Rattle.history.specs.History.{World, next, after, storeNext, fed, acceptedCut, exception}
 use Rattle.history.specs.Statements.{noCut, finished, noneFinished}
 use Rattle.history.proofs.Relation.CauseLaws.{record-facts, idle, cause-passes}
-use Rattle.history.proofs.Relation.Sim.{OpenSim, ClosedSim, DownSim}
+use Rattle.history.proofs.Relation.Sim.{ClosedSim}
 use Rattle.history.proofs.Relation.PlainLaws.{recover-whole, recover-fallback, recover-short}
-use Rattle.history.proofs.Relation.PlainAnswers.{LocalKind, powers, opens, local-kind}
+use Rattle.history.proofs.Relation.PlainAnswers.{direct-cases, LocalKind, powers, opens, local-kind}
 use Rattle.history.proofs.Steps.Shown.{plainNext, WorldSim, same-cause, dispatch-refused, plain-refused, plain-served}
 use Rattle.history.proofs.Steps.Local.{is-open}
-use Rattle.history.proofs.Steps.Cut.{afterCut, served-cut, store-cut, plain-cut, fits-cut}
+use Rattle.history.proofs.Steps.Cut.{afterCut, store-cut, plain-cut, fits-cut}
 use Rattle.history.proofs.Steps.Recover.{is-closed}
 use Rattle.history.proofs.Steps.ListInduction.{step, next-sim, after-append, after-sim, clean-before, clean-first}
 use Rattle.history.proofs.Boundary.Cuts.{waits-whole}
@@ -262,3 +263,271 @@ module _ (geo : Geometry) where
         go : Dec (refusal geo c (w .plain) ≡ 0) → Passed c w
         go (no h) = refused-passed c h
         go (yes h) = served-passed c h a f
+
+  -- ---- any call on a record that is not open, no finished recovery
+
+  -- what is accepted as a cut is one
+  accepted-is : (c : Call) (w : World) → acceptedCut geo c w ≡ true → (ms : List ℕ) × (c ≡ cut ms)
+  unfolding acceptedCut
+  accepted-is (local c) w a = absurd (false≢true a)
+  accepted-is (direct x b) w a = absurd (false≢true a)
+  accepted-is (save c) w a = absurd (false≢true a)
+  accepted-is (cut ms) w a = (ms, refl)
+
+  -- and is not refused
+  pub accepted-passes : (ms : List ℕ) (w : World) → WorldSim geo w → acceptedCut geo (cut ms) w ≡ true → refusal geo (cut ms) (w .plain) ≡ 0
+  unfolding acceptedCut
+  accepted-passes ms w m a = answered (cut ms) w m (eqb-true _ _ a)
+
+  -- a data block to which nothing waits stays, and nothing waits to it then; where no direct write waits, none does then, and the loose
+  -- addresses stay
+  pub record Onward (c : Call) (w : World) : Type 0 where
+    pub mode : storeNext geo c w .rec .mode ≢ openMode
+    pub N : storeNext geo c w .rec .blocks ≡ w .store .rec .blocks
+    pub block : (x : ℕ) → isData geo (w .store .rec .blocks) x ≡ true → All (λ e. x ≢ e .address) (queue (cardIn (w .store)))
+        → blockAt (storeNext geo c w .settled) x ≡ blockAt (w .store .settled) x
+    pub waits : (x : ℕ) → isData geo (w .store .rec .blocks) x ≡ true → All (λ e. x ≢ e .address) (queue (cardIn (w .store))) → All (λ e. x ≢ e .address) (queue (cardIn (storeNext geo c w)))
+    pub loose : w .plain .writes ≡ [] → plainNext geo c w .loose ≡ w .plain .loose
+    pub writes : w .plain .writes ≡ [] → plainNext geo c w .writes ≡ []
+
+  passed-onward : (c : Call) (w : World) → Passed c w → Onward c w
+  passed-onward c w p = record {
+    mode = p .mode;
+    N = p .N;
+    block = λ x d o. p .block x (data-high (w .store .rec .blocks) x d);
+    waits = λ x d o. p .waits x (data-high (w .store .rec .blocks) x d) o;
+    loose = λ z. p .loose;
+    writes = λ z. p .writes ∙ z;
+  }
+
+  -- the loose addresses behind a cut: those that waited join them
+  pub cut-loose : (ms : List ℕ) (w : World) → WorldSim geo w → refusal geo (cut ms) (w .plain) ≡ 0 → plainNext geo (cut ms) w .loose ≡ w .plain .writes ++ w .plain .loose
+  cut-loose ms w m h = ap (λ (o : Done). o .plain .loose) (plain-cut geo ms w m h)
+
+  cut-onward : (ms : List ℕ) (w : World) → WorldSim geo w → refusal geo (cut ms) (w .plain) ≡ 0 → Onward (cut ms) w
+  cut-onward ms w m h =
+      let z = cut-empties ms w m h in
+      record {
+        mode = λ e. omega (arith, z .mode, e);
+        N = ap (λ (s : State). s .rec .blocks) (store-cut geo ms w m h);
+        block = cut-untouched ms w m h;
+        waits = λ x d o. subst (All (λ e. x ≢ e .address)) (sym (z .queue-none)) tt;
+        loose = λ e. cut-loose ms w m h ∙ ap (λ (l : List ℕ). l ++ w .plain .loose) e;
+        writes = λ e. ap (λ (o : Done). o .plain .writes) (plain-cut geo ms w m h);
+      }
+
+  pub onward : (c : Call) (w : World) → WorldSim geo w → w .store .rec .mode ≢ openMode → finished geo c w ≡ false → Onward c w
+  onward c w m s f = go (acceptedCut geo c w) refl
+    where
+      by-cut : acceptedCut geo c w ≡ true → (ms : List ℕ) × (c ≡ cut ms) → Onward c w
+      by-cut a (ms, e) = subst (λ (k : Call). Onward k w) (sym e) (cut-onward ms w m (accepted-passes ms w m (subst (λ (k : Call). acceptedCut geo k w ≡ true) e a)))
+
+      go : (t : Bool) → acceptedCut geo c w ≡ t → Onward c w
+      go false a = passed-onward c w (passed w m s c a f)
+      go true a = by-cut a (accepted-is c w a)
+
+  -- ---- a list of them
+
+  -- between w and v
+  pub record Behind (w v : World) : Type 0 where
+    pub N : v .store .rec .blocks ≡ w .store .rec .blocks
+    pub block : (x : ℕ) → isData geo (w .store .rec .blocks) x ≡ true → All (λ e. x ≢ e .address) (queue (cardIn (w .store))) → blockAt (v .store .settled) x ≡ blockAt (w .store .settled) x
+    pub loose : w .plain .writes ≡ [] → v .plain .loose ≡ w .plain .loose
+
+  pub behind : (cs : List Call) (w : World) → WorldSim geo w → w .store .rec .mode ≢ openMode → noneFinished geo cs w ≡ true → after geo cs w .excepted ≡ false → Behind w (after geo cs w)
+  unfolding after next noneFinished
+  behind [] w m s n x = record { N = refl; block = λ a d o. refl; loose = λ z. refl }
+  behind (c ∷ cs) w m s n x =
+      let p = both (not (finished geo c w)) (noneFinished geo cs (next geo c w)) n in
+      let o = onward c w m s (not-true _ (p .0)) in
+      here c cs w o (behind cs (next geo c w) (next-sim geo c w m (clean-first geo c cs w x)) (o .mode) (p .1) x)
+    where
+      here : (c : Call) (cs : List Call) (w : World) → Onward c w → Behind (next geo c w) (after geo cs (next geo c w)) → Behind w (after geo cs (next geo c w))
+      here c cs w o r = record {
+        N = r .N ∙ o .N;
+        block = λ a d q. r .block a (rw (o .N) d) (o .waits a d q) ∙ o .block a d q;
+        loose = λ z. r .loose (o .writes z) ∙ o .loose z;
+      }
+
+  -- a block that no waiting write is addressed to
+  pub block-stays : (x : ℕ) (cs : List Call) (w : World) → WorldSim geo w → w .store .rec .mode ≢ openMode → isData geo (w .store .rec .blocks) x ≡ true
+      → All (λ e. x ≢ e .address) (queue (cardIn (w .store))) → noneFinished geo cs w ≡ true → after geo cs w .excepted ≡ false
+      → blockAt (after geo cs w .store .settled) x ≡ blockAt (w .store .settled) x
+  block-stays x cs w m s d o n e = behind cs w m s n e .block x d o
+
+  -- ---- the first accepted cut
+
+  pub record FirstCut (cs : List Call) (w : World) : Type 0 where
+    pub before : List Call
+    pub ms : List ℕ
+    pub behind : List Call
+    pub split : cs ≡ before ++ (cut ms ∷ behind)
+    pub uncut : noCut geo before w ≡ true
+    pub accepted : acceptedCut geo (cut ms) (after geo before w) ≡ true
+
+  some-cut : (cs : List Call) (w : World) → noCut geo cs w ≡ false → FirstCut cs w
+  unfolding noCut after
+  some-cut [] w n = absurd (true≢false n)
+  some-cut (c ∷ cs) w n = go c cs w (acceptedCut geo c w) refl n (λ z. some-cut cs (next geo c w) z)
+    where
+      by-cut : (c : Call) (cs : List Call) (w : World) → acceptedCut geo c w ≡ true → (ms : List ℕ) × (c ≡ cut ms) → FirstCut (c ∷ cs) w
+      by-cut c cs w a (ms, e) = record { before = []; ms = ms; behind = cs; split = ap (λ (k : Call). k ∷ cs) e; uncut = refl; accepted = subst (λ (k : Call). acceptedCut geo k w ≡ true) e a }
+
+      later : (c : Call) (cs : List Call) (w : World) → acceptedCut geo c w ≡ false → FirstCut cs (next geo c w) → FirstCut (c ∷ cs) w
+      later c cs w a f = record { before = c ∷ f .before; ms = f .ms; behind = f .behind; split = ap (λ (l : List Call). c ∷ l) (f .split); uncut = rw (a) (f .uncut); accepted = f .accepted }
+
+      go : (c : Call) (cs : List Call) (w : World) (t : Bool) → acceptedCut geo c w ≡ t → not (acceptedCut geo c w) && noCut geo cs (next geo c w) ≡ false → (noCut geo cs (next geo c w) ≡ false → FirstCut cs (next geo c w)) → FirstCut (c ∷ cs) w
+      go c cs w true a n more = by-cut c cs w a (accepted-is c w a)
+      go c cs w false a n more = later c cs w a (more (rw a at n))
+
+  -- a list that leaves a closed record, from one that is not, has one
+  pub first-cut : (cs : List Call) (w : World) → WorldSim geo w → w .store .rec .mode ≢ closed → after geo cs w .excepted ≡ false → after geo cs w .store .rec .mode ≡ closed → FirstCut cs w
+  first-cut cs w m o x z = go (noCut geo cs w) refl
+    where
+      go : (t : Bool) → noCut geo cs w ≡ t → FirstCut cs w
+      go true n = absurd (o (as-cut geo cs w m x n z .mode))
+      go false n = some-cut cs w n
+
+  -- ---- the loose addresses before it
+
+  barrier-loose : (d : Plain) → plainBarrier geo d .plain .loose ≡ d .loose
+  unfolding plainBarrier
+  barrier-loose d = go (eqb (d .waiting) 0) (leb 1 (d .power))
+    where
+      go : (s t : Bool) → cond s (still d) (cond t (done 1 (flushed (spent 1 d))) (cutShort geo (ofSync (d .power)) (d .waiting) d)) .plain .loose ≡ d .loose
+      go true t = refl
+      go false true = refl
+      go false false = refl
+
+  sync-loose : (d : Plain) → plainSync geo d .plain .loose ≡ d .loose
+  unfolding plainSync
+  sync-loose d = go (eqb (length (d .G)) 0) (leb (syncTakes geo (d .n) (length (d .G))) (d .power))
+    where
+      go : (s t : Bool)
+          → cond s (plainBarrier geo d) (cond t (done (syncTakes geo (d .n) (length (d .G))) (synced geo d)) (cutShort geo (ofSync (d .power)) (syncWaits geo (d .waiting) (d .n) (length (d .G)) (d .power)) d)) .plain .loose ≡ d .loose
+      go true t = barrier-loose d
+      go false true = refl
+      go false false = refl
+
+  apply-loose : (d : Plain) → plainApply geo d .plain .loose ≡ d .loose
+  unfolding plainApply
+  apply-loose d = go (eqb (d .n) 0) (leb (applyTakes (d .n)) (d .power))
+    where
+      go : (s t : Bool) → cond s (still d) (cond t (done (applyTakes (d .n)) (cleared d)) (cutShort geo (ofApply (d .power)) (applyWaits (d .waiting) (d .n) (d .power)) d)) .plain .loose ≡ d .loose
+      go true t = refl
+      go false true = refl
+      go false false = refl
+
+  locally-loose : (c : Local) (d : Plain) → locally c d .loose ≡ d .loose
+  locally-loose (Local.power k) d = refl
+  locally-loose (Local.put a b) d = refl
+  locally-loose (Local.get a) d = refl
+  locally-loose (Local.getList xs bs) d = refl
+  locally-loose Local.commit d = refl
+  locally-loose Local.abandon d = refl
+
+  -- only an accepted cut and a finished recovery change them
+  pub loose-kept : (c : Call) (w : World) → WorldSim geo w → acceptedCut geo c w ≡ false → finished geo c w ≡ false → plainNext geo c w .loose ≡ w .plain .loose
+  unfolding finished
+  loose-kept c w m a f = go (ℕ-discrete (refusal geo c (w .plain)) 0)
+    where
+      by : (c : Call) → refusal geo c (w .plain) ≡ 0 → acceptedCut geo c w ≡ false → finished geo c w ≡ false → served geo c (fed geo c w) (w .plain) .plain .loose ≡ w .plain .loose
+      by (local c) h a f = locally-loose c (w .plain)
+      by (direct x b) h a f = direct-cases geo (λ o. o .plain .loose ≡ w .plain .loose) x b (w .plain) (λ q. refl) (λ q. refl)
+      by (save Save.sync) h a f = sync-loose (w .plain)
+      by (save Save.apply) h a f = apply-loose (w .plain)
+      by (save Save.recover) h a f =
+          sym (ap (λ (o : Done). o .plain .loose) (plain-served geo recover (fed geo recover w) (w .plain) h))
+          ∙ recover-passed w m (λ z. omega (arith, recover-shut w m h .mode, z)) h (eqb-false _ _ f) .loose
+      by (cut ms) h a f = absurd (true≢false (sym (cut-accepted geo ms w m h) ∙ a))
+
+      go : Dec (refusal geo c (w .plain) ≡ 0) → plainNext geo c w .loose ≡ w .plain .loose
+      go (no h) = ap (λ (o : Done). o .plain .loose) (plain-refused geo c (fed geo c w) (w .plain) h)
+      go (yes h) = ap (λ (o : Done). o .plain .loose) (plain-served geo c (fed geo c w) (w .plain) h) ∙ by c h a f
+
+  pub loose-before : (cs : List Call) (w : World) → WorldSim geo w → noCut geo cs w ≡ true → noneFinished geo cs w ≡ true → after geo cs w .excepted ≡ false → after geo cs w .plain .loose ≡ w .plain .loose
+  unfolding after next noCut noneFinished
+  loose-before [] w m u n x = refl
+  loose-before (c ∷ cs) w m u n x =
+      let p = both (not (finished geo c w)) (noneFinished geo cs (next geo c w)) n in
+      let q = both (not (acceptedCut geo c w)) (noCut geo cs (next geo c w)) u in
+      loose-before cs (next geo c w) (next-sim geo c w m (clean-first geo c cs w x)) (q .1) (p .1) x ∙ loose-kept c w m (not-true _ (q .0)) (not-true _ (p .0))
+
+  -- ---- a list split at that cut
+
+  pub none-split : (a b : List Call) (w : World) → noneFinished geo (a ++ b) w ≡ true → (noneFinished geo a w ≡ true) × (noneFinished geo b (after geo a w) ≡ true)
+  unfolding noneFinished after
+  none-split [] b w n = (refl, n)
+  none-split (c ∷ a) b w n =
+      let p = both (not (finished geo c w)) (noneFinished geo (a ++ b) (next geo c w)) n in
+      let r = none-split a b (next geo c w) (p .1) in
+      (rw (p .0) (r .0), r .1)
+
+  module _ (before : List Call) (ms : List ℕ) (rest : List Call) (w : World) (m : WorldSim geo w)
+      (uncut : noCut geo before w ≡ true) (accepted : acceptedCut geo (cut ms) (after geo before w) ≡ true)
+      (none : noneFinished geo (before ++ (cut ms ∷ rest)) w ≡ true) (clean : after geo (before ++ (cut ms ∷ rest)) w .excepted ≡ false) where
+    -- where the cut is made, and what it leaves
+    abbrev met : World
+    met = after geo before w
+
+    abbrev left : World
+    left = next geo (cut ms) (after geo before w)
+
+    at-end : after geo (before ++ (cut ms ∷ rest)) w ≡ after geo rest left
+    unfolding after
+    at-end = after-append geo before (cut ms ∷ rest) w
+
+    clean-end : after geo rest left .excepted ≡ false
+    clean-end = sym (ap (λ (v : World). v .excepted) at-end) ∙ clean
+
+    clean-left : left .excepted ≡ false
+    clean-left = clean-before geo rest left clean-end
+
+    clean-met : met .excepted ≡ false
+    unfolding after
+    clean-met = clean-before geo (cut ms ∷ []) met clean-left
+
+    pub met-sim : WorldSim geo met
+    met-sim = after-sim geo before w m clean-met
+
+    pub met-passes : refusal geo (cut ms) (met .plain) ≡ 0
+    met-passes = accepted-passes ms met met-sim accepted
+
+    left-sim : WorldSim geo left
+    left-sim = next-sim geo (cut ms) met met-sim (clean-first geo (cut ms) rest met clean-end)
+
+    nones : (noneFinished geo before w ≡ true) × (noneFinished geo (cut ms ∷ rest) met ≡ true)
+    nones = none-split before (cut ms ∷ rest) w none
+
+    none-rest : noneFinished geo rest left ≡ true
+    unfolding noneFinished
+    none-rest = both (not (finished geo (cut ms) met)) (noneFinished geo rest left) (nones .1) .1
+
+    left-shut : left .store .rec .mode ≢ openMode
+    unfolding next
+    left-shut e = omega (arith, cut-empties ms met met-sim met-passes .mode, e)
+
+    pub behind-cut : Behind left (after geo rest left)
+    behind-cut = behind rest left left-sim left-shut none-rest clean-end
+
+    -- the loose addresses at the end are those that waited at that cut
+    pub loose-waited : w .plain .loose ≡ [] → after geo (before ++ (cut ms ∷ rest)) w .plain .loose ≡ met .plain .writes
+    unfolding next
+    loose-waited z =
+        ap (λ (v : World). v .plain .loose) at-end
+        ∙ behind-cut .loose (ap (λ (o : Done). o .plain .writes) (plain-cut geo ms met met-sim met-passes))
+        ∙ cut-loose ms met met-sim met-passes
+        ∙ ap (λ (l : List ℕ). met .plain .writes ++ l) (loose-before before w m uncut (nones .0) clean-met ∙ z)
+        ∙ append-nil (met .plain .writes)
+
+    pub loose-first : w .plain .loose ≡ [] → (x : ℕ) → among x (after geo (before ++ (cut ms ∷ rest)) w .plain .loose) ≡ among x (met .plain .writes)
+    loose-first z x = ap (among x) (loose-waited z)
+
+    -- from that cut on every data block stays
+    pub block-end : (x : ℕ) → isData geo (met .store .rec .blocks) x ≡ true
+        → blockAt (after geo (before ++ (cut ms ∷ rest)) w .store .settled) x ≡ blockAt (storeNext geo (cut ms) met .settled) x
+    unfolding next
+    block-end x d =
+        ap (λ (v : World). blockAt (v .store .settled) x) at-end
+        ∙ behind-cut .block x (rw (ap (λ (s : State). s .rec .blocks) (store-cut geo ms met met-sim met-passes)) d)
+        (subst (All (λ e. x ≢ e .address)) (sym (cut-empties ms met met-sim met-passes .queue-none)) tt)
