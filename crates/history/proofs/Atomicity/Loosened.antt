@@ -531,3 +531,54 @@ module _ (geo : Geometry) where
         ap (λ (v : World). blockAt (v .store .settled) x) at-end
         ∙ behind-cut .block x (rw (ap (λ (s : State). s .rec .blocks) (store-cut geo ms met met-sim met-passes)) d)
         (subst (All (λ e. x ≢ e .address)) (sym (cut-empties ms met met-sim met-passes .queue-none)) tt)
+
+    pub N-end : after geo (before ++ (cut ms ∷ rest)) w .store .rec .blocks ≡ met .store .rec .blocks
+    unfolding next
+    N-end = ap (λ (v : World). v .store .rec .blocks) at-end ∙ behind-cut .N ∙ ap (λ (s : State). s .rec .blocks) (store-cut geo ms met met-sim met-passes)
+
+  -- the same of a list that has a first accepted cut
+  module _ (cs : List Call) (w : World) (f : FirstCut cs w) (m : WorldSim geo w) (none : noneFinished geo cs w ≡ true) (clean : after geo cs w .excepted ≡ false) where
+    abbrev there : World
+    there = after geo (f .before) w
+
+    none-there : noneFinished geo (f .before ++ (cut (f .ms) ∷ f .behind)) w ≡ true
+    none-there = subst (λ (l : List Call). noneFinished geo l w ≡ true) (f .split) none
+
+    clean-there : after geo (f .before ++ (cut (f .ms) ∷ f .behind)) w .excepted ≡ false
+    clean-there = subst (λ (l : List Call). after geo l w .excepted ≡ false) (f .split) clean
+
+    pub first-sim : WorldSim geo there
+    first-sim = met-sim (f .before) (f .ms) (f .behind) w m (f .uncut) (f .accepted) none-there clean-there
+
+    pub first-passes : refusal geo (cut (f .ms)) (there .plain) ≡ 0
+    first-passes = met-passes (f .before) (f .ms) (f .behind) w m (f .uncut) (f .accepted) none-there clean-there
+
+    pub first-loose : w .plain .loose ≡ [] → (x : ℕ) → among x (after geo cs w .plain .loose) ≡ among x (there .plain .writes)
+    first-loose z x =
+        ap (λ (l : List Call). among x (after geo l w .plain .loose)) (f .split)
+        ∙ loose-first (f .before) (f .ms) (f .behind) w m (f .uncut) (f .accepted) none-there clean-there z x
+
+    pub first-block : (x : ℕ) → isData geo (there .store .rec .blocks) x ≡ true → blockAt (after geo cs w .store .settled) x ≡ blockAt (storeNext geo (cut (f .ms)) there .settled) x
+    first-block x d =
+        ap (λ (l : List Call). blockAt (after geo l w .store .settled) x) (f .split)
+        ∙ block-end (f .before) (f .ms) (f .behind) w m (f .uncut) (f .accepted) none-there clean-there x d
+
+    pub first-N : after geo cs w .store .rec .blocks ≡ there .store .rec .blocks
+    first-N =
+        ap (λ (l : List Call). after geo l w .store .rec .blocks) (f .split)
+        ∙ N-end (f .before) (f .ms) (f .behind) w m (f .uncut) (f .accepted) none-there clean-there
+
+    -- what a recover behind the list leaves of a data block: byte by byte as settled at that cut or as a write that waited there
+    pub first-found : dispatch geo recover (after geo cs w .store) .answer ≡ 0 → (x : ℕ) → isData geo (there .store .rec .blocks) x ≡ true
+        → blockAt (storeNext geo recover (after geo cs w) .settled) x ≡ blockAt (storeNext geo (cut (f .ms)) there .settled) x
+    first-found h x d = recover-keeps x (after geo cs w) (after-sim geo cs w m clean) (rw (first-N) d) h ∙ first-block x d
+
+    pub first-bytes : dispatch geo recover (after geo cs w .store) .answer ≡ 0 → (x : ℕ) → isData geo (there .store .rec .blocks) x ≡ true → (j : ℕ) → j < blockBytes
+        → (getD (blockAt (storeNext geo recover (after geo cs w) .settled) x) j 0 ≡ getD (blockAt (there .store .settled) x) j 0)
+        ⊎ Any (λ e. (e .address ≡ x) × (getD (blockAt (storeNext geo recover (after geo cs w) .settled) x) j 0 ≡ getD (e .block) j 0)) (queue (cardIn (there .store)))
+    first-bytes h x d j l =
+        subst (λ (b : List ℕ). (getD b j 0 ≡ getD (blockAt (there .store .settled) x) j 0) ⊎ Any (λ e. (e .address ≡ x) × (getD b j 0 ≡ getD (e .block) j 0)) (queue (cardIn (there .store))))
+        (sym (first-found h x d)) (cut-bytes (f .ms) there first-sim first-passes x d j l)
+
+    pub first-long : dispatch geo recover (after geo cs w .store) .answer ≡ 0 → (x : ℕ) → isData geo (there .store .rec .blocks) x ≡ true → length (blockAt (storeNext geo recover (after geo cs w) .settled) x) ≡ blockBytes
+    first-long h x d = ap length (first-found h x d) ∙ cut-long (f .ms) there first-sim first-passes x d
