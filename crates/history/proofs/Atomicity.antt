@@ -6,3 +6,4 @@ pub mod Finished
 pub mod Counts
 pub mod NeverDirect
 pub mod Splits
+pub mod Loosened
