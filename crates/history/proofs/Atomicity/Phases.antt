@@ -48,7 +48,7 @@ module _ (geo : Geometry) where
   -- the group of a sync that is found new is the end of the log written, and the header needs no fallback
   abbrev pub NewLog : Fate → Ledger → Plain → Type 0
   NewLog quiet l d = Unit {0}
-  NewLog (decided G laid all) l d = laid ≡ true → (L : List Entry) × (l .written ≡ L ++ G) × (l .pending ≡ nothing) × (d .F ≡ false) × (d .short ≡ none)
+  NewLog (decided G laid all) l d = laid ≡ true → (L : List Entry) × (l .written ≡ L ++ G) × (l .pending ≡ nothing) × (d .F ≡ false) × (d .short ≡ none) × (d .mode ≡ 0)
 
   -- not open, and no cut lays anything
   pub record OtherPhase (old : Laid) (f : Fate) (st : State) (l : Ledger) (d : Plain) : Type 0 where

@@ -320,6 +320,7 @@ module _ (geo : Geometry) where
               ap (λ (x : Short). verdict geo x (w .plain .n) (length (w .plain .G)) (w .plain .F) (headerKept ms (w .plain .waiting)) (cut-found ms w) .F) (r .4)
                   ∙ ap (λ (v : Verdict). v .F) (PlainLaws.choose-none geo (w .plain .n) (length (w .plain .G)) (w .plain .F) (headerKept ms (w .plain .waiting)) (cut-found ms w)) ∙ r .3,
               refl,
+              refl,
             )
 
     pub cut-observed : (G : List Entry) (from : ℕ) (made : Bool)
@@ -351,6 +352,7 @@ module _ (geo : Geometry) where
                 ap (λ (p : Pending). resolved ms p (w .ledger .written)) (r .1) ∙ ap (λ (t : Bool). cond t (r .0 ++ G) (w .ledger .written)) (k .1),
                 refl,
                 laid-whole (w .plain .short) (w .plain .n) (length (w .plain .G)) (w .plain .F) (headerKept ms (w .plain .waiting)) (cut-found ms w) (x .laid ms (cut-found ms w) ∙ e),
+                refl,
                 refl,
               );
         })

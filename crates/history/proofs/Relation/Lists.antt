@@ -80,6 +80,12 @@ unfolding among
 among-append a [] ys = refl
 among-append a (x ∷ xs) ys = ap (λ (t : Bool). eqb x a || t) (among-append a xs ys) ∙ sym (or-assoc (eqb x a) (among a xs) (among a ys))
 
+pub among-take : (a n : ℕ) (xs : List ℕ) → among a xs ≡ false → among a (take n xs) ≡ false
+unfolding among
+among-take a zero xs h = refl
+among-take a (suc n) [] h = refl
+among-take a (suc n) (x ∷ xs) h = let p = neither (eqb x a) (among a xs) h in rw (p .0) (among-take a n xs (p .1))
+
 -- a block that no write of the list is addressed to
 pub firm-besides : (a : ℕ) (l : List Entry) → among a (addresses l) ≡ false → All (λ e. a ≢ e .address) l
 unfolding among addresses
