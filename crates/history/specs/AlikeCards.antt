@@ -7,9 +7,10 @@ use mathlib.Core.Bool.{true}
 use mathlib.Core.List.{List, [], _∷_}
 use lib.ListN.{length}
 use Rattle.cells.specs.Little.{Bytes}
+use Rattle.card.specs.Card.{queue}
 use Rattle.journal.specs.Geometry.{Geometry}
 use Rattle.journal.specs.Header.{mostSave}
-use Rattle.store.specs.State.{State, closed, openMode, withSave}
+use Rattle.store.specs.State.{State, closed, openMode, withSave, cardIn}
 use Rattle.store.specs.Get.{blockOf}
 use Rattle.store.specs.GetList.{listing}
 use Rattle.store.specs.Save.{Save}
@@ -67,10 +68,12 @@ module _ (geo : Geometry) where
     pub list : (xs bs : List ℕ) → listing geo xs bs a ≡ listing geo xs bs b
     pub figures : (q : Save) → costOf geo q a ≡ costOf geo q b
 
-  -- the cards are alike again, and the records the same but for the save number
+  -- the cards are alike again, the records the same but for the save number, and what waits is the same
   pub record StillAlike (a b : State) : Type 0 where
     pub alike : alikeOf geo (a .settled) (b .settled) .yes ≡ true
     pub rec : withSave 0 (a .rec) ≡ withSave 0 (b .rec)
+    -- W-209: and the same direct writes wait
+    pub queue : queue (cardIn a) ≡ queue (cardIn b)
 
   pub record AlikeCards (a b : State) : Type 0 where
     -- with power for two orders, which is always enough, each is recovered

@@ -1,25 +1,26 @@
--- What is settled under the log of an open store, the direct writes that wait left out: a call keeps it, or what waited has settled, and then
--- it is S.
-use Prim.Native.Nat.{ℕ, _≤_}
+-- What is settled under the log of an open store, and the direct writes that wait: a call keeps both; or a direct write waits behind them; or
+-- what waited has settled, and then what is settled is S.
+use Prim.Native.Nat.{ℕ, _≤_, _<_}
 use mathlib.Core.Path.{_≡_, refl, ap, sym, _∙_}
 use mathlib.Core.Logic.{_≢_}
 use mathlib.Core.Bool.{Bool, true, false, cond}
-use mathlib.Core.List.{List, [], _∷_}
+use mathlib.Core.List.{List, [], _∷_, _++_}
 use native.Mathlib.Omega.{arith}
 use native.Mathlib.Decide.{decLe}
-use borrow.Author.Tests.{eq-eqb, ne-eqb, eqb-true, lt-leb}
+use borrow.Author.Tests.{eq-eqb, ne-eqb, eqb-true, lt-leb, not-false}
 use lib.Dec.{eqb, leb}
 use lib.ListN.{length}
 use Rattle.cells.specs.Entry.{Entry}
 use Rattle.card.specs.Disk.{overlay}
-use Rattle.card.specs.Card.{Card, Order, write, flush, order, run, blockAt}
+use Rattle.card.specs.Card.{Card, Order, flush, queue, order, run, blockAt}
+use Rattle.card.proofs.Runs.{Whole, NarrowAddress, queue-write, run-live, run-one, writes-settled}
 use Rattle.journal.specs.Geometry.{Geometry}
 use Rattle.journal.specs.declared.lookup.Found.{Found}
 use Rattle.journal.specs.declared.lookup.Found.the-variants.{At, Absent}
 use Rattle.journal.specs.Layout.{isData}
 use Rattle.journal.specs.Log.{entries}
 use Rattle.crash.proofs.Batches.{no-queue}
-use Rattle.crash.proofs.Logs.{entries-disk}
+use Rattle.crash.proofs.Logs.{entries-disk, data-below}
 use Rattle.store.specs.Local as Local
 use Rattle.store.specs.Local.{Local}
 use Rattle.store.specs.Request as Request
@@ -29,11 +30,12 @@ use Rattle.store.specs.Causes.{cause}
 use Rattle.store.specs.Outcomes.{completed}
 use Rattle.store.specs.Put.{putAt}
 use Rattle.store.specs.Saves.{carried, applying}
-use Rattle.store.specs.Direct.{directWrite, directOrders, directing}
+use Rattle.store.specs.Direct.{directWrite, directOrders}
 use Rattle.history.specs.Call.{local, direct, apply}
 use Rattle.history.specs.Plain.{Plain, Done, ofSync, ofApply, still, done, spent, flushed, cutShort, applyTakes, applyWaits, syncTakes, syncWaits, synced, cleared, plainBarrier, plainSync, plainApply}
 use Rattle.history.specs.Dispatch.{called, dispatch, servedLocal}
 use Rattle.history.specs.Ledger.{Ledger}
+use Rattle.history.proofs.Relation.CauseLaws.{IsOpen, few-wait, cause-passes, cause-opened}
 use Rattle.history.proofs.Relation.Forms.{unless-either}
 use Rattle.history.proofs.Relation.Sim.{flushedBytes, OpenSim}
 use Rattle.history.proofs.Steps.Ends.{flushed-none}
@@ -42,59 +44,65 @@ module _ (geo : Geometry) where
   abbrev pub beneath : State → ℕ → List ℕ
   beneath st x = overlay (entries geo (st .settled) (st .rec .logged)) (blockAt (st .settled)) x
 
-  -- t has the settled bytes s, and N and n of st, which was open if t is
-  pub record Holds (s : List ℕ) (st t : State) : Type 0 where
+  -- t has the settled bytes s and the waiting writes q, and N and n of st, which was open if t is
+  pub record Holds (s : List ℕ) (q : List Entry) (st t : State) : Type 0 where
     pub settled : t .settled ≡ s
+    pub waits : queue (cardIn t) ≡ q
     pub n : t .rec .logged ≡ st .rec .logged
     pub N : t .rec .blocks ≡ st .rec .blocks
     pub opened : t .rec .mode ≡ openMode → st .rec .mode ≡ openMode
 
-  -- itself
-  pub itself : (st : State) → Holds (st .settled) st st
-  itself st = record { settled = refl; n = refl; N = refl; opened = λ e. e }
+  -- both are those of st
+  abbrev pub Keeps : State → State → Type 0
+  Keeps st t = Holds (st .settled) (queue (cardIn st)) st t
 
-  pub beneath-kept : (st t : State) → Holds (st .settled) st t → (x : ℕ) → beneath t x ≡ beneath st x
-  beneath-kept st t k x = λ i. overlay (entries geo (k .settled i) (k .n i)) (blockAt (k .settled i)) x
+  -- itself
+  pub itself : (st : State) → Keeps st st
+  itself st = record { settled = refl; waits = refl; n = refl; N = refl; opened = λ e. e }
+
+  pub beneath-kept : (st t : State) (q : List Entry) → Holds (st .settled) q st t → (x : ℕ) → beneath t x ≡ beneath st x
+  beneath-kept st t q k x = λ i. overlay (entries geo (k .settled i) (k .n i)) (blockAt (k .settled i)) x
 
   -- once what waits has settled it is S
   module _ (st : State) (l : Ledger) (d : Plain) (o : OpenSim geo st l d) where
-    pub beneath-flushed : (t : State) → Holds (flushedBytes geo st) st t → (x : ℕ) → isData geo (st .rec .blocks) x ≡ true → beneath t x ≡ d .S .disk x
-    beneath-flushed t k x h =
+    pub beneath-flushed : (t : State) (q : List Entry) → Holds (flushedBytes geo st) q st t → (x : ℕ) → isData geo (st .rec .blocks) x ≡ true → beneath t x ≡ d .S .disk x
+    beneath-flushed t q k x h =
         (λ i. overlay (entries geo (k .settled i) (k .n i)) (blockAt (k .settled i)) x)
         ∙ ap (λ (es : List Entry). overlay es (blockAt (flushedBytes geo st)) x) (entries-disk geo (flushedBytes geo st) (st .rec .logged))
         ∙ sym (o .card .disk x h tt)
 
     pub beneath-none : st .rec .waiting ≡ 0 → (x : ℕ) → isData geo (st .rec .blocks) x ≡ true → beneath st x ≡ d .S .disk x
-    beneath-none z = beneath-flushed st (record { settled = sym (flushed-none (cardIn st) (no-queue (cardIn st) z)); n = refl; N = refl; opened = λ e. e })
+    beneath-none z = beneath-flushed st (queue (cardIn st)) (record { settled = sym (flushed-none (cardIn st) (no-queue (cardIn st) z)); waits = refl; n = refl; N = refl; opened = λ e. e })
 
   -- ---- the calls
 
   module _ (st : State) where
-    local-kept : (c : Local) → Holds (st .settled) st (servedLocal geo c st)
-    local-kept (Local.power k) = record { settled = refl; n = refl; N = refl; opened = λ e. e }
+    local-kept : (c : Local) → Keeps st (servedLocal geo c st)
+    unfolding queue
+    local-kept (Local.power k) = record { settled = refl; waits = refl; n = refl; N = refl; opened = λ e. e }
     local-kept (Local.put a b) = go (find (st .work) openFrom (st .rec .opened) a)
       where
-        go : (r : Found) → Holds (st .settled) st (putAt r (record { address = a; block = b }) st)
-        go (At i) = record { settled = refl; n = refl; N = refl; opened = λ e. e }
-        go Absent = record { settled = refl; n = refl; N = refl; opened = λ e. e }
-    local-kept (Local.get a) = record { settled = refl; n = refl; N = refl; opened = λ e. e }
-    local-kept (Local.getList xs bs) = record { settled = refl; n = refl; N = refl; opened = λ e. e }
-    local-kept Local.commit = record { settled = refl; n = refl; N = refl; opened = λ e. e }
-    local-kept Local.abandon = record { settled = refl; n = refl; N = refl; opened = λ e. e }
+        go : (r : Found) → Keeps st (putAt r (record { address = a; block = b }) st)
+        go (At i) = record { settled = refl; waits = refl; n = refl; N = refl; opened = λ e. e }
+        go Absent = record { settled = refl; waits = refl; n = refl; N = refl; opened = λ e. e }
+    local-kept (Local.get a) = record { settled = refl; waits = refl; n = refl; N = refl; opened = λ e. e }
+    local-kept (Local.getList xs bs) = record { settled = refl; waits = refl; n = refl; N = refl; opened = λ e. e }
+    local-kept Local.commit = record { settled = refl; waits = refl; n = refl; N = refl; opened = λ e. e }
+    local-kept Local.abandon = record { settled = refl; waits = refl; n = refl; N = refl; opened = λ e. e }
 
-    pub local-holds : (c : Local) → Holds (st .settled) st (dispatch geo (local c) st .state)
+    pub local-holds : (c : Local) → Keeps st (dispatch geo (local c) st .state)
     unfolding called
-    local-holds c = unless-either (λ o. Holds (st .settled) st (o .state)) (cause geo (Request.local c) st) st (completed (servedLocal geo c st)) (λ e. local-kept c) (itself st)
+    local-holds c = unless-either (λ o. Keeps st (o .state)) (cause geo (Request.local c) st) st (completed (servedLocal geo c st)) (λ e. local-kept c) (itself st)
 
     -- an apply of an empty log
-    pub apply-holds : st .rec .logged ≡ 0 → Holds (st .settled) st (dispatch geo apply st .state)
+    pub apply-holds : st .rec .logged ≡ 0 → Keeps st (dispatch geo apply st .state)
     unfolding called
-    apply-holds z = unless-either (λ o. Holds (st .settled) st (o .state)) (cause geo Request.apply st) st (applying geo st) (λ e. rw (eq-eqb (st .rec .logged) 0 z) (itself st)) (itself st)
+    apply-holds z = unless-either (λ o. Keeps st (o .state)) (cause geo Request.apply st) st (applying geo st) (λ e. rw (eq-eqb (st .rec .logged) 0 z) (itself st)) (itself st)
 
     -- a call that keeps its record, carried out or cut short
-    carried-holds : (s : List ℕ) (os : List Order) → run os (cardIn st) .settled ≡ s → Holds s st (carried os (st .rec) (st .rec) st .state)
+    carried-holds : (s : List ℕ) (q : List Entry) (os : List Order) → run os (cardIn st) .settled ≡ s → queue (run os (cardIn st)) ≡ q → Holds s q st (carried os (st .rec) (st .rec) st .state)
     unfolding carried
-    carried-holds s os e = record { settled = e; n = go (leb (length os) (st .rec .power)) .0; N = go (leb (length os) (st .rec .power)) .1; opened = go (leb (length os) (st .rec .power)) .2 }
+    carried-holds s q os e f = record { settled = e; waits = f; n = go (leb (length os) (st .rec .power)) .0; N = go (leb (length os) (st .rec .power)) .1; opened = go (leb (length os) (st .rec .power)) .2 }
       where
         go : (t : Bool)
             → (cond t (st .rec) (withMode down (st .rec)) .logged ≡ st .rec .logged)
@@ -103,37 +111,65 @@ module _ (geo : Geometry) where
         go true = (refl, refl, λ e. e)
         go false = (refl, refl, λ e. absurd (omega arith))
 
-    module _ (a : ℕ) (b : List ℕ) where
-      -- one write settles nothing
-      one-write : (c : Card) → run (directWrite a b ∷ []) c .settled ≡ c .settled
-      unfolding run order
-      one-write c = go (eqb (c .power) 0)
-        where
-          go : (t : Bool) → cond t c (order (directWrite a b) c) .settled ≡ c .settled
-          go true = refl
-          go false = refl
+    -- it was carried out if the record is open
+    open-enough : (os : List Order) → carried os (st .rec) (st .rec) st .state .rec .mode ≡ openMode → length os ≤ st .rec .power
+    unfolding carried
+    open-enough os m = go (decLe (length os) (st .rec .power))
+      where
+        go : Dec (length os ≤ st .rec .power) → length os ≤ st .rec .power
+        go (yes l) = l
+        go (no l) = absurd (let k : leb (length os) (st .rec .power) ≡ false = lt-leb (length os) (st .rec .power) (omega arith) in let q : _≡_ {A = ℕ} 2 1 = sym (ap (λ (t : Bool). cond t (st .rec) (withMode down (st .rec)) .mode) k) ∙ m in omega arith)
+
+    -- a direct write that is not refused
+    module _ (a : ℕ) (b : List ℕ) (h : cause geo (Request.direct a b) st ≡ 0) where
+      abbrev e : Entry
+      e = record { address = a; block = b }
+
+      o : IsOpen geo st
+      o = cause-opened geo (Request.direct a b) st refl refl h
+
+      whole : Whole e
+      whole = eqb-true _ _ (not-false _ (cause-passes geo (Request.direct a b) st h .block))
+
+      narrow : NarrowAddress e
+      narrow =
+          let k : a < st .rec .blocks = data-below geo (st .rec .blocks) a (not-false _ (cause-passes geo (Request.direct a b) st h .own .0)) in
+          omega (arith, o .facts .sizes .most, o .facts .counts .blocks)
+
+      -- one write settles nothing, and waits behind the others
+      one-write : (c : Card) → length (c .waiting) ≡ length (st .waiting) → c .count ≤ geo .direct → 1 ≤ c .power
+          → (run (directWrite a b ∷ []) c .settled ≡ c .settled) × (queue (run (directWrite a b ∷ []) c) ≡ queue c ++ (e ∷ []))
+      one-write c size few l = (
+        writes-settled (e ∷ []) c,
+        ap queue (run-one (directWrite a b) c l) ∙ queue-write e c (omega (arith, o .facts .sizes .waiting, geo .queued)) whole narrow,
+      )
 
       -- a flush before it settles all that waits
-      flush-write : (c : Card) → 1 ≤ c .power → run (flush ∷ directWrite a b ∷ []) c .settled ≡ order flush c .settled
-      unfolding run
-      flush-write c l = rw (ne-eqb (c .power) 0 (λ z. omega arith)) (one-write (order flush c))
+      flush-write : (c : Card) → length (c .waiting) ≡ length (st .waiting) → 2 ≤ c .power
+          → (run (flush ∷ directWrite a b ∷ []) c .settled ≡ order flush c .settled) × (queue (run (flush ∷ directWrite a b ∷ []) c) ≡ e ∷ [])
+      unfolding order
+      flush-write c size l =
+          let r = one-write (order flush c) size (omega arith) (omega arith) in
+          let at : run (flush ∷ directWrite a b ∷ []) c ≡ run (directWrite a b ∷ []) (order flush c) = run-live flush (directWrite a b ∷ []) c (omega arith) in
+          (ap (λ (x : Card). x .settled) at ∙ r .0, ap queue at ∙ r .1 ∙ ap (λ (q : List Entry). q ++ (e ∷ [])) (no-queue (order flush c) refl))
 
-      pub direct-holds : eqb (st .rec .waiting) (geo .direct) ≡ false → Holds (st .settled) st (dispatch geo (direct a b) st .state)
+      pub direct-holds : eqb (st .rec .waiting) (geo .direct) ≡ false → dispatch geo (direct a b) st .state .rec .mode ≡ openMode
+          → Holds (st .settled) (queue (cardIn st) ++ (e ∷ [])) st (dispatch geo (direct a b) st .state)
       unfolding called directOrders
-      direct-holds z =
-          unless-either (λ o. Holds (st .settled) st (o .state)) (cause geo (Request.direct a b) st) st (directing geo a b st)
-          (λ e. rw z (carried-holds (st .settled) (directWrite a b ∷ []) (one-write (cardIn st))))
-          (itself st)
-
-      pub direct-flushes : cause geo (Request.direct a b) st ≡ 0 → eqb (st .rec .waiting) (geo .direct) ≡ true → dispatch geo (direct a b) st .state .rec .mode ≡ openMode
-          → Holds (flushedBytes geo st) st (dispatch geo (direct a b) st .state)
-      unfolding called directOrders carried order
-      direct-flushes e z = rw (eq-eqb (cause geo (Request.direct a b) st) 0 e, z) (go (decLe 2 (st .rec .power)))
+      direct-holds z = rw (eq-eqb (cause geo (Request.direct a b) st) 0 h, z) go
         where
-          go : Dec (2 ≤ st .rec .power) → cond (leb 2 (st .rec .power)) (st .rec) (withMode down (st .rec)) .mode ≡ openMode
-              → Holds (flushedBytes geo st) st (carried (flush ∷ directWrite a b ∷ []) (st .rec) (st .rec) st .state)
-          go (yes l) m = carried-holds (flushedBytes geo st) (flush ∷ directWrite a b ∷ []) (flush-write (cardIn st) (omega arith))
-          go (no l) m = absurd (let k : leb 2 (st .rec .power) ≡ false = lt-leb 2 (st .rec .power) (omega arith) in let q : _≡_ {A = ℕ} 2 1 = sym (ap (λ (t : Bool). cond t (st .rec) (withMode down (st .rec)) .mode) k) ∙ m in omega arith)
+          go : carried (directWrite a b ∷ []) (st .rec) (st .rec) st .state .rec .mode ≡ openMode
+              → Holds (st .settled) (queue (cardIn st) ++ (e ∷ [])) st (carried (directWrite a b ∷ []) (st .rec) (st .rec) st .state)
+          go m = let r = one-write (cardIn st) refl (few-wait geo st (o .facts .counts) (o .mode)) (open-enough (directWrite a b ∷ []) m) in carried-holds _ _ (directWrite a b ∷ []) (r .0) (r .1)
+
+      pub direct-flushes : eqb (st .rec .waiting) (geo .direct) ≡ true → dispatch geo (direct a b) st .state .rec .mode ≡ openMode
+          → Holds (flushedBytes geo st) (e ∷ []) st (dispatch geo (direct a b) st .state)
+      unfolding called directOrders order
+      direct-flushes z = rw (eq-eqb (cause geo (Request.direct a b) st) 0 h, z) go
+        where
+          go : carried (flush ∷ directWrite a b ∷ []) (st .rec) (st .rec) st .state .rec .mode ≡ openMode
+              → Holds (flushedBytes geo st) (e ∷ []) st (carried (flush ∷ directWrite a b ∷ []) (st .rec) (st .rec) st .state)
+          go m = let r = flush-write (cardIn st) refl (open-enough (flush ∷ directWrite a b ∷ []) m) in carried-holds _ _ (flush ∷ directWrite a b ∷ []) (r .0) (r .1)
 
 -- ---- the plain disk behind a sync or an apply: open, nothing waits
 

@@ -4,13 +4,16 @@ use Prim.Native.Nat.{ℕ, _≤_}
 use mathlib.Core.Path.{_≡_, refl, ap, sym, subst, _∙_}
 use mathlib.Core.Logic.{_≢_, _⊎_}
 use mathlib.Core.Bool.{Bool, true, false}
-use mathlib.Core.List.{List, [], _∷_}
+use mathlib.Core.List.{List, [], _∷_, _++_, append-nil}
 use native.Mathlib.Omega.{arith}
 use native.Mathlib.Decide.{ℕ-discrete}
 use borrow.Author.Tests.{ne-eqb}
 use lib.Dec.{eqb}
 use lib.ListN.{length}
 use Rattle.cells.specs.Upto.Laws.{length-upTo}
+use Rattle.cells.specs.Entry.{Entry}
+use Rattle.card.specs.Card.{queue}
+use Rattle.crash.proofs.Batches.{no-queue}
 use Rattle.journal.specs.Geometry.{Geometry}
 use Rattle.journal.specs.Layout.{isData}
 use Rattle.journal.specs.Header.{mostSave}
@@ -18,7 +21,7 @@ use Rattle.journal.specs.Log.{entries}
 use Rattle.store.specs.Save as Save
 use Rattle.store.specs.Save.{Save}
 use Rattle.store.specs.Request as Request
-use Rattle.store.specs.State.{State, Outcome, closed, openMode}
+use Rattle.store.specs.State.{State, Outcome, closed, openMode, cardIn}
 use Rattle.store.specs.Lists.{openFrom, groupFrom, listed, listOf}
 use Rattle.store.specs.Causes.{cause}
 use Rattle.store.specs.Saves.{groupOf}
@@ -36,7 +39,7 @@ use Rattle.history.proofs.Steps.Local.{is-open}
 use Rattle.history.proofs.Steps.ListInduction.{step, next-sim}
 use Rattle.history.proofs.Twins.Regrouped.{regrouped, Steady, same-refusal, same-answer, same-plain}
 use Rattle.history.proofs.Twins.LastNumber.{cut-accepted, recover-refused, goes, stays-last}
-use Rattle.history.proofs.Twins.Homes.{beneath, Holds, itself, beneath-kept, beneath-flushed, beneath-none, local-holds, apply-holds, direct-holds, direct-flushes, sync-empties, apply-empties}
+use Rattle.history.proofs.Twins.Homes.{beneath, Holds, Keeps, itself, beneath-kept, beneath-flushed, beneath-none, local-holds, apply-holds, direct-holds, direct-flushes, sync-empties, apply-empties}
 
 -- ---- the headers of a save, by what they are computed from
 
@@ -58,9 +61,12 @@ module _ (geo : Geometry) where
 
   -- ---- the relation
 
-  -- while open the settled data blocks under the log are the same: what alike reads
+  -- while open the settled data blocks under the log are the same, which alike reads, and so are the direct writes that wait
+  abbrev pub SameHomes : State → State → Type 0
+  SameHomes a b = a .rec .mode ≡ openMode → ((x : ℕ) → isData geo (a .rec .blocks) x ≡ true → beneath geo a x ≡ beneath geo b x) × (queue (cardIn a) ≡ queue (cardIn b))
+
   abbrev pub Homes : World → World → Type 0
-  Homes w v = w .store .rec .mode ≡ openMode → (x : ℕ) → isData geo (w .store .rec .blocks) x ≡ true → beneath geo (w .store) x ≡ beneath geo (v .store) x
+  Homes w v = SameHomes (w .store) (v .store)
 
   pub record Twins (w v : World) : Type 0 where
     pub first : WorldSim geo w
@@ -79,14 +85,19 @@ module _ (geo : Geometry) where
       go (_⊎_.inr (_⊎_.inl o)) = absurd (omega (arith, o .mode))
       go (_⊎_.inr (_⊎_.inr o)) = absurd (omega (arith, o .mode))
 
-  -- where nothing waits both are S
+  -- where nothing waits both cards are S
   pub homes-none : (w v : World) → WorldSim geo w → WorldSim geo v → (g : ℕ) → v .plain ≡ regrouped g (w .plain) → w .plain .waiting ≡ 0 → Homes w v
-  homes-none w v m n g p z e x h =
+  homes-none w v m n g p z e =
       let f : v .store .rec .mode ≡ openMode = sym (n .basics .mirrors .mode) ∙ ap (λ (d : Plain). d .mode) p ∙ m .basics .mirrors .mode ∙ e in
       let size : w .store .rec .blocks ≡ v .store .rec .blocks = sym (m .basics .mirrors .N) ∙ sym (ap (λ (d : Plain). d .N) p) ∙ n .basics .mirrors .N in
-      beneath-none geo (w .store) (w .ledger) (w .plain) (open-sim w m e) (sym (m .basics .mirrors .waiting) ∙ z) x h
-      ∙ sym (ap (λ (d : Plain). d .S .disk x) p)
-      ∙ sym (beneath-none geo (v .store) (v .ledger) (v .plain) (open-sim v n f) (sym (n .basics .mirrors .waiting) ∙ ap (λ (d : Plain). d .waiting) p ∙ z) x (ap (λ (N : ℕ). isData geo N x) (sym size) ∙ h))
+      let i : w .store .rec .waiting ≡ 0 = sym (m .basics .mirrors .waiting) ∙ z in
+      let j : v .store .rec .waiting ≡ 0 = sym (n .basics .mirrors .waiting) ∙ ap (λ (d : Plain). d .waiting) p ∙ z in (
+        λ x h.
+            beneath-none geo (w .store) (w .ledger) (w .plain) (open-sim w m e) i x h
+            ∙ sym (ap (λ (d : Plain). d .S .disk x) p)
+            ∙ sym (beneath-none geo (v .store) (v .ledger) (v .plain) (open-sim v n f) j x (ap (λ (N : ℕ). isData geo N x) (sym size) ∙ h)),
+        no-queue (cardIn (w .store)) i ∙ sym (no-queue (cardIn (v .store)) j),
+      )
 
   module _ (w v : World) (t : Twins w v) where
     abbrev d : Plain
@@ -145,26 +156,34 @@ module _ (geo : Geometry) where
     pub same-size : w .store .rec .blocks ≡ v .store .rec .blocks
     same-size = sym (t .first .basics .mirrors .N) ∙ sym (as-first (λ (x : Plain). x .N)) ∙ t .second .basics .mirrors .N
 
-    -- ---- the settled data blocks behind a call
+    -- ---- the settled data blocks and what waits behind a call
 
-    module _ (a b : State) where
-      abbrev SameHomes : Type 0
-      SameHomes = a .rec .mode ≡ openMode → (x : ℕ) → isData geo (a .rec .blocks) x ≡ true → beneath geo a x ≡ beneath geo b x
+    module _ (a b : State) (es : List Entry) where
+      -- both were kept, and the writes es wait behind
+      more-homes : Holds geo (w .store .settled) (queue (cardIn (w .store)) ++ es) (w .store) a → Holds geo (v .store .settled) (queue (cardIn (v .store)) ++ es) (v .store) b → SameHomes a b
+      more-homes p q e =
+          let k = t .homes (p .opened e) in (
+            λ x h.
+                beneath-kept geo (w .store) a _ p x
+                ∙ k .0 x (ap (λ (N : ℕ). isData geo N x) (sym (p .N)) ∙ h)
+                ∙ sym (beneath-kept geo (v .store) b _ q x),
+            p .waits ∙ ap (λ (l : List Entry). l ++ es) (k .1) ∙ sym (q .waits),
+          )
 
-      -- both were kept
-      kept-homes : Holds geo (w .store .settled) (w .store) a → Holds geo (v .store .settled) (v .store) b → SameHomes
-      kept-homes p q e x h =
-          beneath-kept geo (w .store) a p x
-          ∙ t .homes (p .opened e) x (ap (λ (N : ℕ). isData geo N x) (sym (p .N)) ∙ h)
-          ∙ sym (beneath-kept geo (v .store) b q x)
+      -- what waited has settled on both, and the writes es wait
+      flushed-homes : Holds geo (flushedBytes geo (w .store)) es (w .store) a → Holds geo (flushedBytes geo (v .store)) es (v .store) b → SameHomes a b
+      flushed-homes p q e = (
+        λ x h.
+            let k : isData geo (w .store .rec .blocks) x ≡ true = ap (λ (N : ℕ). isData geo N x) (sym (p .N)) ∙ h in
+            beneath-flushed geo (w .store) (w .ledger) d (first-open (p .opened e)) a es p x k
+            ∙ sym (as-first (λ (y : Plain). y .S .disk x))
+            ∙ sym (beneath-flushed geo (v .store) (v .ledger) (v .plain) (second-open (p .opened e)) b es q x (ap (λ (N : ℕ). isData geo N x) (sym same-size) ∙ k)),
+        p .waits ∙ sym (q .waits),
+      )
 
-      -- what waited has settled on both
-      flushed-homes : Holds geo (flushedBytes geo (w .store)) (w .store) a → Holds geo (flushedBytes geo (v .store)) (v .store) b → SameHomes
-      flushed-homes p q e x h =
-          let k : isData geo (w .store .rec .blocks) x ≡ true = ap (λ (N : ℕ). isData geo N x) (sym (p .N)) ∙ h in
-          beneath-flushed geo (w .store) (w .ledger) d (first-open (p .opened e)) a p x k
-          ∙ sym (as-first (λ (y : Plain). y .S .disk x))
-          ∙ sym (beneath-flushed geo (v .store) (v .ledger) (v .plain) (second-open (p .opened e)) b q x (ap (λ (N : ℕ). isData geo N x) (sym same-size) ∙ k))
+    -- both were kept, and no more waits
+    kept-homes : (a b : State) → Keeps geo (w .store) a → Keeps geo (v .store) b → SameHomes a b
+    kept-homes a b p q = more-homes a b [] (subst (λ (l : List Entry). Holds geo (w .store .settled) l (w .store) a) (sym (append-nil _)) p) (subst (λ (l : List Entry). Holds geo (v .store .settled) l (v .store) b) (sym (append-nil _)) q)
 
     -- ---- a call, where neither save number is the largest
 
@@ -219,7 +238,7 @@ module _ (geo : Geometry) where
       served-ledger (save q) h u = saved-ledger q h
       served-ledger (cut ms) h u = absurd (u ms refl (cut-accepted geo (w .store) ms h))
 
-      -- the settled data blocks behind a call that is not refused: kept, or settled, or nothing waits
+      -- behind a call that is not refused: kept, or one write more waits, or what waited has settled, or nothing waits
       served-homes : (c : Call) → cause geo (requestOf c) (w .store) ≡ 0 → ((ms : List ℕ) → c ≡ cut ms → dispatch geo c (w .store) .answer ≢ 0)
           → WorldSim geo (next geo c w) → WorldSim geo (next geo c v) → (g : ℕ) → next geo c v .plain ≡ regrouped g (next geo c w .plain) → Homes (next geo c w) (next geo c v)
       unfolding next
@@ -229,11 +248,15 @@ module _ (geo : Geometry) where
           other : {s : Bool} → eqb (w .store .rec .waiting) (geo .direct) ≡ s → eqb (v .store .rec .waiting) (geo .direct) ≡ s
           other z = ap (λ (k : ℕ). eqb k (geo .direct)) (sym same-waiting) ∙ z
 
+          accepted : cause geo (Request.direct a b) (v .store) ≡ 0
+          accepted = sym (same-row (direct a b)) ∙ h
+
+          opened : next geo (direct a b) w .store .rec .mode ≡ openMode → next geo (direct a b) v .store .rec .mode ≡ openMode
+          opened e = sym (n .basics .mirrors .mode) ∙ ap (λ (y : Plain). y .mode) p ∙ m .basics .mirrors .mode ∙ e
+
           go : (s : Bool) → eqb (w .store .rec .waiting) (geo .direct) ≡ s → Homes (next geo (direct a b) w) (next geo (direct a b) v)
-          go false z = kept-homes _ _ (direct-holds geo (w .store) a b z) (direct-holds geo (v .store) a b (other z))
-          go true z = λ e.
-              let f : next geo (direct a b) v .store .rec .mode ≡ openMode = sym (n .basics .mirrors .mode) ∙ ap (λ (y : Plain). y .mode) p ∙ m .basics .mirrors .mode ∙ e in
-              flushed-homes _ _ (direct-flushes geo (w .store) a b h z e) (direct-flushes geo (v .store) a b (sym (same-row (direct a b)) ∙ h) (other z) f) e
+          go false z = λ e. more-homes _ _ _ (direct-holds geo (w .store) a b h z e) (direct-holds geo (v .store) a b accepted (other z) (opened e)) e
+          go true z = λ e. flushed-homes _ _ _ (direct-flushes geo (w .store) a b h z e) (direct-flushes geo (v .store) a b accepted (other z) (opened e)) e
       served-homes (save Save.sync) h u m n g p = λ e.
           homes-none (next geo sync w) (next geo sync v) m n g p
           (let q = plain-served geo sync (fed geo sync w) d (sym (same-cause geo (w .store) (w .ledger) d (t .first) sync) ∙ h) in
@@ -259,8 +282,8 @@ module _ (geo : Geometry) where
         unfolding next
         next-homes m n g p = go (ℕ-discrete (cause geo (requestOf c) (w .store)) 0)
           where
-            same-state : (st : State) → cause geo (requestOf c) st ≢ 0 → Holds geo (st .settled) st (dispatch geo c st .state)
-            same-state st h = subst (Holds geo (st .settled) st) (sym (ap (λ (o : Outcome). o .state) (dispatch-refused geo c st h))) (itself geo st)
+            same-state : (st : State) → cause geo (requestOf c) st ≢ 0 → Keeps geo st (dispatch geo c st .state)
+            same-state st h = subst (Keeps geo st) (sym (ap (λ (o : Outcome). o .state) (dispatch-refused geo c st h))) (itself geo st)
 
             go : Dec (cause geo (requestOf c) (w .store) ≡ 0) → Homes (next geo c w) (next geo c v)
             go (no h) = kept-homes _ _ (same-state (w .store) h) (same-state (v .store) (λ z. h (same-row c ∙ z)))

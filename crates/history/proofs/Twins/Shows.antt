@@ -206,8 +206,9 @@ module _ (geo : Geometry) (w v : World) (t : Twins geo w v) (e : w .store .rec .
           slots = same-slots;
           laid = λ x y.
               open-laid geo w (t .first) p x
-              ∙ t .homes e x (ap (λ (N : ℕ). isData geo N x) (open-size geo w (t .first) p) ∙ y)
+              ∙ t .homes e .0 x (ap (λ (N : ℕ). isData geo N x) (open-size geo w (t .first) p) ∙ y)
               ∙ sym (open-laid geo v (t .second) q x);
         });
     rec = same-records;
+    queue = t .homes e .1;
   }
