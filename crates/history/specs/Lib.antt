@@ -11,6 +11,7 @@ pub mod Scripts
 pub mod Refusals
 pub mod Costs
 pub mod GetLists
+pub mod Directs
 pub mod AlikeCards
 pub mod Linked
 pub mod Worked
