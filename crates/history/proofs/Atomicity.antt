@@ -5,3 +5,4 @@ pub mod ShortSyncs
 pub mod Finished
 pub mod Counts
 pub mod Splits
+pub mod Photos
