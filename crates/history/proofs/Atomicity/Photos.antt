@@ -411,3 +411,142 @@ module _ (geo : Geometry) (x : ℕ) where
     save-quiet Save.apply h =
         quiet-by apply _ h refl refl (λ t. let k = apply-keeps (opened-by apply refl h) t in (k .0, subst (Adds x (cardIn st)) (sym (apply-card h)) (k .1)))
     save-quiet Save.recover h = recover-quiet h
+
+    -- ---- a direct write
+
+    module _ (a : ℕ) (y : List ℕ) (h : refusal geo (direct a y) (w .plain) ≡ 0) where
+      abbrev e : Entry
+      e = record { address = a; block = y }
+
+      o : OpenSim geo (w .store) (w .ledger) (w .plain)
+      o = opened-by (direct a y) refl h
+
+      direct-card : cardIn (storeNext geo (direct a y) w) ≡ run (directOrders geo a y st) (cardIn st)
+      unfolding carried
+      direct-card = ap (λ (p : Outcome). cardIn (p .state)) (serve (direct a y) h)
+
+      direct-answer : dispatch geo (direct a y) st .answer ≡ cond (leb (length (directOrders geo a y st)) (st .rec .power)) 0 4
+      unfolding carried
+      direct-answer = ap (λ (p : Outcome). p .answer) (serve (direct a y) h)
+
+      whole : Whole e
+      whole = eqb-true _ _ (not-false _ (cause-passes geo (Request.direct a y) st (row (direct a y) h) .block))
+
+      place : Waits geo st e
+      place =
+          let q = cause-passes geo (Request.direct a y) st (row (direct a y) h) .own in
+          (not-false _ (q .0), sym (slot-among geo (st .settled) a (st .rec .logged)) ∙ neither (isFound (find (st .work) openFrom (st .rec .opened) a) || isFound (find (st .work) (groupFrom geo) (st .rec .grouped) a)) (isFound (lastSlot (st .settled) a (st .rec .logged))) (q .1 .0) .1)
+
+      narrow : NarrowAddress e
+      narrow = let k : a < st .rec .blocks = data-below geo (st .rec .blocks) a (place .0) in omega (arith, sizes-facts geo st (b .sizes) .most, record-facts geo st (b .counts) .blocks)
+
+      takes : length (directOrders geo a y st) ≡ directTakes geo (d .waiting)
+      unfolding directOrders
+      takes = ap (λ (k : ℕ). length (cond (eqb k (geo .direct)) (flush ∷ directWrite a y ∷ []) (directWrite a y ∷ []))) (sym (b .mirrors .waiting)) ∙ go (eqb (d .waiting) (geo .direct))
+        where
+          go : (t : Bool) → length (cond t (flush ∷ directWrite a y ∷ []) (directWrite a y ∷ [])) ≡ cond t 2 1
+          go true = refl
+          go false = refl
+
+      -- cut short
+      short-done : d .power < directTakes geo (d .waiting) → directDone geo (direct a y) w ≡ false
+      unfolding directDone
+      short-done l =
+          let k : leb (length (directOrders geo a y st)) (st .rec .power) ≡ false = lt-leb (length (directOrders geo a y st)) (st .rec .power) (omega (arith, takes, b .power)) in
+          ap (λ (i : ℕ). eqb i 0) (direct-answer ∙ ap (λ (t : Bool). cond {A = ℕ} t 0 4) k)
+
+      short-direct : d .power < directTakes geo (d .waiting) → Quiet (direct a y) w
+      unfolding flushes
+      short-direct l =
+          quiet-by (direct a y) _ h (short-done l) (direct-short geo a y d l)
+          (λ t. let u = among-kept x (ltb 0 (d .power)) (d .writes) t in (u .1, subst (Adds x (cardIn st)) (sym direct-card) (go (decLe 1 (d .power)) (u .0))))
+        where
+          go : Dec (1 ≤ d .power) → ltb 0 (d .power) ≡ false → Adds x (cardIn st) (run (directOrders geo a y st) (cardIn st))
+          go (yes p) f = absurd (false≢true (sym f ∙ lt-ltb 0 (d .power) (omega arith)))
+          go (no p) f = dead-adds o (directOrders geo a y st) (omega arith)
+
+      -- done
+      whole-done : directTakes geo (d .waiting) ≤ d .power → directDone geo (direct a y) w ≡ true
+      unfolding directDone
+      whole-done l =
+          let k : leb (length (directOrders geo a y st)) (st .rec .power) ≡ true = le-leb (length (directOrders geo a y st)) (st .rec .power) (omega (arith, takes, b .power)) in
+          ap (λ (i : ℕ). eqb i 0) (direct-answer ∙ ap (λ (t : Bool). cond {A = ℕ} t 0 4) k)
+
+      done-writes : directTakes geo (d .waiting) ≤ d .power → plainNext geo (direct a y) w .writes ≡ cond (eqb (d .waiting) (geo .direct)) [] (d .writes) ++ (a ∷ [])
+      done-writes l = ap (λ (p : Done). p .plain .writes) (plain-served geo (direct a y) (fed geo (direct a y) w) d h ∙ direct-done geo a y d l)
+
+      -- the card then, with room
+      abbrev r : Card
+      r = cardIn (storeNext geo (direct a y) w)
+
+      room-card : d .waiting ≢ geo .direct → 1 ≤ d .power → (queue (cardIn (storeNext geo (direct a y) w)) ≡ queue (cardIn st) ++ (e ∷ [])) × (storeNext geo (direct a y) w .settled ≡ st .settled)
+      unfolding directOrders
+      room-card z l =
+          let os : directOrders geo a y st ≡ directWrite a y ∷ [] = ap (λ (t : Bool). cond t (flush ∷ directWrite a y ∷ []) (directWrite a y ∷ [])) (ne-eqb (st .rec .waiting) (geo .direct) (λ k. z (b .mirrors .waiting ∙ k))) in
+          let c : cardIn (storeNext geo (direct a y) w) ≡ run (directWrite a y ∷ []) (cardIn st) = direct-card ∙ ap (λ (l : List Order). run l (cardIn st)) os in
+          let k = writes-all (e ∷ []) (cardIn st) (omega (arith, Facts.few geo st (w .ledger) d b o, sizes-facts geo st (b .sizes) .waiting, geo .queued)) (whole, tt) (narrow, tt) (omega (arith, b .power)) in
+          (ap queue c ∙ k .0, ap (λ (i : Card). i .settled) c ∙ k .1)
+
+      -- flushed first
+      full-card : d .waiting ≡ geo .direct → 2 ≤ d .power → (queue (cardIn (storeNext geo (direct a y) w)) ≡ e ∷ []) × (storeNext geo (direct a y) w .settled ≡ flushedBytes geo st)
+      unfolding directOrders
+      full-card z l =
+          let os : directOrders geo a y st ≡ flush ∷ directWrite a y ∷ [] = ap (λ (t : Bool). cond t (flush ∷ directWrite a y ∷ []) (directWrite a y ∷ [])) (eq-eqb (st .rec .waiting) (geo .direct) (sym (b .mirrors .waiting) ∙ z)) in
+          let c : cardIn (storeNext geo (direct a y) w) ≡ run (directWrite a y ∷ []) (run (flush ∷ []) (cardIn st)) = direct-card ∙ ap (λ (l : List Order). run l (cardIn st)) os ∙ run-append (flush ∷ []) (directWrite a y ∷ []) (cardIn st) in
+          let f = queued-done (cardIn st) [] (record { places = omega (arith, Facts.few geo st (w .ledger) d b o, sizes-facts geo st (b .sizes) .waiting, geo .queued); whole = tt; low = tt }) (omega (arith, b .power)) in
+          let k = writes-all (e ∷ []) (run (flush ∷ []) (cardIn st)) (omega (arith, f .count, f .room, sizes-facts geo st (b .sizes) .waiting, geo .queued)) (whole, tt) (narrow, tt) (omega (arith, b .power, f .power)) in
+          (ap queue c ∙ k .0 ∙ ap (λ (q : List Entry). q ++ (e ∷ [])) (f .waits),
+          ap (λ (i : Card). i .settled) c ∙ k .1 ∙ f .settled ∙ ap (λ (q : List Entry). settle q (st .settled)) (append-nil (queue (cardIn st))))
+
+      -- what S has at a block that is written to: what is settled, once what waits there is
+      log-off : All (λ i. a ≢ i .address) (Facts.log geo st (w .ledger) d b o)
+      log-off = firm-besides a _ (ap (λ (l : List Entry). among a (addresses l)) (sym (Facts.entries-log geo st (w .ledger) d b o)) ∙ place .1)
+
+      flushed-block : blockAt (flushedBytes geo st) a ≡ d .S .disk a
+      flushed-block =
+          sym (o .card .disk a (place .0) tt
+          ∙ ap (λ (l : List Entry). overlay l (blockAt (flushedBytes geo st)) a) (Facts.flushed-log geo st (w .ledger) d b o)
+          ∙ overlay-other (Facts.log geo st (w .ledger) d b o) (blockAt (flushedBytes geo st)) a log-off)
+
+      settled-block : among a (d .writes) ≡ false → blockAt (st .settled) a ≡ d .S .disk a
+      settled-block n =
+          sym (Facts.open-disk geo st (w .ledger) d b o a (place .0)
+          ∙ overlay-other (Facts.log geo st (w .ledger) d b o) (overlay (queue (cardIn st)) (blockAt (st .settled))) a log-off
+          ∙ overlay-other (queue (cardIn st)) (blockAt (st .settled)) a (firm-besides a (queue (cardIn st)) (sym (ap (among a) (writes-is o)) ∙ n)))
+
+      -- ---- the photo behind it
+
+      -- another one, over what waited
+      shot-grown : (p : Photo) → a ≡ x → (among x (d .writes) ≡ true → Shot x (cardIn st) p) → (among x (d .writes) ≡ false → p ≡ noPhoto) → d .waiting ≢ geo .direct → 1 ≤ d .power
+          → Shot x (cardIn (storeNext geo (direct a y) w)) (photographed y (d .S .disk x) p)
+      shot-grown p here some none z l = go (among x (d .writes)) refl
+        where
+          k : (queue (cardIn (storeNext geo (direct a y) w)) ≡ queue (cardIn st) ++ (e ∷ [])) × (storeNext geo (direct a y) w .settled ≡ st .settled)
+          k = room-card z l
+
+          go : (t : Bool) → among x (d .writes) ≡ t → Shot x (cardIn (storeNext geo (direct a y) w)) (photographed y (d .S .disk x) p)
+          go true t =
+              let s = some t in
+              let more : length (p .blocks) ≢ 0 = λ n. among-all (λ j. j ≡ x → ⊥) x (queue (cardIn st)) (sym (ap (among x) (writes-is o)) ∙ t)
+              (all-map (OneOf x (p .blocks)) (λ i. i .address ≡ x → ⊥) (λ i f q. let u = f q in omega (arith, u .1)) (queue (cardIn st)) (s .blocks)) refl in
+              shot-more x y (d .S .disk x) a (cardIn st) (cardIn (storeNext geo (direct a y) w)) p here (k .1) (k .0) (s .before ∙ sym (ap (λ (u : Bool). cond u (d .S .disk x) (p .before)) (ne-eqb _ 0 more))) (s .blocks)
+          go false t =
+              let empty : length (p .blocks) ≡ 0 = ap (λ (q : Photo). length (q .blocks)) (none t) in
+              shot-more x y (d .S .disk x) a (cardIn st) (cardIn (storeNext geo (direct a y) w)) p here (k .1) (k .0)
+              (ap (blockAt (st .settled)) (sym here) ∙ settled-block (ap (λ (j : ℕ). among j (d .writes)) here ∙ t) ∙ ap (d .S .disk) here ∙ sym (ap (λ (u : Bool). cond u (d .S .disk x) (p .before)) (eq-eqb _ 0 empty)))
+              (other-of x (p .blocks) (queue (cardIn st)) (firm-besides x (queue (cardIn st)) (sym (ap (among x) (writes-is o)) ∙ t)))
+
+      -- the first, behind a flush
+      shot-first : a ≡ x → d .waiting ≡ geo .direct → 2 ≤ d .power → Shot x (cardIn (storeNext geo (direct a y) w)) (photographed y (d .S .disk x) noPhoto)
+      shot-first here z l =
+          let k = full-card z l in
+          record {
+            before = ap (λ (s : List ℕ). blockAt s x) (k .1) ∙ ap (blockAt (flushedBytes geo st)) (sym here) ∙ flushed-block ∙ ap (d .S .disk) here;
+            blocks = subst (All (OneOf x (y ∷ []))) (sym (k .0)) ((λ q. (0, omega arith, refl)), tt);
+          }
+
+      -- to another block
+      shot-other : (p : Photo) → a ≢ x → Shot x (cardIn st) p → d .waiting ≢ geo .direct → 1 ≤ d .power → Shot x (cardIn (storeNext geo (direct a y) w)) p
+      shot-other p away s z l =
+          let k = room-card z l in
+          adds-shot x (cardIn st) (cardIn (storeNext geo (direct a y) w)) p (record { more = e ∷ []; settled = k .1; waits = k .0; other = ((λ q. away (sym q)), tt) }) s
