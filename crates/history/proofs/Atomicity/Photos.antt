@@ -1,7 +1,7 @@
 -- What is photographed of a block along a list of calls is what stands on the card of it: the block as it is settled, and the direct writes to
 -- it that wait.
 use Prim.Native.Nat.{ℕ, _+_, _≤_, _<_}
-use mathlib.Core.Path.{_≡_, refl, ap, ap₂, sym, subst, _∙_}
+use mathlib.Core.Path.{_≡_, refl, ap, sym, subst, _∙_}
 use mathlib.Core.Logic.{_≢_, _⊎_}
 use mathlib.Core.Bool.{Bool, true, false, false≢true, cond, _&&_, _||_, or-false}
 use mathlib.Core.List.{List, [], _∷_, _++_, append-nil, append-assoc}
@@ -11,10 +11,10 @@ use borrow.Author.Tests.{eq-eqb, ne-eqb, eqb-true, eqb-false, le-leb, lt-leb, lt
 use lib.Dec.{eqb, leb, ltb}
 use lib.ListN.{length, getD, take, length-append, List·getD-append}
 use lib.Seq.{getD-at}
-use Rattle.cells.specs.Entry.{entryBytes, Entry}
+use Rattle.cells.specs.Entry.{Entry}
 use Rattle.fnv.specs.Fnv.{start}
 use Rattle.card.specs.Disk.{Disk, overlay}
-use Rattle.card.specs.Card.{Card, Order, write, flush, queue, settle, run, blockAt}
+use Rattle.card.specs.Card.{Card, Order, flush, queue, settle, run, blockAt}
 use Rattle.card.proofs.All.{All, all-append, all-map, all-take}
 use Rattle.card.proofs.Overlays.{overlay-other}
 use Rattle.card.proofs.Runs.{Whole, NarrowAddress, run-nil, run-append, run-dead, writes-all}
@@ -29,8 +29,8 @@ use Rattle.journal.specs.declared.lookup.Found.the-variants.{At, Absent}
 use Rattle.journal.proofs.Logs.{neither}
 use Rattle.journal.proofs.OrderLists.{headerEntry, appendWrites, append-writes, checkpoint-writes, length-append-writes}
 use Rattle.crash.proofs.Appends.{writes-whole, writes-below}
-use Rattle.crash.proofs.Batches.{batch, Left, Room, no-queue, queued-short, queued-done, left-dead}
-use Rattle.crash.proofs.Logs.{logD, entries-disk, data-above, data-below}
+use Rattle.crash.proofs.Batches.{batch, Room, no-queue, queued-short, queued-done, left-dead}
+use Rattle.crash.proofs.Logs.{data-above, data-below}
 use Rattle.store.specs.Local as Local
 use Rattle.store.specs.Local.{Local}
 use Rattle.store.specs.Save as Save
@@ -41,12 +41,12 @@ use Rattle.store.specs.Lists.{openFrom, groupFrom, find}
 use Rattle.store.specs.Causes.{isFound, cause}
 use Rattle.store.specs.Outcomes.{refused}
 use Rattle.store.specs.Put.{putAt}
-use Rattle.store.specs.Saves.{carried, groupOf, saveOrders, syncing, applying}
-use Rattle.store.specs.Direct.{directWrite, directOrders, directing}
+use Rattle.store.specs.Saves.{carried, groupOf, saveOrders}
+use Rattle.store.specs.Direct.{directWrite, directOrders}
 use Rattle.store.proofs.Causes.{SizeFacts, sizes-facts, needsOpen}
 use Rattle.store.proofs.Saves.{apply-carried}
 use Rattle.history.specs.Call.{Call, requestOf, local, direct, save, cut, sync, apply, recover}
-use Rattle.history.specs.Plain.{Plain, Done, Short, ofSync, ofApply, ofDirect, among, addresses, flushes, applies, syncTakes, applyTakes, directTakes, refusal, locally, served, plainStep, plainSync, plainApply, plainRecover, plainCut, plainDirect, recovered, cutShort, done, still, written}
+use Rattle.history.specs.Plain.{Plain, Done, Short, ofSync, ofApply, ofRecover, ofDirect, among, addresses, flushes, applies, syncTakes, directTakes, refusal, locally, served, plainSync, plainApply, plainRecover, plainCut, recovered, cutShort, done}
 use Rattle.history.specs.Dispatch as Dispatch
 use Rattle.history.specs.Dispatch.{called, dispatch, servedLocal}
 use Rattle.history.specs.History.{World, next, after, storeNext, fed}
@@ -55,7 +55,6 @@ use Rattle.history.specs.Statements.{Photo, noPhoto, photographed, direc
 use Rattle.history.proofs.Relation.CauseLaws.{RecordFacts, record-facts, cause-passes}
 use Rattle.history.proofs.Relation.Lists.{among-append, firm-besides, slot-among}
 use Rattle.history.proofs.Relation.OpenFacts as Facts
-use Rattle.history.proofs.Relation.PlainAnswers.{when-open}
 use Rattle.history.proofs.Relation.PlainLaws.{do-apply, no-apply, sync-nothing, barrier-none, barrier-done, barrier-short, sync-finished, sync-short, apply-nothing, apply-finished, apply-short, direct-done, direct-short}
 use Rattle.history.proofs.Relation.Sim.{Basics, Waits, flushedBytes, OpenSim, ClosedSim, DownSim}
 use Rattle.history.proofs.Relation.WorkLists.{data-short}
@@ -235,7 +234,7 @@ module _ (geo : Geometry) (x : ℕ) where
     unfolding plainRecover flushes
     recover-writes found = go (leb (cond (d .F) 2 0) (d .power))
       where
-        go : (t : Bool) → cond {A = Done} t (done (cond (d .F) 2 0) (recovered (cond (d .F) 2 0) found d)) (cutShort geo (Rattle.history.specs.Plain.ofRecover (d .power)) (d .power) d) .plain .writes ≡ d .writes
+        go : (t : Bool) → cond {A = Done} t (done (cond (d .F) 2 0) (recovered (cond (d .F) 2 0) found d)) (cutShort geo (ofRecover (d .power)) (d .power) d) .plain .writes ≡ d .writes
         go true = refl
         go false = refl
 
@@ -476,9 +475,6 @@ module _ (geo : Geometry) (x : ℕ) where
       done-writes l = ap (λ (p : Done). p .plain .writes) (plain-served geo (direct a y) (fed geo (direct a y) w) d h ∙ direct-done geo a y d l)
 
       -- the card then, with room
-      abbrev r : Card
-      r = cardIn (storeNext geo (direct a y) w)
-
       room-card : d .waiting ≢ geo .direct → 1 ≤ d .power → (queue (cardIn (storeNext geo (direct a y) w)) ≡ queue (cardIn st) ++ (e ∷ [])) × (storeNext geo (direct a y) w .settled ≡ st .settled)
       unfolding directOrders
       room-card z l =
@@ -494,9 +490,10 @@ module _ (geo : Geometry) (x : ℕ) where
           let os : directOrders geo a y st ≡ flush ∷ directWrite a y ∷ [] = ap (λ (t : Bool). cond t (flush ∷ directWrite a y ∷ []) (directWrite a y ∷ [])) (eq-eqb (st .rec .waiting) (geo .direct) (sym (b .mirrors .waiting) ∙ z)) in
           let c : cardIn (storeNext geo (direct a y) w) ≡ run (directWrite a y ∷ []) (run (flush ∷ []) (cardIn st)) = direct-card ∙ ap (λ (l : List Order). run l (cardIn st)) os ∙ run-append (flush ∷ []) (directWrite a y ∷ []) (cardIn st) in
           let f = queued-done (cardIn st) [] (record { places = omega (arith, Facts.few geo st (w .ledger) d b o, sizes-facts geo st (b .sizes) .waiting, geo .queued); whole = tt; low = tt }) (omega (arith, b .power)) in
-          let k = writes-all (e ∷ []) (run (flush ∷ []) (cardIn st)) (omega (arith, f .count, f .room, sizes-facts geo st (b .sizes) .waiting, geo .queued)) (whole, tt) (narrow, tt) (omega (arith, b .power, f .power)) in
-          (ap queue c ∙ k .0 ∙ ap (λ (q : List Entry). q ++ (e ∷ [])) (f .waits),
-          ap (λ (i : Card). i .settled) c ∙ k .1 ∙ f .settled ∙ ap (λ (q : List Entry). settle q (st .settled)) (append-nil (queue (cardIn st))))
+          let k = writes-all (e ∷ []) (run (flush ∷ []) (cardIn st)) (omega (arith, f .count, f .room, sizes-facts geo st (b .sizes) .waiting, geo .queued)) (whole, tt) (narrow, tt) (omega (arith, b .power, f .power)) in (
+            ap queue c ∙ k .0 ∙ ap (λ (q : List Entry). q ++ (e ∷ [])) (f .waits),
+            ap (λ (i : Card). i .settled) c ∙ k .1 ∙ f .settled ∙ ap (λ (q : List Entry). settle q (st .settled)) (append-nil (queue (cardIn st))),
+          )
 
       -- what S has at a block that is written to: what is settled, once what waits there is
       log-off : All (λ i. a ≢ i .address) (Facts.log geo st (w .ledger) d b o)
@@ -550,3 +547,84 @@ module _ (geo : Geometry) (x : ℕ) where
       shot-other p away s z l =
           let k = room-card z l in
           adds-shot x (cardIn st) (cardIn (storeNext geo (direct a y) w)) p (record { more = e ∷ []; settled = k .1; waits = k .0; other = ((λ q. away (sym q)), tt) }) s
+
+  -- ---- along a list
+
+  -- what was photographed: what waits, and nothing where the address does not wait
+  record Taken (w : World) (p : Photo) : Type 0 where
+    some : among x (w .plain .writes) ≡ true → Shot x (cardIn (w .store)) p
+    none : among x (w .plain .writes) ≡ false → p ≡ noPhoto
+
+  -- the photo of a call: done or not, with as many waiting as may or not, the block waiting behind it or not
+  abbrev photoAt : Call → World → Bool → Bool → Bool → Photo → Photo
+  photoAt c w finished full kept p =
+      let q = cond (finished && full) noPhoto p in
+      cond kept (cond finished (S.ofDirect geo c (λ e. cond (eqb (e .address) x) (photographed (e .block) (w .plain .S .disk x) q) q) q) q) noPhoto
+
+  none-taken : (c : Call) (w : World) (p : Photo) → among x (next geo c w .plain .writes) ≡ false → photoBy geo x c w p ≡ noPhoto
+  none-taken c w p t = ap (λ (u : Bool). photoAt c w (directDone geo c w) (eqb (w .store .rec .waiting) (geo .direct)) u p) t
+
+  quiet-taken : (c : Call) (w : World) (p : Photo) → Quiet c w → Taken w p → Taken (next geo c w) (photoBy geo x c w p)
+  unfolding next
+  quiet-taken c w p q k = record {
+    some = λ t.
+        let photo-is : photoBy geo x c w p ≡ p = λ i. photoAt c w (q .done i) (eqb (w .store .rec .waiting) (geo .direct)) (t i) p in
+        let u = q .kept t in
+        subst (Shot x (cardIn (storeNext geo c w))) (sym photo-is) (adds-shot x (cardIn (w .store)) (cardIn (storeNext geo c w)) p (u .1) (k .some (u .0)));
+    none = none-taken c w p;
+  }
+
+  -- of a direct write that is done and behind which the block waits
+  abbrev photoDone : List ℕ → World → Photo → Bool → Bool → Photo
+  photoDone y w p full here = let q = cond full noPhoto p in cond here (photographed y (w .plain .S .disk x) q) q
+
+  direct-taken : (a : ℕ) (y : List ℕ) (w : World) (p : Photo) → WorldSim geo w → refusal geo (direct a y) (w .plain) ≡ 0 → directTakes geo (w .plain .waiting) ≤ w .plain .power → Taken w p
+      → Taken (next geo (direct a y) w) (photoBy geo x (direct a y) w p)
+  unfolding next among
+  direct-taken a y w p m h l k = record {
+    some = λ t. go (eqb (w .plain .waiting) (geo .direct)) refl (eqb a x) refl (sym (ap (among x) (done-writes w m a y h l)) ∙ t) (at t);
+    none = none-taken (direct a y) w p;
+  }
+    where
+      at : among x (plainNext geo (direct a y) w .writes) ≡ true → photoBy geo x (direct a y) w p ≡ photoDone y w p (eqb (w .plain .waiting) (geo .direct)) (eqb a x)
+      at t = λ i. photoAt (direct a y) w (whole-done w m a y h l i) (eqb (sym (m .basics .mirrors .waiting) i) (geo .direct)) (t i) p
+
+      go : (full : Bool) → eqb (w .plain .waiting) (geo .direct) ≡ full → (here : Bool) → eqb a x ≡ here → among x (cond full [] (w .plain .writes) ++ (a ∷ [])) ≡ true
+          → photoBy geo x (direct a y) w p ≡ photoDone y w p full here → Shot x (cardIn (storeNext geo (direct a y) w)) (photoBy geo x (direct a y) w p)
+      go true f true g t e = subst (Shot x (cardIn (storeNext geo (direct a y) w))) (sym e) (shot-first w m a y h (eqb-true _ _ g) (eqb-true _ _ f) (let two : directTakes geo (w .plain .waiting) ≡ 2 = ap (λ (u : Bool). cond {A = ℕ} u 2 1) f in omega arith))
+      go true f false g t e = absurd (false≢true (sym (ap (λ (u : Bool). u || false) g) ∙ t))
+      go false f true g t e = subst (Shot x (cardIn (storeNext geo (direct a y) w))) (sym e) (shot-grown w m a y h p (eqb-true _ _ g) (k .some) (k .none) (eqb-false _ _ f) (let one : directTakes geo (w .plain .waiting) ≡ 1 = ap (λ (u : Bool). cond {A = ℕ} u 2 1) f in omega arith))
+      go false f false g t e =
+          let old : among x (w .plain .writes) ≡ true = sym (among-append x (w .plain .writes) (a ∷ []) ∙ ap (λ (u : Bool). among x (w .plain .writes) || (u || false)) g ∙ or-false (among x (w .plain .writes))) ∙ t in
+          subst (Shot x (cardIn (storeNext geo (direct a y) w))) (sym e) (shot-other w m a y h p (eqb-false _ _ g) (k .some old) (eqb-false _ _ f) (let one : directTakes geo (w .plain .waiting) ≡ 1 = ap (λ (u : Bool). cond {A = ℕ} u 2 1) f in omega arith))
+
+  -- a call that is not refused
+  served-taken : (c : Call) (w : World) (p : Photo) → WorldSim geo w → refusal geo c (w .plain) ≡ 0 → Taken w p → Taken (next geo c w) (photoBy geo x c w p)
+  served-taken (local c) w p m h k = quiet-taken (local c) w p (local-quiet w m c h) k
+  served-taken (direct a y) w p m h k = go (decLe (directTakes geo (w .plain .waiting)) (w .plain .power))
+    where
+      go : Dec (directTakes geo (w .plain .waiting) ≤ w .plain .power) → Taken (next geo (direct a y) w) (photoBy geo x (direct a y) w p)
+      go (yes l) = direct-taken a y w p m h l k
+      go (no l) = quiet-taken (direct a y) w p (short-direct w m a y h (omega arith)) k
+  served-taken (save c) w p m h k = quiet-taken (save c) w p (save-quiet w m c h) k
+  served-taken (cut ms) w p m h k = quiet-taken (cut ms) w p (cut-quiet w m ms h) k
+
+  step-taken : (c : Call) (w : World) (p : Photo) → WorldSim geo w → Taken w p → Taken (next geo c w) (photoBy geo x c w p)
+  step-taken c w p m k = go (ℕ-discrete (refusal geo c (w .plain)) 0)
+    where
+      go : Dec (refusal geo c (w .plain) ≡ 0) → Taken (next geo c w) (photoBy geo x c w p)
+      go (yes h) = served-taken c w p m h k
+      go (no h) = quiet-taken c w p (refused-quiet c w m h) k
+
+  list-taken : (cs : List Call) (w : World) (p : Photo) → WorldSim geo w → after geo cs w .excepted ≡ false → Taken w p → Taken (after geo cs w) (photo geo x cs w p)
+  unfolding after photo
+  list-taken [] w p m e k = k
+  list-taken (c ∷ cs) w p m e k = list-taken cs (next geo c w) (photoBy geo x c w p) (next-sim geo c w m (clean-first geo c cs w e)) e (step-taken c w p m k)
+
+module _ (geo : Geometry) where
+  -- where nothing waits first; cuts and recoveries play no part
+  pub photo-stands : (x : ℕ) (cs : List Call) (w : World) → WorldSim geo w → w .plain .writes ≡ [] → after geo cs w .excepted ≡ false → among x (after geo cs w .plain .writes) ≡ true
+      → Stands x (after geo cs w) (photo geo x cs w noPhoto)
+  photo-stands x cs w m none e t =
+      let s = list-taken geo x cs w noPhoto m e (record { some = λ u. absurd (none-among x (w .plain .writes) none u); none = λ u. refl }) .some t in
+      record { before = s .before; blocks = s .blocks }
