@@ -66,7 +66,7 @@ module _ (geo : Geometry) where
   Takes c st orders applies peak = (costOf geo c st .orders ≡ orders) × (costOf geo c st .applies ≡ applies) × (costOf geo c st .peak ≡ peak)
 
   -- n entries in the log, m in the group: "m+3 orders" of a sync, "n+3 orders" of an apply, one descriptor block at the trap. W-209: a sync
-  -- with an empty group is a flush if anything waits; behind it a sync that applies has none of the earlier writes
+  -- with an empty group is a flush if anything waits; of a sync that applies the apply's flush settles what waited before
   pub record ClosedForms (st : State) : Type 0 where
     pub sync-none : cause geo (save Save.sync) st ≡ 0 → st .rec .grouped ≡ 0 → Takes Save.sync st (cond (eqb (st .rec .waiting) 0) 0 1) false (st .rec .waiting)
     pub sync-room : cause geo (save Save.sync) st ≡ 0 → st .rec .grouped ≢ 0 → st .rec .logged + st .rec .grouped ≤ geo .slots

@@ -7,7 +7,7 @@ use mathlib.Core.Bool.{Bool, true, false, cond, not, _&&_, _||_}
 use mathlib.Core.List.{List, [], _∷_, _++_}
 use lib.Dec.{eqb}
 use lib.ListN.{length, getD, take, drop}
-use Rattle.cells.specs.Entry.{blockBytes, Entry}
+use Rattle.cells.specs.Entry.{blockBytes, Entry, entryAt}
 use Rattle.fnv.specs.Fnv.{start}
 use Rattle.card.specs.Disk.{Disk}
 use Rattle.crash.specs.Laid.{Laid, layOver}
@@ -16,6 +16,8 @@ use Rattle.card.specs.Marks.{keptAt, allKept}
 use Rattle.journal.specs.Geometry.{Geometry}
 use Rattle.journal.specs.Layout.{headerAt, isData}
 use Rattle.journal.specs.declared.choice.Choice.the-variants.{Fallback}
+use Rattle.journal.specs.declared.lookup.Found.the-variants.{Absent}
+use Rattle.journal.specs.Lookup.{lastSlot}
 use Rattle.journal.specs.Header.{encode, header}
 use Rattle.journal.specs.Log.{headerOf, entries, sumOf}
 use Rattle.journal.specs.Choice.{choose}
@@ -43,6 +45,9 @@ module _ (geo : Geometry) where
     pub never-two : (c : Call) → dispatch geo c st .answer ≢ 2
     pub never-eight : dispatch geo recover st .answer ≢ 8
     pub never-nine : dispatch geo recover st .answer ≢ 9
+    -- W-209: when open, each waiting write goes to a data block that is not in the log
+    pub apart : st .rec .mode ≡ openMode → (i : ℕ) → i < st .rec .waiting
+        → (isData geo (st .rec .blocks) (entryAt (st .waiting) i .address) ≡ true) × (lastSlot (st .settled) (entryAt (st .waiting) i .address) (st .rec .logged) ≡ Absent)
 
   abbrev pub Safety : Type 0
   Safety = (st : State) → formatCall geo st .answer ≡ 0 → (cs : List Call) → Sound (after geo cs (begun geo st) .store)
@@ -294,6 +299,11 @@ module _ (geo : Geometry) where
   photo x [] w p = p
   photo x (c ∷ cs) w p = photo x cs (next geo c w) (photoBy x c w p)
 
+-- the blocks of the writes q to the block x, in turn
+unfoldable pub blocksTo : ℕ → List Entry → List (List ℕ)
+blocksTo x [] = []
+blocksTo x (e ∷ q) = cond (eqb (e .address) x) (e .block ∷ blocksTo x q) (blocksTo x q)
+
 -- byte j is as it was before, or as one of the writes has it
 abbrev pub OneOf : ℕ → ℕ → Photo → Type 0
 OneOf j y p = (y ≡ getD (p .before) j 0) ⊎ ((i : ℕ) × (i < length (p .blocks)) × (y ≡ getD (getD (p .blocks) i []) j 0))
@@ -307,8 +317,8 @@ module _ (geo : Geometry) where
   abbrev pub FoundIs : (ℕ → Type 0) → ℕ → State → Disk → Type 0
   FoundIs X N r d = (x : ℕ) → isData geo N x ≡ true → X x → Shows r x (d x)
 
-  -- W-209: the block x waited at the first accepted cut of b, made in the world v: "byte by byte as settled or as one of its waiting writes". As
-  -- it was settled there is what S had before the first of these writes
+  -- W-209: the block x waited at the first accepted cut of b: "byte by byte as settled or as one of its waiting writes". As it was settled
+  -- there is what S had before the first of these writes, and they are the writes to x in the queue there
   pub record Loosened (r : State) (b : List Call) (w : World) (x : ℕ) : Type 0 where
     pub before : List Call
     pub ms : List ℕ
@@ -318,6 +328,7 @@ module _ (geo : Geometry) where
     pub accepted : acceptedCut geo (cut ms) (after geo before w) ≡ true
     pub waited : among x (after geo before w .plain .writes) ≡ true
     pub settled : blockAt (after geo before w .store .settled) x ≡ photo geo x before w noPhoto .before
+    pub queued : blocksTo x (queue (cardIn (after geo before w .store))) ≡ photo geo x before w noPhoto .blocks
     pub answer : dispatch geo (get x) r .answer ≡ 0
     pub size : length (blockOf geo x r) ≡ blockBytes
     pub bytes : (j : ℕ) → j < blockBytes → OneOf j (getD (blockOf geo x r) j 0) (photo geo x before w noPhoto)
@@ -351,8 +362,13 @@ module _ (geo : Geometry) where
         (outcome end (drawnOver geo b (after geo a (begun geo st)) (after geo a (begun geo st) .plain .S)) .disk)
     pub loosened : (x : ℕ) → isData geo (blocksIn (st .settled)) x ≡ true → among x (after geo cs (begun geo st) .plain .loose) ≡ true → newHas end x ≡ false
         → Loosened geo (storeNext geo recover (after geo cs (begun geo st))) b (after geo a (begun geo st)) x
-    -- "Blocks never written directly are found as before"
-    pub never : FoundIs geo (λ x. neverDirect geo x cs (begun geo st) ≡ true) (blocksIn (st .settled)) (storeNext geo recover (after geo cs (begun geo st))) (outcome end (after geo a (begun geo st) .plain .S) .disk)
+    -- "found as the log has it or, if the log lacks it": the log taken has a loose block exactly if the group of a sync found new has it
+    pub logged : (x : ℕ) → isData geo (blocksIn (st .settled)) x ≡ true → among x (after geo cs (begun geo st) .plain .loose) ≡ true
+        → among x (addresses (entries geo (storeNext geo recover (after geo cs (begun geo st)) .settled) (storeNext geo recover (after geo cs (begun geo st)) .rec .logged))) ≡ newHas end x
+    -- "Blocks never written directly are found as before": so is a block that is not written directly since a, and one never written so is
+    -- never loose
+    pub unfed : (x : ℕ) → neverDirect geo x cs (begun geo st) ≡ true → among x (after geo cs (begun geo st) .plain .loose) ≡ false
+    pub never : FoundIs geo (λ x. neverDirect geo x b (after geo a (begun geo st)) ≡ true) (blocksIn (st .settled)) (storeNext geo recover (after geo cs (begun geo st))) (outcome end (after geo a (begun geo st) .plain .S) .disk)
     pub whole : WholeIsNew end
     pub number : numberFound geo (after geo cs (begun geo st)) ≡ outcome end (after geo a (begun geo st) .plain .S) .groups
     pub counted : numberFound geo (after geo cs (begun geo st)) ≡ groupsLaid geo cs (begun geo st) (known quiet)

@@ -18,19 +18,20 @@ use Rattle.store.specs.Local.{Local}
 use Rattle.store.specs.Save as Save
 use Rattle.store.specs.Save.{Save}
 use Rattle.store.specs.Saves.{groupOf}
-use Rattle.history.specs.Call.{Call, local, save, cut, sync, apply, recover}
+use Rattle.history.specs.Call.{Call, local, direct, save, cut, sync, apply, recover}
 use Rattle.history.specs.Plain.{Plain, Done, refusal, plainSync, locally, served}
 use Rattle.history.specs.Dispatch.{dispatch}
-use Rattle.history.specs.History.{World, next, after, foundWritten}
+use Rattle.history.specs.Ledger.{waitingMet}
+use Rattle.history.specs.History.{World, next, after, fed}
 use Rattle.history.specs.Statements as S
 use Rattle.history.specs.Statements.{quiet, decided, Progress, known, undecided, observe, outcome, shortSync, headed, stillUndecided, madeNew, saved, groupsLaid}
 use Rattle.history.proofs.Relation.PlainLaws as PlainLaws
-use Rattle.history.proofs.Relation.PlainAnswers.{sync-cases, LocalKind, powers, opens, local-kind}
+use Rattle.history.proofs.Relation.PlainAnswers.{sync-cases, direct-cases, LocalKind, powers, opens, local-kind}
 use Rattle.history.proofs.Relation.OpenFacts as Facts
 use Rattle.history.proofs.Steps.Shown.{plainNext, WorldSim, plain-refused, plain-served}
 use Rattle.history.proofs.Steps.ListInduction.{step, next-sim, clean-first}
 use Rattle.history.proofs.Atomicity.ReadsBack.{found-closed}
-use Rattle.history.proofs.Atomicity.Phases.{Watch, short-is, observe-refused, open-now, open-watch, planned}
+use Rattle.history.proofs.Atomicity.Phases.{headerPlace, Watch, short-is, observe-refused, open-now, open-watch, planned}
 use Rattle.history.proofs.Atomicity.ShortSyncs.{recover-same, cut-found, cut-plain, cut-observed, open-lays-none, watch-step}
 use Rattle.history.proofs.Atomicity.Finished.{served-of, finished-opens}
 
@@ -51,7 +52,7 @@ module _ (geo : Geometry) where
   forget (known quiet) w x = x
   forget (known (decided G laid all)) w x =
       let old = outcome (decided G laid all) (x .0) in
-      let rest : Watch geo old (known quiet) (w .store) (w .ledger) (w .plain) = _⊎_.inr (record { mode = x .1 .mode; S = x .1 .S; laid = x .1 .laid; whole = tt }) in
+      let rest : Watch geo old (known quiet) (w .store) (w .ledger) (w .plain) = _⊎_.inr (record { mode = x .1 .mode; S = x .1 .S; laid = x .1 .laid; whole = tt; log = tt }) in
       (old, rest)
   forget (undecided G place made) w x = x
 
@@ -62,9 +63,9 @@ module _ (geo : Geometry) where
   counted : (c : Call) (w : World) (g : Progress) (t : Bool) → plainNext geo c w .S .groups ≡ w .plain .S .groups + cond t 1 0 → t ≡ saved geo c w || madeNew (observe geo c w g) → Counted c w g
   counted c w g t e q = e ∙ ap (λ (x : Bool). w .plain .S .groups + cond x 1 0) q
 
-  none-counted : (c : Call) (w : World) (g : Progress) → plainNext geo c w .S ≡ w .plain .S → saved geo c w ≡ false → madeNew (observe geo c w g) ≡ false → Counted c w g
+  none-counted : (c : Call) (w : World) (g : Progress) → plainNext geo c w .S .groups ≡ w .plain .S .groups → saved geo c w ≡ false → madeNew (observe geo c w g) ≡ false → Counted c w g
   none-counted c w g e s n =
-      counted c w g false (ap (λ (S : Laid). S .groups) e ∙ sym (add-zero (w .plain .S .groups))) (sym (ap₂ (λ (a b : Bool). a || b) s n))
+      counted c w g false (e ∙ sym (add-zero (w .plain .S .groups))) (sym (ap₂ (λ (a b : Bool). a || b) s n))
 
   -- ---- no call but a cut makes one new
 
@@ -77,11 +78,16 @@ module _ (geo : Geometry) where
   local-new c w (known f) = refl
   local-new c w (undecided G place made) = refl
 
+  direct-new : (a : ℕ) (b : List ℕ) (w : World) (f : Progress) → madeNew (observe geo (direct a b) w (stillUndecided f)) ≡ false
+  unfolding observe shortSync
+  direct-new a b w (known f) = refl
+  direct-new a b w (undecided G place made) = refl
+
   save-new : (c : Save) (w : World) (f : Progress) → madeNew (observe geo (save c) w (stillUndecided f)) ≡ false
   unfolding observe
   save-new c w (known f) = go (shortSync geo (save c) w)
     where
-      go : (t : Bool) → madeNew (cond t (undecided (groupOf geo (w .store)) (w .store .rec .grouped + geo .descriptors) (headed geo w)) (known quiet)) ≡ false
+      go : (t : Bool) → madeNew (cond t (undecided (groupOf geo (w .store)) (waitingMet geo (w .store)) (headed geo w)) (known quiet)) ≡ false
       go true = refl
       go false = refl
   save-new c w (undecided G place made) = refl
@@ -91,6 +97,7 @@ module _ (geo : Geometry) where
   refused-saved : (c : Call) (w : World) → WorldSim geo w → refusal geo c (w .plain) ≢ 0 → saved geo c w ≡ false
   unfolding saved S.finished
   refused-saved (local c) w m h = refl
+  refused-saved (direct a b) w m h = refl
   refused-saved (save Save.sync) w m h =
       ap (λ (t : Bool). t && not (eqb (w .store .rec .grouped) 0)) (ne-eqb (dispatch geo sync (w .store) .answer) 0 (λ e. h (served-of geo sync w m e)))
   refused-saved (save Save.apply) w m h = refl
@@ -99,17 +106,17 @@ module _ (geo : Geometry) where
 
   refused-counted : (c : Call) (w : World) (f : Progress) → WorldSim geo w → refusal geo c (w .plain) ≢ 0 → Counted c w (stillUndecided f)
   refused-counted c w f m h =
-      none-counted c w (stillUndecided f) (ap (λ (d : Done). d .plain .S) (plain-refused geo c (foundWritten geo c w) (w .plain) h)) (refused-saved c w m h)
+      none-counted c w (stillUndecided f) (ap (λ (d : Done). d .plain .S .groups) (plain-refused geo c (fed geo c w) (w .plain) h)) (refused-saved c w m h)
       (ap madeNew (observe-refused geo c w (stillUndecided f) h m) ∙ still-none f)
 
   -- ---- a sync
 
   module _ (w : World) (m : WorldSim geo w) (h : refusal geo sync (w .plain) ≡ 0) (f : Progress) where
     P : plainNext geo sync w ≡ plainSync geo (w .plain) .plain
-    P = ap (λ (d : Done). d .plain) (plain-served geo sync (foundWritten geo sync w) (w .plain) h)
+    P = ap (λ (d : Done). d .plain) (plain-served geo sync (fed geo sync w) (w .plain) h)
 
     answer : dispatch geo sync (w .store) .answer ≡ plainSync geo (w .plain) .answer
-    answer = step geo sync w m .agrees .answer ∙ ap (λ (d : Done). d .answer) (plain-served geo sync (foundWritten geo sync w) (w .plain) h)
+    answer = step geo sync w m .agrees .answer ∙ ap (λ (d : Done). d .answer) (plain-served geo sync (fed geo sync w) (w .plain) h)
 
     size : length (w .plain .G) ≡ w .store .rec .grouped
     size = Facts.plain-count geo (w .store) (w .ledger) (w .plain) (m .basics) (open-now geo sync w m refl h)
@@ -122,7 +129,7 @@ module _ (geo : Geometry) where
     sync-counted =
         sync-cases geo (λ d. Counted sync w (stillUndecided f)) (w .plain)
         (λ z.
-        none-counted sync w (stillUndecided f) (ap (λ (d : Plain). d .S) P ∙ ap (λ (d : Done). d .plain .S) (PlainLaws.sync-nothing geo (w .plain) z))
+        none-counted sync w (stillUndecided f) (ap (λ (d : Plain). d .S .groups) P ∙ ap (λ (d : Done). d .plain .S .groups) (PlainLaws.sync-nothing geo (w .plain) z) ∙ ap (λ (x : Laid). x .groups) (PlainLaws.barrier-S geo (w .plain)))
         (saved-is _ true refl (eq-eqb _ 0 (sym size ∙ z)) ∙ and-false (eqb (dispatch geo sync (w .store) .answer) 0)) (save-new Save.sync w f))
         (λ z p.
         let all = PlainLaws.sync-finished geo (w .plain) z p in
@@ -131,12 +138,12 @@ module _ (geo : Geometry) where
         (λ z p.
         let short = PlainLaws.sync-short geo (w .plain) z p in
         let four : dispatch geo sync (w .store) .answer ≡ 4 = answer ∙ ap (λ (d : Done). d .answer) short in
-        none-counted sync w (stillUndecided f) (ap (λ (d : Plain). d .S) P ∙ ap (λ (d : Done). d .plain .S) short) (saved-is false _ (ne-eqb (dispatch geo sync (w .store) .answer) 0 (λ e. omega arith)) refl) (save-new Save.sync w f))
+        none-counted sync w (stillUndecided f) (ap (λ (d : Plain). d .S .groups) P ∙ ap (λ (d : Done). d .plain .S .groups) short) (saved-is false _ (ne-eqb (dispatch geo sync (w .store) .answer) 0 (λ e. omega arith)) refl) (save-new Save.sync w f))
 
 module _ (geo : Geometry) where
-  -- a call that leaves S
-  leaves-S : (c : Call) (w : World) → refusal geo c (w .plain) ≡ 0 → served geo c (foundWritten geo c w) (w .plain) .plain .S ≡ w .plain .S → plainNext geo c w .S ≡ w .plain .S
-  leaves-S c w h e = ap (λ (d : Done). d .plain .S) (plain-served geo c (foundWritten geo c w) (w .plain) h) ∙ e
+  -- a call that lays no group into S
+  leaves-S : (c : Call) (w : World) → refusal geo c (w .plain) ≡ 0 → served geo c (fed geo c w) (w .plain) .plain .S .groups ≡ w .plain .S .groups → plainNext geo c w .S .groups ≡ w .plain .S .groups
+  leaves-S c w h e = ap (λ (d : Done). d .plain .S .groups) (plain-served geo c (fed geo c w) (w .plain) h) ∙ e
 
   local-S : (c : Local) (d : Plain) → LocalKind geo c → locally c d .S ≡ d .S
   local-S c d (powers k) = refl
@@ -157,7 +164,7 @@ module _ (geo : Geometry) where
       go (_⊎_.inl y) = open-lays-none geo ms w m h (y .mode)
       go (_⊎_.inr y) = y .laid ms (cut-found geo ms w)
   cut-counted ms w m h (undecided G place made) x =
-      counted geo (cut ms) w (undecided G place made) (made && keptAt ms place && cut-found geo ms w)
+      counted geo (cut ms) w (undecided G place made) (made && keptAt ms (headerPlace geo place G) && cut-found geo ms w)
       (cut-lays ms w m h ∙ ap (λ (t : Bool). w .plain .S .groups + cond t 1 0) (x .1 .laid ms (cut-found geo ms w)))
       (sym (ap madeNew (cut-observed geo ms w m h G place made)))
 
@@ -165,10 +172,11 @@ module _ (geo : Geometry) where
 
   served-counted : (c : Call) (w : World) (f : Progress) → WorldSim geo w → refusal geo c (w .plain) ≡ 0 → Watched geo (stillUndecided f) w → Counted geo c w (stillUndecided f)
   unfolding saved
-  served-counted (local c) w f m h x = none-counted geo (local c) w (stillUndecided f) (leaves-S (local c) w h (local-S c (w .plain) (local-kind geo c))) refl (local-new geo c w f)
+  served-counted (local c) w f m h x = none-counted geo (local c) w (stillUndecided f) (leaves-S (local c) w h (ap (λ (x : Laid). x .groups) (local-S c (w .plain) (local-kind geo c)))) refl (local-new geo c w f)
+  served-counted (direct a b) w f m h x = none-counted geo (direct a b) w (stillUndecided f) (leaves-S (direct a b) w h (direct-cases geo (λ o. o .plain .S .groups ≡ w .plain .S .groups) a b (w .plain) (λ q. refl) (λ q. refl))) refl (direct-new geo a b w f)
   served-counted (save Save.sync) w f m h x = sync-counted geo w m h f
-  served-counted (save Save.apply) w f m h x = none-counted geo apply w (stillUndecided f) (leaves-S apply w h (PlainLaws.apply-S (w .plain))) refl (save-new geo Save.apply w f)
-  served-counted (save Save.recover) w f m h x = none-counted geo recover w (stillUndecided f) (leaves-S recover w h (PlainLaws.recover-S (w .plain))) refl (save-new geo Save.recover w f)
+  served-counted (save Save.apply) w f m h x = none-counted geo apply w (stillUndecided f) (leaves-S apply w h (ap (λ (x : Laid). x .groups) (PlainLaws.apply-S geo (w .plain)))) refl (save-new geo Save.apply w f)
+  served-counted (save Save.recover) w f m h x = none-counted geo recover w (stillUndecided f) (leaves-S recover w h (PlainLaws.recover-groups geo (fed geo recover w .found) (w .plain))) refl (save-new geo Save.recover w f)
   served-counted (cut ms) w f m h x = cut-counted ms w m h f x
 
   step-counted : (c : Call) (w : World) (f : Progress) → WorldSim geo w → Watched geo (stillUndecided f) w → Counted geo c w (stillUndecided f)
@@ -192,11 +200,12 @@ module _ (geo : Geometry) where
   finished-quiet : (c : Call) (w : World) (f : Progress) → WorldSim geo w → S.finished geo c w ≡ true → Watched geo (stillUndecided f) w → observe geo c w (stillUndecided f) ≡ known quiet
   unfolding S.finished observe
   finished-quiet (local c) w f m h x = absurd (mathlib.Core.Bool.false≢true h)
+  finished-quiet (direct a b) w f m h x = absurd (mathlib.Core.Bool.false≢true h)
   finished-quiet (save Save.sync) w f m h x =
       let zero : dispatch geo sync (w .store) .answer ≡ 0 = eqb-true _ _ h in
       let o = open-now geo sync w m refl (served-of geo sync w m zero) in
       let q = open-watch geo (x .0) (stillUndecided f) (w .store) (w .ledger) (w .plain) (x .1) (o .mode) in
-      ap (observe geo sync w) (q .0) ∙ ap (λ (t : Bool). cond t (undecided (groupOf geo (w .store)) (w .store .rec .grouped + geo .descriptors) (headed geo w)) (known quiet)) (done-short w zero)
+      ap (observe geo sync w) (q .0) ∙ ap (λ (t : Bool). cond t (undecided (groupOf geo (w .store)) (waitingMet geo (w .store)) (headed geo w)) (known quiet)) (done-short w zero)
   finished-quiet (save Save.apply) w f m h x = absurd (mathlib.Core.Bool.false≢true h)
   finished-quiet (save Save.recover) w (known f) m h x = recover-same geo w (known quiet)
   finished-quiet (save Save.recover) w (undecided G place made) m h x =
@@ -209,7 +218,7 @@ module _ (geo : Geometry) where
   step-watched c w f m x = go (S.finished geo c w) refl
     where
       go : (t : Bool) → S.finished geo c w ≡ t → Watched geo (observe geo c w (stillUndecided f)) (next geo c w)
-      go false e = (x .0, watch-step geo (x .0) c w (stillUndecided f) m e (x .1))
+      go false e = (S.drawnBy geo c w (x .0), watch-step geo (x .0) c w (stillUndecided f) m e (x .1))
       go true e = subst (λ (g : Progress). Watched geo g (next geo c w)) (sym (finished-quiet c w f m e x)) (plainNext geo c w .S, _⊎_.inl (record { mode = finished-opens geo c w m e; S = refl }))
 
   -- ---- a list of calls

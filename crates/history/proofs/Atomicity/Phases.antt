@@ -21,7 +21,7 @@ use Rattle.store.specs.Request as Request
 use Rattle.store.specs.State.{State, Outcome, closed, openMode, down, withQueue, withRecord, cardIn}
 use Rattle.store.specs.Causes.{cause}
 use Rattle.history.specs.Call.{Call, requestOf, local, direct, save, cut, power, sync, apply, recover}
-use Rattle.history.specs.Plain.{Plain, Done, withPower, Verdict, verdict, headerKept, lastSave, refusal}
+use Rattle.history.specs.Plain.{Plain, none, Done, withPower, Verdict, verdict, headerKept, lastSave, refusal}
 use Rattle.history.specs.Dispatch.{dispatch}
 use Rattle.history.specs.Ledger.{Ledger, nothing, waits, sameLog}
 use Rattle.history.specs.History.{World, storeNext, ledgerNext, foundWritten, fed, acceptedCut}
@@ -48,7 +48,7 @@ module _ (geo : Geometry) where
   -- the group of a sync that is found new is the end of the log written, and the header needs no fallback
   abbrev pub NewLog : Fate → Ledger → Plain → Type 0
   NewLog quiet l d = Unit {0}
-  NewLog (decided G laid all) l d = laid ≡ true → (L : List Entry) × (l .written ≡ L ++ G) × (l .pending ≡ nothing) × (d .F ≡ false)
+  NewLog (decided G laid all) l d = laid ≡ true → (L : List Entry) × (l .written ≡ L ++ G) × (l .pending ≡ nothing) × (d .F ≡ false) × (d .short ≡ none)
 
   -- not open, and no cut lays anything
   pub record OtherPhase (old : Laid) (f : Fate) (st : State) (l : Ledger) (d : Plain) : Type 0 where

@@ -226,6 +226,10 @@ module _ (geo : Geometry) where
     unfolding entered
     noted-orders k e = ap (λ (x : ℕ). noted (recoverHeaders geo (w .store)) x (w .ledger)) (orders-are ∙ e)
 
+    -- with no fallback to come the ledger stays
+    pub same-ledger : w .plain .F ≡ false → ledgerNext geo recover w ≡ w .ledger
+    same-ledger f = noted-orders 0 (ap (λ (o : Done). o .orders) (recover-whole geo found (w .plain) f)) ∙ noted-none (recoverHeaders geo (w .store)) (w .ledger)
+
     taken-whole : w .plain .F ≡ false → WholeCard geo (Firm geo (w .plain .loose)) (w .store .rec .blocks) (blockAt (w .store .settled)) (w .ledger .written) (w .plain .S) (w .plain .n) → Chosen
     unfolding logFound
     taken-whole f r =

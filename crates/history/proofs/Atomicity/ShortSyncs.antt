@@ -1,15 +1,15 @@
 -- What becomes of a sync that is cut short, from a finished sync or recovery to the next recovery.
-use Prim.Native.Nat.{ℕ, _+_, _-_, _≤_, _<_}
+use Prim.Native.Nat.{ℕ, _+_, _*_, _-_, _≤_, _<_}
 use mathlib.Core.Path.{_≡_, refl, ap, ap₂, sym, _∙_}
 use mathlib.Core.Logic.{_≢_, _⊎_}
 use mathlib.Core.Bool.{Bool, true, false, true≢false, cond, not, _&&_}
-use mathlib.Core.List.{List, [], _∷_}
+use mathlib.Core.List.{List, [], _∷_, _++_}
 use native.Mathlib.Omega.{arith}
 use native.Mathlib.Decide.{ℕ-discrete, decLe}
 use borrow.Author.Tests.{eq-eqb, ne-eqb, eqb-true, not-true}
 use lib.Dec.{eqb, leb}
-use lib.ListN.{length}
-use Rattle.cells.specs.Entry.{Entry}
+use lib.ListN.{length, drop}
+use Rattle.cells.specs.Entry.{blockBytes, Entry}
 use Rattle.crash.specs.Laid.{Laid, layOver}
 use Rattle.card.specs.Marks.{keptAt, allKept}
 use Rattle.journal.specs.Geometry.{Geometry}
@@ -19,28 +19,30 @@ use Rattle.store.specs.Local.{Local}
 use Rattle.store.specs.Save as Save
 use Rattle.store.specs.Request as Request
 use Rattle.store.specs.State.{State, Outcome, closed, openMode}
-use Rattle.store.specs.Saves.{groupOf}
-use Rattle.history.specs.Call.{Call, local, save, cut, power, sync, apply, recover}
+use Rattle.store.specs.Saves.{groupOf, applies}
+use Rattle.history.specs.Call.{Call, local, direct, save, cut, power, sync, apply, recover}
 use Rattle.history.specs.Plain as Plain
-use Rattle.history.specs.Plain.{Plain, Done, Short, ofSync, ofRecover, Verdict, verdict, syncTakes, syncWaits, unchanged, headerKept, refusal, plainStep, plainSync, plainApply, plainRecover}
+use Rattle.history.specs.Plain.{Plain, Done, Short, none, ofSync, ofApply, ofRecover, ofDirect, Verdict, verdict, ownVerdict, logAt, directTakes, plainDirect, syncTakes, syncWaits, unchanged, headerKept, refusal, plainStep, plainSync, plainApply, plainRecover}
 use Rattle.history.specs.Dispatch.{dispatch}
-use Rattle.history.specs.Ledger.{entered, inner, sameLog}
-use Rattle.history.specs.History.{World, next, after, storeNext, ledgerNext, foundWritten}
+use Rattle.history.specs.Ledger.{Ledger, Pending, nothing, waits, settledBy, syncHeaders, noted, entered, ownHeader, applyHeader, inner, standing, waitingMet, resolved, sameLog}
+use Rattle.history.specs.History.{World, next, after, storeNext, ledgerNext, foundWritten, fed}
 use Rattle.history.specs.Statements as S
 use Rattle.history.specs.Statements.{Fate, quiet, decided, Progress, known, undecided, observe, fate, outcome, WholeIsNew, shortSync, noneFinished, headed}
 use Rattle.history.proofs.Relation.CauseLaws.{cause-passes}
 use Rattle.history.proofs.Relation.Sim.{Basics, OpenSim, ClosedSim, DownSim, cutSettled, cutWritten}
 use Rattle.history.proofs.Relation.PlainLaws
 use Rattle.history.proofs.Relation.PlainLaws.{innerTakes, apply-laid}
-use Rattle.history.proofs.Steps.Shown.{plainNext, WorldSim, same-cause, plain-served}
+use Rattle.store.specs.Causes.{cause}
+use Rattle.history.proofs.Steps.Shown.{plainNext, WorldSim, same-cause, dispatch-refused, plain-served}
 use Rattle.history.proofs.Relation.OpenFacts as Facts
 use Rattle.history.proofs.Steps.Cut as CutStep
 use Rattle.history.proofs.Steps.Recover.{is-closed}
 use Rattle.history.proofs.Steps.Sync.{short-whole}
 use Rattle.history.proofs.Steps.ListInduction.{step, next-sim, clean-first}
-use Rattle.history.proofs.Relation.PlainAnswers.{sync-cases, LocalKind, powers, opens, local-kind}
+use Rattle.history.proofs.Steps.Notes.{note-at, note-past}
+use Rattle.history.proofs.Relation.PlainAnswers.{sync-cases, direct-cases, LocalKind, powers, opens, local-kind}
 use Rattle.history.proofs.Atomicity.ReadsBack.{power-served, cut-accepted}
-use Rattle.history.proofs.Atomicity.Phases.{ShortPhase, Watch, closed-watch, open-kept, open-now, open-watch, planned, power-same, power-watch, to-watch, watch-at, watch-refused}
+use Rattle.history.proofs.Atomicity.Phases.{headerPlace, NewLog, ShortPhase, Watch, closed-watch, open-kept, open-now, open-watch, planned, power-same, power-watch, to-watch, watch-at, watch-refused}
 
 -- ---- sync
 
@@ -48,7 +50,7 @@ module _ (geo : Geometry) where
   -- the ledger behind its own header
   own-noted : (st : State) (l : Ledger) → st .rec .grouped ≢ 0 → noted (syncHeaders geo st) (inner geo st + (st .rec .grouped + geo .descriptors + 1)) l .pending ≡ waits (waitingMet geo st + (st .rec .grouped + geo .descriptors)) (standing geo st ++ groupOf geo st)
   unfolding syncHeaders
-  own-noted st l z = rw (ne-eqb _ 0 z) (go (applies geo st) refl)
+  own-noted st l z = ap (λ (t : Bool). noted (cond t [] (cond (applies geo st) (applyHeader st ∷ ownHeader geo st ∷ []) (ownHeader geo st ∷ []))) k l .pending) (ne-eqb _ 0 z) ∙ go (applies geo st) refl
     where
       k : ℕ
       k = inner geo st + (st .rec .grouped + geo .descriptors + 1)
@@ -177,7 +179,7 @@ module _ (geo : Geometry) where
         own-pending : headed geo w ≡ true → ledgerNext geo sync w .pending ≡ waits (headerPlace geo (waitingMet geo (w .store)) (groupOf geo (w .store))) (standing geo (w .store) ++ groupOf geo (w .store))
         own-pending e =
             ap (λ (l : Ledger). l .pending) (ap (λ (k : ℕ). noted (syncHeaders geo (w .store)) k (w .ledger)) (eqb-true _ _ e))
-            ∙ own-noted geo (w .store) (w .ledger) (some-group e)
+            ∙ own-noted (w .store) (w .ledger) (some-group e)
             ∙ ap (λ (k : ℕ). waits (waitingMet geo (w .store) + (k + geo .descriptors)) (standing geo (w .store) ++ groupOf geo (w .store))) (sym length-group)
 
   -- ---- apply
@@ -211,6 +213,7 @@ module _ (geo : Geometry) where
             S = y .1;
             laid = λ ms u. ap (λ (v : Verdict). v .laid) (PlainLaws.choose-apply geo (w .plain .power) (w .plain .n) (length (w .plain .G)) (w .plain .F) _ u) ∙ apply-laid (w .plain .power) (w .plain .n) (w .plain .F) _;
             whole = tt;
+            log = tt;
           }))
 
   -- ---- recover
@@ -228,6 +231,11 @@ module _ (geo : Geometry) where
   recover-same w (known quiet) = refl
   recover-same w (undecided G place made) = refl
   recover-same w (known (decided G laid all)) = refl
+
+  -- where the header needs a fallback no sync was found new
+  never-fell : (l m : Ledger) (d d′ : Plain) (f : Fate) → NewLog geo f l d → d .F ≡ true → NewLog geo f m d′
+  never-fell l m d d′ quiet n e = tt
+  never-fell l m d d′ (decided G laid all) n e = λ z. absurd (true≢false (sym e ∙ n z .3))
 
   recover-watch : (old : Laid) (w : World) (f : Progress) → WorldSim geo w → refusal geo recover (w .plain) ≡ 0 → S.finished geo recover w ≡ false → Watch geo old f (w .store) (w .ledger) (w .plain)
       → Watch geo old (observe geo recover w f) (storeNext geo recover w) (ledgerNext geo recover w) (plainNext geo recover w)
@@ -252,9 +260,26 @@ module _ (geo : Geometry) where
           let mode : storeNext geo recover w .rec .mode ≡ 2 = step geo recover w m .agrees .mode ∙ ap (λ (d : Done). d .plain .mode) k in
           watch-at geo old (recover-same w f ∙ y .fated) refl refl (ap (λ (d : Done). d .plain) k)
           (to-watch geo old (y .end) (storeNext geo recover w) (ledgerNext geo recover w) _
-          (record { mode = λ z. omega arith; S = y .phase .S; laid = λ ms u. recover-laid (w .plain .power) (w .plain .n) (length (w .plain .G)) (w .plain .F) _ u; whole = y .phase .whole }))
+          (record { mode = λ z. omega arith; S = y .phase .S; laid = λ ms u. recover-laid (w .plain .power) (w .plain .n) (length (w .plain .G)) (w .plain .F) _ u; whole = y .phase .whole; log = never-fell (w .ledger) (ledgerNext geo recover w) (w .plain) _ (y .end) (y .phase .log) e }))
 
   -- ---- cut
+
+  -- what lays a group needs no fallback
+  laid-whole : (s : Short) (n m : ℕ) (F k f : Bool) → verdict geo s n m F k f .laid ≡ true → verdict geo s n m F k f .F ≡ false
+  laid-whole none n m F k f e = absurd (true≢false (sym e ∙ ap (λ (v : Verdict). v .laid) (PlainLaws.choose-none geo n m F k f)))
+  laid-whole (ofRecover i) n m F k f e = absurd (true≢false (sym e ∙ recover-laid i n m F k f))
+  laid-whole (ofDirect i) n m F k f e = absurd (true≢false (sym e ∙ ap (λ (v : Verdict). v .laid) (PlainLaws.choose-direct geo i n m F k f)))
+  laid-whole (ofApply i) n m F k f e = absurd (true≢false (sym e ∙ ap (λ (v : Verdict). v .laid) (PlainLaws.choose-apply geo i n m F k f) ∙ apply-laid i n F k))
+  laid-whole (ofSync i) n m F k f e = go (ℕ-discrete i (innerTakes geo n m + (m + geo .descriptors + 1)))
+    where
+      own : (k f : Bool) → ownVerdict (PlainLaws.countMet geo n m) m k f .laid ≡ true → ownVerdict (PlainLaws.countMet geo n m) m k f .F ≡ false
+      own true true z = ap (λ (v : Verdict). v .F) (PlainLaws.own-new (PlainLaws.countMet geo n m) m)
+      own true false z = absurd (true≢false (sym z ∙ ap (λ (v : Verdict). v .laid) (PlainLaws.own-other (PlainLaws.countMet geo n m) m)))
+      own false f z = absurd (true≢false (sym z ∙ ap (λ (v : Verdict). v .laid) (PlainLaws.own-lost (PlainLaws.countMet geo n m) m f)))
+
+      go : Dec (i ≡ innerTakes geo n m + (m + geo .descriptors + 1)) → verdict geo (ofSync i) n m F k f .F ≡ false
+      go (yes z) = let v = PlainLaws.choose-sync-own geo i n m F k f z in ap (λ (x : Verdict). x .F) v ∙ own k f (sym (ap (λ (x : Verdict). x .laid) v) ∙ e)
+      go (no z) = absurd (true≢false (sym e ∙ PlainLaws.sync-still geo i n m F k f z))
 
   -- whether the log found after the cut is the log written
   abbrev pub cut-found : List ℕ → World → Bool
@@ -270,32 +295,64 @@ module _ (geo : Geometry) where
 
     -- nothing is laid
     cut-still : (old : Laid) (f : Fate) → observe geo (cut ms) w (known f) ≡ known f
-        → planned geo (w .plain) ms (cut-found ms w) .laid ≡ false → w .plain .S ≡ outcome f old → WholeIsNew f
+        → planned geo (w .plain) ms (cut-found ms w) .laid ≡ false → w .plain .S ≡ outcome f old → WholeIsNew f → NewLog geo f (w .ledger) (w .plain)
         → Watch geo old (observe geo (cut ms) w (known f)) (storeNext geo (cut ms) w) (ledgerNext geo (cut ms) w) (plainNext geo (cut ms) w)
-    cut-still old f q z s y =
-        watch-at geo old q refl refl cut-plain
-        (to-watch geo old f (storeNext geo (cut ms) w) (ledgerNext geo (cut ms) w) _
-        (record { mode = closed-now; S = ap (λ (t : Bool). cond t (layOver (w .plain .G) (w .plain .S)) (w .plain .S)) z ∙ s; laid = λ ns u. ap (λ (v : Verdict). v .laid) (PlainLaws.choose-none geo _ _ _ _ u); whole = y }))
+    unfolding resolved
+    cut-still old f q z s y n =
+        watch-at geo old q refl (CutStep.ledger-cut geo ms w m h) cut-plain
+        (to-watch geo old f (storeNext geo (cut ms) w) (CutStep.writtenAt ms (w .ledger)) _
+        (record {
+          mode = closed-now;
+          S = ap (λ (t : Bool). cond t (layOver (w .plain .G) (w .plain .S)) (w .plain .S)) z ∙ s;
+          laid = λ ns u. ap (λ (v : Verdict). v .laid) (PlainLaws.choose-none geo _ _ _ _ u);
+          whole = y;
+          log = same-log f n;
+        }))
+      where
+        same-log : (f : Fate) → NewLog geo f (w .ledger) (w .plain) → NewLog geo f (CutStep.writtenAt ms (w .ledger)) (CutStep.plainAt (w .store) (w .plain) (cond (planned geo (w .plain) ms (cut-found ms w) .laid) (layOver (w .plain .G) (w .plain .S)) (w .plain .S)) (planned geo (w .plain) ms (cut-found ms w) .n) (planned geo (w .plain) ms (cut-found ms w) .F)
+            (logAt (planned geo (w .plain) ms (cut-found ms w)) (w .plain .G) (w .plain .log)))
+        same-log quiet n = tt
+        same-log (decided G laid all) n = λ e.
+            let r = n e in (
+              r .0,
+              ap (λ (p : Pending). resolved ms p (w .ledger .written)) (r .2) ∙ r .1,
+              refl,
+              ap (λ (x : Short). verdict geo x (w .plain .n) (length (w .plain .G)) (w .plain .F) (headerKept ms (w .plain .waiting)) (cut-found ms w) .F) (r .4)
+                  ∙ ap (λ (v : Verdict). v .F) (PlainLaws.choose-none geo (w .plain .n) (length (w .plain .G)) (w .plain .F) (headerKept ms (w .plain .waiting)) (cut-found ms w)) ∙ r .3,
+              refl,
+            )
 
-    pub cut-observed : (G : List Entry) (place : ℕ) (made : Bool) → observe geo (cut ms) w (undecided G place made) ≡ known (decided G (made && keptAt ms place && cut-found ms w) (made && allKept ms))
+    pub cut-observed : (G : List Entry) (from : ℕ) (made : Bool)
+        → observe geo (cut ms) w (undecided G from made) ≡ known (decided G (made && keptAt ms (headerPlace geo from G) && cut-found ms w) (made && allKept (drop (blockBytes * from) ms)))
     unfolding observe
-    cut-observed G place made =
-        ap (λ (t : Bool). cond t (known (decided G (made && keptAt ms place && foundWritten geo (cut ms) w) (made && allKept ms))) (undecided G place made)) (cut-accepted geo ms w m h)
-        ∙ ap (λ (t : Bool). known (decided G (made && keptAt ms place && t) (made && allKept ms))) (CutStep.found-cut geo ms w m h)
+    cut-observed G from made =
+        ap (λ (t : Bool). cond t (known (decided G (made && keptAt ms (headerPlace geo from G) && foundWritten geo (cut ms) w) (made && allKept (drop (blockBytes * from) ms)))) (undecided G from made)) (cut-accepted geo ms w m h)
+        ∙ ap (λ (t : Bool). known (decided G (made && keptAt ms (headerPlace geo from G) && t) (made && allKept (drop (blockBytes * from) ms)))) (CutStep.found-cut geo ms w m h)
 
-    cut-decides : (old : Laid) (G : List Entry) (place : ℕ) (made : Bool) → ShortPhase geo old G place made (w .store) (w .ledger) (w .plain)
-        → Watch geo old (observe geo (cut ms) w (undecided G place made)) (storeNext geo (cut ms) w) (ledgerNext geo (cut ms) w) (plainNext geo (cut ms) w)
-    cut-decides old G place made x =
-        watch-at geo old (cut-observed G place made) refl refl cut-plain
+    cut-decides : (old : Laid) (G : List Entry) (from : ℕ) (made : Bool) → ShortPhase geo old G from made (w .store) (w .ledger) (w .plain)
+        → Watch geo old (observe geo (cut ms) w (undecided G from made)) (storeNext geo (cut ms) w) (ledgerNext geo (cut ms) w) (plainNext geo (cut ms) w)
+    unfolding resolved
+    cut-decides old G from made x =
+        watch-at geo old (cut-observed G from made) refl (CutStep.ledger-cut geo ms w m h) cut-plain
         (record {
           mode = closed-now;
           S = ap (λ (t : Bool). cond t (layOver (w .plain .G) (w .plain .S)) (w .plain .S)) (x .laid ms (cut-found ms w))
-              ∙ ap₂ (λ (g : List Entry) (d : Laid). cond (made && keptAt ms place && cut-found ms w) (layOver g d) d) (x .group) (x .S);
+              ∙ ap₂ (λ (g : List Entry) (d : Laid). cond (made && keptAt ms (headerPlace geo from G) && cut-found ms w) (layOver g d) d) (x .group) (x .S);
           laid = λ ns u. ap (λ (v : Verdict). v .laid) (PlainLaws.choose-none geo _ _ _ _ u);
           whole = λ e.
-              let q = both made (allKept ms) e in
+              let q = both made (allKept (drop (blockBytes * from) ms)) e in
               let y = x .whole (q .0) ms (CutStep.fits-cut geo ms w m h) (q .1) in
               rw (q .0, y .0, y .1);
+          log = λ e.
+              let q = both (made && keptAt ms (headerPlace geo from G)) (cut-found ms w) e in
+              let k = both made (keptAt ms (headerPlace geo from G)) (q .0) in
+              let r = x .log (k .0) in (
+                r .0,
+                ap (λ (p : Pending). resolved ms p (w .ledger .written)) (r .1) ∙ ap (λ (t : Bool). cond t (r .0 ++ G) (w .ledger .written)) (k .1),
+                refl,
+                laid-whole (w .plain .short) (w .plain .n) (length (w .plain .G)) (w .plain .F) (headerKept ms (w .plain .waiting)) (cut-found ms w) (x .laid ms (cut-found ms w) ∙ e),
+                refl,
+              );
         })
 
     -- on an open record no cut lays anything
@@ -311,10 +368,10 @@ module _ (geo : Geometry) where
 
     cut-watch : (old : Laid) (f : Progress) → Watch geo old f (w .store) (w .ledger) (w .plain) → Watch geo old (observe geo (cut ms) w f) (storeNext geo (cut ms) w) (ledgerNext geo (cut ms) w) (plainNext geo (cut ms) w)
     unfolding observe shortSync
-    cut-watch old (known quiet) (_⊎_.inl x) = cut-still old quiet refl (open-lays-none (x .mode)) (x .S) tt
-    cut-watch old (known quiet) (_⊎_.inr x) = cut-still old quiet refl (x .laid ms (cut-found ms w)) (x .S) tt
+    cut-watch old (known quiet) (_⊎_.inl x) = cut-still old quiet refl (open-lays-none (x .mode)) (x .S) tt tt
+    cut-watch old (known quiet) (_⊎_.inr x) = cut-still old quiet refl (x .laid ms (cut-found ms w)) (x .S) tt tt
     cut-watch old (undecided G place made) x = cut-decides old G place made x
-    cut-watch old (known (decided G laid all)) x = cut-still old (decided G laid all) refl (x .laid ms (cut-found ms w)) (x .S) (x .whole)
+    cut-watch old (known (decided G laid all)) x = cut-still old (decided G laid all) refl (x .laid ms (cut-found ms w)) (x .S) (x .whole) (x .log)
 
   -- ---- every call
 
@@ -328,27 +385,81 @@ module _ (geo : Geometry) where
       let P = plain-served geo (local c) (fed geo (local c) w) (w .plain) h in
       open-kept geo old (local c) w f m (open-now geo (local c) w m n h .mode) x (ap (λ (d : Done). d .plain .mode) P ∙ s (w .plain) .mode) (ap (λ (d : Done). d .plain .S) P ∙ s (w .plain) .S) refl
 
+  -- a direct write, on an open record: done, its block is laid into S
+  direct-watch : (old : Laid) (a : ℕ) (b : List ℕ) (w : World) (f : Progress) → WorldSim geo w → refusal geo (direct a b) (w .plain) ≡ 0 → Watch geo old f (w .store) (w .ledger) (w .plain)
+      → Watch geo (S.drawnBy geo (direct a b) w old) (observe geo (direct a b) w f) (storeNext geo (direct a b) w) (ledgerNext geo (direct a b) w) (plainNext geo (direct a b) w)
+  unfolding observe shortSync S.directDone
+  direct-watch old a b w f m h x = go (decLe (directTakes geo (w .plain .waiting)) (w .plain .power))
+    where
+      o : OpenSim geo (w .store) (w .ledger) (w .plain)
+      o = open-now geo (direct a b) w m refl h
+
+      y : (f ≡ known quiet) × (w .plain .S ≡ old)
+      y = open-watch geo old f (w .store) (w .ledger) (w .plain) x (o .mode)
+
+      P : plainStep geo (direct a b) (fed geo (direct a b) w) (w .plain) ≡ plainDirect geo a b (w .plain)
+      P = plain-served geo (direct a b) (fed geo (direct a b) w) (w .plain) h
+
+      answers : (D : Done) → plainDirect geo a b (w .plain) ≡ D → dispatch geo (direct a b) (w .store) .answer ≡ D .answer
+      answers D e = step geo (direct a b) w m .agrees .answer ∙ ap (λ (d : Done). d .answer) (P ∙ e)
+
+      go : Dec (directTakes geo (w .plain .waiting) ≤ w .plain .power) → Watch geo (S.drawnBy geo (direct a b) w old) (observe geo (direct a b) w f) (storeNext geo (direct a b) w) (ledgerNext geo (direct a b) w) (plainNext geo (direct a b) w)
+      go (yes q) =
+          let e = PlainLaws.direct-done geo a b (w .plain) q in
+          let done : eqb (dispatch geo (direct a b) (w .store) .answer) 0 ≡ true = eq-eqb _ 0 (answers _ e) in
+          rw (done, y .0)
+          (_⊎_.inl (record {
+            mode = step geo (direct a b) w m .agrees .mode ∙ ap (λ (d : Done). d .plain .mode) (P ∙ e) ∙ m .basics .mirrors .mode ∙ o .mode;
+            S = ap (λ (d : Done). d .plain .S) (P ∙ e) ∙ ap (Plain.drawn (record { address = a; block = b })) (y .1);
+          }))
+      go (no q) =
+          let e = PlainLaws.direct-short geo a b (w .plain) (omega arith) in
+          let four : dispatch geo (direct a b) (w .store) .answer ≡ 4 = answers _ e in
+          let gone : eqb (dispatch geo (direct a b) (w .store) .answer) 0 ≡ false = ne-eqb (dispatch geo (direct a b) (w .store) .answer) 0 (λ z. omega (arith, sym four ∙ z)) in
+          let mode : storeNext geo (direct a b) w .rec .mode ≡ 2 = step geo (direct a b) w m .agrees .mode ∙ ap (λ (d : Done). d .plain .mode) (P ∙ e) in
+          rw (gone, y .0)
+          (watch-at geo old {f = known quiet} refl refl refl (ap (λ (d : Done). d .plain) (P ∙ e))
+          (_⊎_.inr (record {
+            mode = λ k. omega arith;
+            S = y .1;
+            laid = λ ms u. ap (λ (v : Verdict). v .laid) (PlainLaws.choose-direct geo (w .plain .power) (w .plain .n) (length (w .plain .G)) (w .plain .F) _ u);
+            whole = tt;
+            log = tt;
+          })))
+
   served-watch : (old : Laid) (c : Call) (w : World) (f : Progress) → WorldSim geo w → refusal geo c (w .plain) ≡ 0 → S.finished geo c w ≡ false → Watch geo old f (w .store) (w .ledger) (w .plain)
-      → Watch geo old (observe geo c w f) (storeNext geo c w) (ledgerNext geo c w) (plainNext geo c w)
-  unfolding observe shortSync entered
+      → Watch geo (S.drawnBy geo c w old) (observe geo c w f) (storeNext geo c w) (ledgerNext geo c w) (plainNext geo c w)
+  unfolding observe shortSync entered S.directDone
   served-watch old (local c) w f m h nf x = local-watch old c w f (local-kind geo c) m h x
+  served-watch old (direct a b) w f m h nf x = direct-watch old a b w f m h x
   served-watch old (save Save.sync) w f m h nf x = sync-watch w m h nf old f x
   served-watch old (save Save.apply) w f m h nf x = apply-watch old w f m h x
   served-watch old (save Save.recover) w f m h nf x = recover-watch old w f m h nf x
   served-watch old (cut ms) w f m h nf x = cut-watch ms w m h old f x
 
+  -- a refused call lays nothing
+  drawn-refused : (old : Laid) (c : Call) (w : World) → WorldSim geo w → refusal geo c (w .plain) ≢ 0 → S.drawnBy geo c w old ≡ old
+  unfolding S.directDone
+  drawn-refused old (local c) w m h = refl
+  drawn-refused old (direct a b) w m h =
+      let k : cause geo (Request.direct a b) (w .store) ≢ 0 = λ e. h (sym (same-cause geo (w .store) (w .ledger) (w .plain) m (direct a b)) ∙ e) in
+      let e : dispatch geo (direct a b) (w .store) .answer ≡ cause geo (Request.direct a b) (w .store) = ap (λ (o : Outcome). o .answer) (dispatch-refused geo (direct a b) (w .store) k) in
+      rw (e, ne-eqb _ 0 k)
+  drawn-refused old (save c) w m h = refl
+  drawn-refused old (cut ms) w m h = refl
+
   pub watch-step : (old : Laid) (c : Call) (w : World) (f : Progress) → WorldSim geo w → S.finished geo c w ≡ false → Watch geo old f (w .store) (w .ledger) (w .plain)
-      → Watch geo old (observe geo c w f) (storeNext geo c w) (ledgerNext geo c w) (plainNext geo c w)
+      → Watch geo (S.drawnBy geo c w old) (observe geo c w f) (storeNext geo c w) (ledgerNext geo c w) (plainNext geo c w)
   watch-step old c w f m nf x = go (ℕ-discrete (refusal geo c (w .plain)) 0)
     where
-      go : Dec (refusal geo c (w .plain) ≡ 0) → Watch geo old (observe geo c w f) (storeNext geo c w) (ledgerNext geo c w) (plainNext geo c w)
+      go : Dec (refusal geo c (w .plain) ≡ 0) → Watch geo (S.drawnBy geo c w old) (observe geo c w f) (storeNext geo c w) (ledgerNext geo c w) (plainNext geo c w)
       go (yes h) = served-watch old c w f m h nf x
-      go (no h) = watch-refused geo old c w f h m x
+      go (no h) = rw (drawn-refused old c w m h) (watch-refused geo old c w f h m x)
 
   pub watch-list : (old : Laid) (cs : List Call) (w : World) (f : Progress) → WorldSim geo w → noneFinished geo cs w ≡ true → after geo cs w .excepted ≡ false → Watch geo old f (w .store) (w .ledger) (w .plain)
-      → Watch geo old (fate geo cs w f) (after geo cs w .store) (after geo cs w .ledger) (after geo cs w .plain)
-  unfolding after fate noneFinished next
+      → Watch geo (S.drawnOver geo cs w old) (fate geo cs w f) (after geo cs w .store) (after geo cs w .ledger) (after geo cs w .plain)
+  unfolding after fate noneFinished next S.drawnOver
   watch-list old [] w f m n e x = x
   watch-list old (c ∷ cs) w f m n e x =
       let p = both (not (S.finished geo c w)) (noneFinished geo cs (next geo c w)) n in
-      watch-list old cs (next geo c w) (observe geo c w f) (next-sim geo c w m (clean-first geo c cs w e)) (p .1) e (watch-step old c w f m (not-true _ (p .0)) x)
+      watch-list (S.drawnBy geo c w old) cs (next geo c w) (observe geo c w f) (next-sim geo c w m (clean-first geo c cs w e)) (p .1) e (watch-step old c w f m (not-true _ (p .0)) x)

@@ -10,31 +10,36 @@ use native.Mathlib.Decide.{ℕ-discrete, decLe}
 use borrow.Author.Tests.{eq-eqb, ne-eqb, eqb-true, not-true}
 use Rattle.card.specs.Disk.{Disk, overlay}
 use Rattle.crash.specs.Laid.{Laid}
-use Rattle.card.specs.Card.{blocksIn}
-use Rattle.card.proofs.Overlays.{overlay-nil}
+use Rattle.card.specs.Card.{queue, blockAt, blocksIn}
+use Rattle.cells.specs.Entry.{Entry}
+use Rattle.card.proofs.Overlays.{overlay-nil, overlay-append, overlay-cover}
 use Rattle.journal.specs.Geometry.{Geometry}
 use Rattle.journal.specs.Layout.{isData}
 use Rattle.journal.proofs.Choices.{both}
 use Rattle.store.specs.Local.{Local}
 use Rattle.store.specs.Save as Save
 use Rattle.store.specs.Save.{Save}
-use Rattle.store.specs.State.{State, Outcome, openMode}
+use Rattle.store.specs.State.{State, Outcome, openMode, cardIn}
 use Rattle.store.specs.Causes.{cause}
 use Rattle.store.specs.Format.{formatted, formatCall}
-use Rattle.history.specs.Call.{Call, requestOf, local, save, cut, power, get, sync, apply, recover}
-use Rattle.history.specs.Plain.{Plain, Done, fresh, refusal, plainStep, plainRecover, plainGet}
+use Rattle.history.specs.Call.{Call, requestOf, local, direct, save, cut, power, get, sync, apply, recover}
+use Rattle.history.specs.Plain as Plain
+use Rattle.history.specs.Plain.{Plain, among, addresses, Fed, Done, fresh, refusal, plainStep, plainRecover, plainGet}
 use Rattle.store.specs.Get.{blockOf}
 use Rattle.history.specs.Dispatch.{dispatch}
-use Rattle.history.specs.History.{World, begun, next, after, storeNext, ledgerNext, foundWritten}
+use Rattle.history.specs.History.{World, begun, next, after, storeNext, ledgerNext, fed}
+use Rattle.history.specs.Ledger.{Ledger}
 use Rattle.history.specs.Statements as S
-use Rattle.history.specs.Statements.{Fate, quiet, known, fate, outcome, WholeIsNew, shortSync, countShort, noneFinished, EndsFinished, groupsLaid, numberFound, CrashAtomicity}
+use Rattle.history.specs.Statements.{Fate, quiet, decided, known, fate, outcome, WholeIsNew, shortSync, countShort, noneFinished, EndsFinished, groupsLaid, numberFound, CrashAtomicity}
+use Rattle.history.proofs.Relation.Lists.{besides-firm}
+use Rattle.history.proofs.Relation.OpenFacts as Facts
 use Rattle.history.proofs.Relation.PlainLaws as PlainLaws
 use Rattle.history.proofs.Steps.Shown.{plainNext, WorldSim, same-cause, dispatch-refused, plain-refused, plain-served}
 use Rattle.history.proofs.Steps.Cut as CutStep
 use Rattle.history.proofs.Steps.ListInduction.{step, next-sim, after-sim, after-append, clean-before, clean-first, begun-sim, formatted-now}
 use Rattle.history.proofs.Relation.PlainAnswers.{sync-cases, LocalKind, powers, opens, local-kind, served-N}
-use Rattle.history.proofs.Atomicity.ReadsBack.{found-closed, recovered-sim, recovered-mode, power-served}
-use Rattle.history.proofs.Atomicity.Phases.{Watch, short-is, not-short, short-serves, open-now, closed-watch}
+use Rattle.history.proofs.Atomicity.ReadsBack.{found-closed, recovered-sim, recovered-mode, recovered-open, same-ledger, power-served}
+use Rattle.history.proofs.Atomicity.Phases.{OtherPhase, Watch, short-is, not-short, short-serves, open-now, closed-watch}
 use Rattle.history.proofs.Atomicity.ShortSyncs.{watch-list, short-plain}
 use Rattle.history.proofs.Atomicity.Finished.{served-of, finished-opens}
 use Rattle.history.proofs.Atomicity.Counts.{groups-counted}
@@ -42,7 +47,7 @@ use Rattle.history.proofs.Atomicity.Counts.{groups-counted}
 -- ---- N never changes
 
 module _ (geo : Geometry) where
-  step-N : (c : Call) (f : Bool) (d : Plain) → plainStep geo c f d .plain .N ≡ d .N
+  step-N : (c : Call) (f : Fed) (d : Plain) → plainStep geo c f d .plain .N ≡ d .N
   step-N c f d = go (ℕ-discrete (refusal geo c d) 0)
     where
       go : Dec (refusal geo c d ≡ 0) → plainStep geo c f d .plain .N ≡ d .N
@@ -52,7 +57,7 @@ module _ (geo : Geometry) where
   after-N : (cs : List Call) (w : World) → after geo cs w .plain .N ≡ w .plain .N
   unfolding after next
   after-N [] w = refl
-  after-N (c ∷ cs) w = after-N cs (next geo c w) ∙ step-N c (foundWritten geo c w) (w .plain)
+  after-N (c ∷ cs) w = after-N cs (next geo c w) ∙ step-N c (fed geo c w) (w .plain)
 
   -- ---- a fresh card is open
 
@@ -77,17 +82,17 @@ module _ (geo : Geometry) where
   unfolding S.finished
   shut-recover w m h nf e = go (w .plain .F) refl (decLe 2 (w .plain .power))
     where
-      P : plainStep geo recover (foundWritten geo recover w) (w .plain) ≡ plainRecover (w .plain)
-      P = plain-served geo recover (foundWritten geo recover w) (w .plain) h
+      P : plainStep geo recover (fed geo recover w) (w .plain) ≡ plainRecover geo (fed geo recover w .found) (w .plain)
+      P = plain-served geo recover (fed geo recover w) (w .plain) h
 
-      not-zero : plainRecover (w .plain) .answer ≡ 0 → ⊥
+      not-zero : plainRecover geo (fed geo recover w .found) (w .plain) .answer ≡ 0 → ⊥
       not-zero q = true≢false (sym (eq-eqb _ 0 (step geo recover w m .agrees .answer ∙ ap (λ (d : Done). d .answer) P ∙ q)) ∙ nf)
 
       go : (t : Bool) → w .plain .F ≡ t → Dec (2 ≤ w .plain .power) → ⊥
-      go false f q = not-zero (ap (λ (d : Done). d .answer) (PlainLaws.recover-whole (w .plain) f))
-      go true f (yes q) = not-zero (ap (λ (d : Done). d .answer) (PlainLaws.recover-fallback (w .plain) f q))
+      go false f q = not-zero (ap (λ (d : Done). d .answer) (PlainLaws.recover-whole geo (fed geo recover w .found) (w .plain) f))
+      go true f (yes q) = not-zero (ap (λ (d : Done). d .answer) (PlainLaws.recover-fallback geo (fed geo recover w .found) (w .plain) f q))
       go true f (no q) =
-          let k : _≡_ {A = ℕ} 2 1 = sym (step geo recover w m .agrees .mode ∙ ap (λ (d : Done). d .plain .mode) (P ∙ PlainLaws.recover-short (w .plain) f (omega arith))) ∙ e in
+          let k : _≡_ {A = ℕ} 2 1 = sym (step geo recover w m .agrees .mode ∙ ap (λ (d : Done). d .plain .mode) (P ∙ PlainLaws.recover-short geo (fed geo recover w .found) (w .plain) f (omega arith))) ∙ e in
           omega arith
 
   local-shut : (c : Local) (w : World) → LocalKind geo c → WorldSim geo w → w .store .rec .mode ≢ openMode → refusal geo (local c) (w .plain) ≡ 0 → storeNext geo (local c) w .rec .mode ≢ openMode
@@ -96,6 +101,7 @@ module _ (geo : Geometry) where
 
   served-shut : (c : Call) (w : World) → WorldSim geo w → w .store .rec .mode ≢ openMode → S.finished geo c w ≡ false → refusal geo c (w .plain) ≡ 0 → storeNext geo c w .rec .mode ≢ openMode
   served-shut (local c) w m z nf h e = local-shut c w (local-kind geo c) m z h e
+  served-shut (direct a b) w m z nf h e = z (open-now geo (direct a b) w m refl h .mode)
   served-shut (save Save.sync) w m z nf h e = z (open-now geo sync w m refl h .mode)
   served-shut (save Save.apply) w m z nf h e = z (open-now geo apply w m refl h .mode)
   served-shut (save Save.recover) w m z nf h e = shut-recover w m h nf e
@@ -156,8 +162,8 @@ module _ (geo : Geometry) where
     r : refusal geo recover (w .plain) ≡ 0
     r = served-of geo recover w m h
 
-    plain-is : plainNext geo recover w ≡ plainRecover (w .plain) .plain
-    plain-is = ap (λ (o : Done). o .plain) (plain-served geo recover (foundWritten geo recover w) (w .plain) r)
+    plain-is : plainNext geo recover w ≡ plainRecover geo (fed geo recover w .found) (w .plain) .plain
+    plain-is = ap (λ (o : Done). o .plain) (plain-served geo recover (fed geo recover w) (w .plain) r)
 
     mode-is : plainNext geo recover w .mode ≡ 1
     mode-is = sim .basics .mirrors .mode ∙ recovered-mode geo w m h
@@ -165,40 +171,65 @@ module _ (geo : Geometry) where
     get-served : (N x : ℕ) → N ≡ w .plain .N → isData geo N x ≡ true → refusal geo (get x) (plainNext geo recover w) ≡ 0
     unfolding refusal
     get-served N x e q =
-        let k : plainNext geo recover w .N ≡ N = step-N recover (foundWritten geo recover w) (w .plain) ∙ sym e in
+        let k : plainNext geo recover w .N ≡ N = step-N recover (fed geo recover w) (w .plain) ∙ sym e in
         let t : isData geo (plainNext geo recover w .N) x ≡ true = ap (λ (y : ℕ). isData geo y x) k ∙ q in
         rw (ne-eqb (plainNext geo recover w .mode) 0 (λ z. omega (arith, mode-is)), ne-eqb (plainNext geo recover w .mode) 2 (λ z. omega (arith, mode-is)), t)
 
-    lists-empty : (plainRecover (w .plain) .plain .T ≡ w .plain .T) × (plainRecover (w .plain) .plain .G ≡ w .plain .G)
-    lists-empty = go (w .plain .F) refl (decLe 2 (w .plain .power))
-      where
-        go : (t : Bool) → w .plain .F ≡ t → Dec (2 ≤ w .plain .power) → (plainRecover (w .plain) .plain .T ≡ w .plain .T) × (plainRecover (w .plain) .plain .G ≡ w .plain .G)
-        go false f q = (ap (λ (o : Done). o .plain .T) (PlainLaws.recover-whole (w .plain) f), ap (λ (o : Done). o .plain .G) (PlainLaws.recover-whole (w .plain) f))
-        go true f (yes q) = (ap (λ (o : Done). o .plain .T) (PlainLaws.recover-fallback (w .plain) f q), ap (λ (o : Done). o .plain .G) (PlainLaws.recover-fallback (w .plain) f q))
-        go true f (no q) = (ap (λ (o : Done). o .plain .T) (PlainLaws.recover-short (w .plain) f (omega arith)), ap (λ (o : Done). o .plain .G) (PlainLaws.recover-short (w .plain) f (omega arith)))
+    abbrev found : Disk
+    found = fed geo recover w .found
 
-    plain-get : (x : ℕ) → plainGet x (plainNext geo recover w) ≡ w .plain .S .disk x
+    -- what it makes of the plain disk
+    recovered-is : (k : ℕ) × (plainRecover geo found (w .plain) ≡ Plain.done k (Plain.recovered k found (w .plain)))
+    recovered-is = go (w .plain .F) refl (decLe 2 (w .plain .power))
+      where
+        go : (t : Bool) → w .plain .F ≡ t → Dec (2 ≤ w .plain .power) → (k : ℕ) × (plainRecover geo found (w .plain) ≡ Plain.done k (Plain.recovered k found (w .plain)))
+        go false f q = (0, PlainLaws.recover-whole geo found (w .plain) f)
+        go true f (yes q) = (2, PlainLaws.recover-fallback geo found (w .plain) f q)
+        go true f (no q) =
+            let P = plain-served geo recover (fed geo recover w) (w .plain) r ∙ PlainLaws.recover-short geo found (w .plain) f (omega arith) in
+            absurd (let k : _≡_ {A = ℕ} 4 0 = sym (ap (λ (o : Done). o .answer) P) ∙ sym (step geo recover w m .agrees .answer) ∙ h in omega arith)
+
+    plain-now : plainNext geo recover w ≡ Plain.recovered (recovered-is .0) found (w .plain)
+    plain-now = plain-is ∙ ap (λ (o : Done). o .plain) (recovered-is .1)
+
+    -- a get then shows S, as it takes what is found
+    plain-get : (x : ℕ) → plainGet x (plainNext geo recover w) ≡ plainNext geo recover w .S .disk x
     unfolding plainGet
     plain-get x =
         let c = found-closed geo w m h in
-        let T : plainNext geo recover w .T ≡ [] = ap (λ (d : Plain). d .T) plain-is ∙ lists-empty .0 ∙ c .T in
-        let G : plainNext geo recover w .G ≡ [] = ap (λ (d : Plain). d .G) plain-is ∙ lists-empty .1 ∙ c .G in
-        let S′ : plainNext geo recover w .S .disk ≡ w .plain .S .disk = ap (λ (d : Plain). d .S .disk) plain-is ∙ ap (λ (S : Laid). S .disk) (PlainLaws.recover-S (w .plain)) in
-        (λ i. overlay (T i) (overlay (G i) (S′ i)) x)
-        ∙ ap (λ (f : Disk). f x) (overlay-nil (overlay [] (w .plain .S .disk)) ∙ overlay-nil (w .plain .S .disk))
+        let T : plainNext geo recover w .T ≡ [] = ap (λ (d : Plain). d .T) plain-now ∙ c .T in
+        let G : plainNext geo recover w .G ≡ [] = ap (λ (d : Plain). d .G) plain-now ∙ c .G in
+        (λ i. overlay (T i) (overlay (G i) (plainNext geo recover w .S .disk)) x)
+        ∙ ap (λ (f : Disk). f x) (overlay-nil (overlay [] (plainNext geo recover w .S .disk)) ∙ overlay-nil (plainNext geo recover w .S .disk))
 
     -- the number found
     pub found-number : numberFound geo w ≡ w .plain .S .groups
-    found-number =
-        step geo recover w m .agrees .save (recovered-mode geo w m h)
-        ∙ ap (λ (d : Plain). d .S .groups) plain-is ∙ ap (λ (S : Laid). S .groups) (PlainLaws.recover-S (w .plain))
+    found-number = step geo recover w m .agrees .save (recovered-mode geo w m h) ∙ ap (λ (d : Plain). d .S .groups) plain-now
 
-    pub found-is : (N : ℕ) (d : Disk) → N ≡ w .plain .N → w .plain .S .disk ≡ d → S.FoundIs geo N (storeNext geo recover w) d
-    found-is N d e s x q =
+    -- a get is answered
+    pub shows-S : (N x : ℕ) → N ≡ w .plain .N → isData geo N x ≡ true → S.Shows geo (storeNext geo recover w) x (plainNext geo recover w .S .disk x)
+    shows-S N x e q =
         let a = step geo (get x) v sim .agrees in
         let z : dispatch geo (get x) (storeNext geo recover w) .answer ≡ 0 =
-        a .answer ∙ ap (λ (o : Done). o .answer) (plain-served geo (get x) (foundWritten geo (get x) v) (plainNext geo recover w) (get-served N x e q)) in
-        (z, a .block x refl z ∙ plain-get x ∙ ap (λ (f : Disk). f x) s)
+        a .answer ∙ ap (λ (o : Done). o .answer) (plain-served geo (get x) (fed geo (get x) v) (plainNext geo recover w) (get-served N x e q)) in
+        (z, a .block x refl z ∙ plain-get x)
+
+    -- a block that is not loose is S's
+    pub firm-found : (x : ℕ) → among x (w .plain .loose) ≡ false → plainNext geo recover w .S .disk x ≡ w .plain .S .disk x
+    firm-found x z = ap (λ (d : Plain). d .S .disk x) plain-now ∙ ap (λ (t : Bool). cond t (found x) (w .plain .S .disk x)) z
+
+    -- a block that the end of the log has
+    pub logged-found : (L G : List Entry) (D : Disk) (x : ℕ) → isData geo (w .store .rec .blocks) x ≡ true → w .plain .F ≡ false → w .ledger .written ≡ L ++ G → among x (addresses G) ≡ true
+        → plainNext geo recover w .S .disk x ≡ overlay G D x
+    logged-found L G D x q f e i =
+        let o = recovered-open geo w m h in
+        let N : storeNext geo recover w .rec .blocks ≡ w .store .rec .blocks = sym (sim .basics .mirrors .N) ∙ step-N recover (fed geo recover w) (w .plain) ∙ m .basics .mirrors .N in
+        let list : Facts.log geo (storeNext geo recover w) (ledgerNext geo recover w) (plainNext geo recover w) (sim .basics) o ≡ L ++ G =
+        sym (Facts.written-is geo (storeNext geo recover w) (ledgerNext geo recover w) (plainNext geo recover w) (sim .basics) o) ∙ ap (λ (l : Ledger). l .written) (same-ledger geo w m h f) ∙ e in
+        Facts.open-disk geo (storeNext geo recover w) (ledgerNext geo recover w) (plainNext geo recover w) (sim .basics) o x (ap (λ (k : ℕ). isData geo k x) N ∙ q)
+        ∙ ap (λ (l : List Entry). overlay l (overlay (queue (cardIn (storeNext geo recover w))) (blockAt (storeNext geo recover w .settled))) x) list
+        ∙ ap (λ (d : Disk). d x) (overlay-append L G _)
+        ∙ overlay-cover G _ D x (λ off. absurd (true≢false (sym i ∙ besides-firm x G off)))
 
   -- ---- a reading of the list: what is said of an a that ends in a finished sync or recovery, and a b that holds none
 
@@ -206,31 +237,63 @@ module _ (geo : Geometry) where
     pub one : countShort geo b (after geo a (begun geo st)) ≤ 1
     pub end : Fate
     pub fated : fate geo b (after geo a (begun geo st)) (known quiet) ≡ known end
-    pub found : S.FoundIs geo (blocksIn (st .settled)) (storeNext geo recover (after geo b (after geo a (begun geo st)))) (outcome end (after geo a (begun geo st) .plain .S) .disk)
+    pub found : S.FoundIs geo (λ x. (among x (after geo b (after geo a (begun geo st)) .plain .loose) ≡ false) ⊎ (S.newHas end x ≡ true)) (blocksIn (st .settled)) (storeNext geo recover (after geo b (after geo a (begun geo st))))
+        (outcome end (S.drawnOver geo b (after geo a (begun geo st)) (after geo a (begun geo st) .plain .S)) .disk)
     pub number : numberFound geo (after geo b (after geo a (begun geo st))) ≡ outcome end (after geo a (begun geo st) .plain .S) .groups
     pub whole : WholeIsNew end
+
+  -- no group is laid by direct writes
+  drawn-groups : (cs : List Call) (w : World) (T : Laid) → S.drawnOver geo cs w T .groups ≡ T .groups
+  unfolding S.drawnOver
+  drawn-groups [] w T = refl
+  drawn-groups (c ∷ cs) w T = drawn-groups cs (next geo c w) (S.drawnBy geo c w T) ∙ one (S.directDone geo c w) c
+    where
+      one : (t : Bool) (c : Call) → cond t (S.ofDirect geo c (λ e. Plain.drawn e T) T) T .groups ≡ T .groups
+      one false c = refl
+      one true (local c) = refl
+      one true (direct a b) = refl
+      one true (save c) = refl
+      one true (cut ms) = refl
+
+  outcome-groups : (f : Fate) (S T : Laid) → S .groups ≡ T .groups → outcome f S .groups ≡ outcome f T .groups
+  outcome-groups quiet S T e = e
+  outcome-groups (decided G true all) S T e = ap (λ (k : ℕ). k + 1) e
+  outcome-groups (decided G false all) S T e = e
 
   pub split-reading : (st : State) → formatCall geo st .answer ≡ 0 → (a b : List Call) → EndsFinished geo a (begun geo st) → noneFinished geo b (after geo a (begun geo st)) ≡ true
       → dispatch geo recover (after geo b (after geo a (begun geo st)) .store) .answer ≡ 0 → after geo b (after geo a (begun geo st)) .excepted ≡ false → SplitReading st a b
   unfolding begun fresh
   split-reading st f a b ends none h x =
-      let w = after geo a (begun geo st) in
       let clean : after geo a (begun geo st) .excepted ≡ false = clean-before geo b (after geo a (begun geo st)) x in
       let m : WorldSim geo (after geo a (begun geo st)) = after-sim geo a (begun geo st) (begun-sim geo st f) clean in
-      let m′ : WorldSim geo (after geo b (after geo a (begun geo st))) = after-sim geo b (after geo a (begun geo st)) m x in
       let start : Watch geo (after geo a (begun geo st) .plain .S) (known quiet) (after geo a (begun geo st) .store) (after geo a (begun geo st) .ledger) (after geo a (begun geo st) .plain) =
       _⊎_.inl (record { mode = ends-open st f a ends clean; S = refl }) in
       let last = watch-list geo (after geo a (begun geo st) .plain .S) b (after geo a (begun geo st)) (known quiet) m none x start in
-      let o = closed-watch geo (after geo a (begun geo st) .plain .S) (fate geo b (after geo a (begun geo st)) (known quiet)) (after geo b (after geo a (begun geo st)) .store) (after geo b (after geo a (begun geo st)) .ledger) (after geo b (after geo a (begun geo st)) .plain) last
-      (found-closed geo (after geo b (after geo a (begun geo st))) m′ h .mode) in
+      let o = closed-watch geo old (fate geo b (after geo a (begun geo st)) (known quiet)) (after geo b (after geo a (begun geo st)) .store) (after geo b (after geo a (begun geo st)) .ledger) (after geo b (after geo a (begun geo st)) .plain) last
+      (found-closed geo w (after-sim geo b (after geo a (begun geo st)) m x) h .mode) in
+      let m′ : WorldSim geo w = after-sim geo b (after geo a (begun geo st)) m x in
+      let N : blocksIn (st .settled) ≡ w .plain .N = sym (after-N b (after geo a (begun geo st)) ∙ after-N a (begun geo st)) in
       record {
         one = count-one b (after geo a (begun geo st)) m none x;
         end = o .end;
         fated = o .fated;
-        found = found-is (after geo b (after geo a (begun geo st))) m′ h (blocksIn (st .settled)) _ (sym (after-N b (after geo a (begun geo st)) ∙ after-N a (begun geo st))) (ap (λ (S : Laid). S .disk) (o .phase .S));
-        number = found-number (after geo b (after geo a (begun geo st))) m′ h ∙ ap (λ (S : Laid). S .groups) (o .phase .S);
+        found = λ y d z. let s = shows-S w m′ h (blocksIn (st .settled)) y N d in (s .0, s .1 ∙ by m′ (o .end) (o .phase) y (rw (N ∙ m′ .basics .mirrors .N) at d) z);
+        number = found-number w m′ h ∙ ap (λ (S : Laid). S .groups) (o .phase .S) ∙ outcome-groups (o .end) old (after geo a (begun geo st) .plain .S) (drawn-groups b (after geo a (begun geo st)) (after geo a (begun geo st) .plain .S));
         whole = o .phase .whole;
       }
+    where
+      w : World
+      w = after geo b (after geo a (begun geo st))
+
+      old : Laid
+      old = S.drawnOver geo b (after geo a (begun geo st)) (after geo a (begun geo st) .plain .S)
+
+      by : (m′ : WorldSim geo w) (end : Fate) → OtherPhase geo old end (w .store) (w .ledger) (w .plain) → (y : ℕ) → isData geo (w .store .rec .blocks) y ≡ true
+          → (among y (w .plain .loose) ≡ false) ⊎ (S.newHas end y ≡ true) → plainNext geo recover w .S .disk y ≡ outcome end old .disk y
+      by m′ end p y d (_⊎_.inl z) = firm-found w m′ h y z ∙ ap (λ (S : Laid). S .disk y) (p .S)
+      by m′ quiet p y d (_⊎_.inr z) = absurd (true≢false (sym z))
+      by m′ (decided G true all) p y d (_⊎_.inr z) = let l = p .log refl in logged-found w m′ h (l .0) G (old .disk) y d (l .3) (l .1) z
+      by m′ (decided G false all) p y d (_⊎_.inr z) = absurd (true≢false (sym z))
 
   -- ---- every list has one
 
@@ -306,7 +369,10 @@ module _ (geo : Geometry) where
         one = r .one;
         end = r .end;
         fated = r .fated;
-        found = λ y d. subst (λ (w : World). (dispatch geo (get y) (storeNext geo recover w) .answer ≡ 0) × (blockOf geo y (storeNext geo recover w) ≡ outcome (r .end) (after geo (s .a) (begun geo st) .plain .S) .disk y)) (sym same) (r .found y d);
+        found = subst (λ (w : World). S.FoundIs geo (λ y. (among y (w .plain .loose) ≡ false) ⊎ (S.newHas (r .end) y ≡ true)) (blocksIn (st .settled)) (storeNext geo recover w)
+            (outcome (r .end) (S.drawnOver geo (s .b) (after geo (s .a) (begun geo st)) (after geo (s .a) (begun geo st) .plain .S)) .disk)) (sym same) (r .found);
+        loosened = ?;
+        never = ?;
         whole = r .whole;
         number = ap (numberFound geo) same ∙ r .number;
         counted = found-counted st f cs h x;

@@ -342,3 +342,12 @@ module _ (geo : Geometry) where
       go true t = refl
       go false true = refl
       go false false = refl
+
+  -- no group is laid by what a recovery finds
+  pub recover-groups : (found : Disk) (d : Plain) → plainRecover geo found d .plain .S .groups ≡ d .S .groups
+  unfolding plainRecover
+  recover-groups found d = go (leb (cond (d .F) 2 0) (d .power))
+    where
+      go : (t : Bool) → cond {A = Done} t (done (cond (d .F) 2 0) (recovered (cond (d .F) 2 0) found d)) (cutShort geo (ofRecover (d .power)) (d .power) d) .plain .S .groups ≡ d .S .groups
+      go true = refl
+      go false = refl
