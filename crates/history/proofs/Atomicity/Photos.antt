@@ -1,6 +1,6 @@
 -- What is photographed of a block along a list of calls is what stands on the card of it: the block as it is settled, and the direct writes to
 -- it that wait.
-use Prim.Native.Nat.{ℕ, _+_, _≤_, _<_}
+use Prim.Native.Nat.{ℕ, suc, _+_, _≤_, _<_}
 use mathlib.Core.Path.{_≡_, refl, ap, sym, subst, _∙_}
 use mathlib.Core.Logic.{_≢_, _⊎_}
 use mathlib.Core.Bool.{Bool, true, false, false≢true, cond, _&&_, _||_, or-false}
@@ -9,13 +9,12 @@ use native.Mathlib.Omega.{arith}
 use native.Mathlib.Decide.{ℕ-discrete, decLe}
 use borrow.Author.Tests.{eq-eqb, ne-eqb, eqb-true, eqb-false, le-leb, lt-leb, lt-ltb, not-false}
 use lib.Dec.{eqb, leb, ltb}
-use lib.ListN.{length, getD, take, length-append, List·getD-append}
-use lib.Seq.{getD-at}
+use lib.ListN.{length, getD, take}
 use Rattle.cells.specs.Entry.{Entry}
 use Rattle.fnv.specs.Fnv.{start}
 use Rattle.card.specs.Disk.{Disk, overlay}
 use Rattle.card.specs.Card.{Card, Order, flush, queue, settle, run, blockAt}
-use Rattle.card.proofs.All.{All, all-append, all-map, all-take}
+use Rattle.card.proofs.All.{All, Any, all-map, all-take}
 use Rattle.card.proofs.Overlays.{overlay-other}
 use Rattle.card.proofs.Runs.{Whole, NarrowAddress, run-nil, run-append, run-dead, writes-all}
 use Rattle.journal.specs.Geometry.{Geometry}
@@ -51,7 +50,7 @@ use Rattle.history.specs.Dispatch as Dispatch
 use Rattle.history.specs.Dispatch.{called, dispatch, servedLocal}
 use Rattle.history.specs.History.{World, next, after, storeNext, fed}
 use Rattle.history.specs.Statements as S
-use Rattle.history.specs.Statements.{Photo, noPhoto, photographed, directDone, photoBy, photo}
+use Rattle.history.specs.Statements.{Photo, noPhoto, photographed, directDone, photoBy, photo, blocksTo}
 use Rattle.history.proofs.Relation.CauseLaws.{RecordFacts, record-facts, cause-passes}
 use Rattle.history.proofs.Relation.Lists.{among-append, firm-besides, slot-among}
 use Rattle.history.proofs.Relation.OpenFacts as Facts
@@ -62,10 +61,10 @@ use Rattle.history.proofs.Steps.Shown.{WorldSim, plainNext, same-cause,
 use Rattle.history.proofs.Steps.Local.{is-open}
 use Rattle.history.proofs.Steps.ListInduction.{next-sim, clean-first}
 
--- of the direct writes to x that wait: the block as it is settled, and the blocks that wait
+-- of the direct writes to x that wait: the block as it is settled, and their blocks, in turn
 pub record Stands (x : ℕ) (w : World) (p : Photo) : Type 0 where
   pub before : blockAt (w .store .settled) x ≡ p .before
-  pub blocks : All (λ e. e .address ≡ x → (i : ℕ) × (i < length (p .blocks)) × (e .block ≡ getD (p .blocks) i [])) (queue (cardIn (w .store)))
+  pub blocks : blocksTo x (queue (cardIn (w .store))) ≡ p .blocks
 
 -- ---- lists
 
@@ -87,11 +86,60 @@ among-kept : (x : ℕ) (t : Bool) (l : List ℕ) → among x (cond t [] l) ≡ t
 among-kept x true l h = absurd (none-among x [] refl h)
 among-kept x false l h = (refl, h)
 
+-- ---- the blocks of the writes to x
+
+to-append : (x : ℕ) (q r : List Entry) → blocksTo x (q ++ r) ≡ blocksTo x q ++ blocksTo x r
+unfolding blocksTo
+to-append x [] r = refl
+to-append x (e ∷ q) r = go (eqb (e .address) x) (to-append x q r)
+  where
+    go : (t : Bool) → blocksTo x (q ++ r) ≡ blocksTo x q ++ blocksTo x r → cond t (e .block ∷ blocksTo x (q ++ r)) (blocksTo x (q ++ r)) ≡ cond t (e .block ∷ blocksTo x q) (blocksTo x q) ++ blocksTo x r
+    go true k = ap (λ (l : List (List ℕ)). e .block ∷ l) k
+    go false k = k
+
+-- of writes to other blocks
+to-other : (x : ℕ) (l : List Entry) → All (λ e. x ≢ e .address) l → blocksTo x l ≡ []
+unfolding blocksTo
+to-other x [] h = refl
+to-other x (e ∷ l) h = ap (λ (t : Bool). cond t (e .block ∷ blocksTo x l) (blocksTo x l)) (ne-eqb (e .address) x (λ z. h .0 (sym z))) ∙ to-other x l (h .1)
+
+-- of a write to x
+to-here : (x a : ℕ) (y : List ℕ) → a ≡ x → blocksTo x (record { address = a; block = y } ∷ []) ≡ y ∷ []
+unfolding blocksTo
+to-here x a y h = ap (λ (t : Bool). cond t (y ∷ []) []) (eq-eqb a x h)
+
+-- there is one if x is among the addresses
+to-some : (x : ℕ) (l : List Entry) → among x (addresses l) ≡ true → length (blocksTo x l) ≢ 0
+unfolding blocksTo among addresses
+to-some x [] h z = false≢true h
+to-some x (e ∷ l) h z = go (eqb (e .address) x) h z (to-some x l)
+  where
+    go : (t : Bool) → t || among x (addresses l) ≡ true → length (cond t (e .block ∷ blocksTo x l) (blocksTo x l)) ≡ 0 → (among x (addresses l) ≡ true → length (blocksTo x l) ≢ 0) → ⊥
+    go true h z more = omega arith
+    go false h z more = more h z
+
+-- one of the blocks has the byte y at j
+abbrev OneHas : ℕ → ℕ → List (List ℕ) → Type 0
+OneHas j y bs = (i : ℕ) × (i < length bs) × (y ≡ getD (getD bs i []) j 0)
+
+-- a byte that one of the writes to x has is that of one of the blocks
+pub any-one : (x j y : ℕ) (q : List Entry) → Any (λ e. (e .address ≡ x) × (y ≡ getD (e .block) j 0)) q → (i : ℕ) × (i < length (blocksTo x q)) × (y ≡ getD (getD (blocksTo x q) i []) j 0)
+unfolding blocksTo
+any-one x j y [] h = absurd h
+any-one x j y (e ∷ q) h = go (eqb (e .address) x) refl h (any-one x j y q)
+  where
+    go : (t : Bool) → eqb (e .address) x ≡ t → Any (λ e. (e .address ≡ x) × (y ≡ getD (e .block) j 0)) (e ∷ q) → (Any (λ e. (e .address ≡ x) × (y ≡ getD (e .block) j 0)) q → OneHas j y (blocksTo x q))
+        → OneHas j y (cond t (e .block ∷ blocksTo x q) (blocksTo x q))
+    go true f (_⊎_.inl p) more = (0, omega arith, p .1)
+    go true f (_⊎_.inr p) more = let k = more p in (suc (k .0), omega (arith, k .1), k .2)
+    go false f (_⊎_.inl p) more = absurd (eqb-false (e .address) x f (p .0))
+    go false f (_⊎_.inr p) more = more p
+
 -- ---- the photo, by what waits on a card
 
 record Shot (x : ℕ) (c : Card) (p : Photo) : Type 0 where
   before : blockAt (c .settled) x ≡ p .before
-  blocks : All (λ e. e .address ≡ x → (i : ℕ) × (i < length (p .blocks)) × (e .block ≡ getD (p .blocks) i [])) (queue c)
+  blocks : blocksTo x (queue c) ≡ p .blocks
 
 -- orders on c left r: nothing settled, and what waits more is not addressed to x
 record Adds (x : ℕ) (c r : Card) : Type 0 where
@@ -100,17 +148,10 @@ record Adds (x : ℕ) (c r : Card) : Type 0 where
   waits : queue r ≡ queue c ++ more
   other : All (λ e. x ≢ e .address) more
 
--- of one of the blocks
-abbrev OneOf : ℕ → List (List ℕ) → Entry → Type 0
-OneOf x bs e = e .address ≡ x → (i : ℕ) × (i < length bs) × (e .block ≡ getD bs i [])
-
-other-of : (x : ℕ) (bs : List (List ℕ)) (l : List Entry) → All (λ e. x ≢ e .address) l → All (OneOf x bs) l
-other-of x bs l h = all-map (λ e. x ≢ e .address) (OneOf x bs) (λ e n z. absurd (n (sym z))) l h
-
 adds-shot : (x : ℕ) (c r : Card) (p : Photo) → Adds x c r → Shot x c p → Shot x r p
 adds-shot x c r p a s = record {
   before = ap (λ (l : List ℕ). blockAt l x) (a .settled) ∙ s .before;
-  blocks = subst (All (OneOf x (p .blocks))) (sym (a .waits)) (all-append (OneOf x (p .blocks)) (queue c) (a .more) (s .blocks) (other-of x (p .blocks) (a .more) (a .other)));
+  blocks = ap (blocksTo x) (a .waits) ∙ to-append x (queue c) (a .more) ∙ ap (λ (l : List (List ℕ)). blocksTo x (queue c) ++ l) (to-other x (a .more) (a .other)) ∙ append-nil (blocksTo x (queue c)) ∙ s .blocks;
 }
 
 -- nothing more
@@ -134,20 +175,11 @@ adds-short x c es behind os is f h n =
 
 -- one photo more
 shot-more : (x : ℕ) (y s : List ℕ) (a : ℕ) (c r : Card) (p : Photo) → a ≡ x → r .settled ≡ c .settled → queue r ≡ queue c ++ (record { address = a; block = y } ∷ [])
-    → blockAt (c .settled) x ≡ cond (eqb (length (p .blocks)) 0) s (p .before) → All (OneOf x (p .blocks)) (queue c) → Shot x r (photographed y s p)
+    → blockAt (c .settled) x ≡ cond (eqb (length (p .blocks)) 0) s (p .before) → blocksTo x (queue c) ≡ p .blocks → Shot x r (photographed y s p)
 shot-more x y s a c r p here settled waits before blocks = record {
   before = ap (λ (l : List ℕ). blockAt l x) settled ∙ before;
-  blocks = subst (All (OneOf x (p .blocks ++ (y ∷ [])))) (sym waits)
-      (all-append (OneOf x (p .blocks ++ (y ∷ []))) (queue c) _
-      (all-map (OneOf x (p .blocks)) (OneOf x (p .blocks ++ (y ∷ []))) older (queue c) blocks)
-      ((λ z. (length (p .blocks), omega (arith, size), sym (getD-at (p .blocks) y [] [] (length (p .blocks)) refl))), tt));
+  blocks = ap (blocksTo x) waits ∙ to-append x (queue c) (record { address = a; block = y } ∷ []) ∙ ap (λ (l : List (List ℕ)). blocksTo x (queue c) ++ l) (to-here x a y here) ∙ ap (λ (l : List (List ℕ)). l ++ (y ∷ [])) blocks;
 }
-  where
-    size : length (p .blocks ++ (y ∷ [])) ≡ length (p .blocks) + 1
-    size = length-append (p .blocks) (y ∷ [])
-
-    older : (e : Entry) → OneOf x (p .blocks) e → OneOf x (p .blocks ++ (y ∷ [])) e
-    older e f z = let k = f z in (k .0, omega (arith, size, k .1), k .2 ∙ sym (List·getD-append (p .blocks) (y ∷ []) [] (k .0) (k .1)))
 
 -- ---- calls that are no direct write that is done
 
@@ -524,14 +556,13 @@ module _ (geo : Geometry) (x : ℕ) where
           go : (t : Bool) → among x (d .writes) ≡ t → Shot x (cardIn (storeNext geo (direct a y) w)) (photographed y (d .S .disk x) p)
           go true t =
               let s = some t in
-              let more : length (p .blocks) ≢ 0 = λ n. among-all (λ j. j ≡ x → ⊥) x (queue (cardIn st)) (sym (ap (among x) (writes-is o)) ∙ t)
-              (all-map (OneOf x (p .blocks)) (λ i. i .address ≡ x → ⊥) (λ i f q. let u = f q in omega (arith, u .1)) (queue (cardIn st)) (s .blocks)) refl in
+              let more : length (p .blocks) ≢ 0 = λ n. to-some x (queue (cardIn st)) (sym (ap (among x) (writes-is o)) ∙ t) (ap length (s .blocks) ∙ n) in
               shot-more x y (d .S .disk x) a (cardIn st) (cardIn (storeNext geo (direct a y) w)) p here (k .1) (k .0) (s .before ∙ sym (ap (λ (u : Bool). cond u (d .S .disk x) (p .before)) (ne-eqb _ 0 more))) (s .blocks)
           go false t =
               let empty : length (p .blocks) ≡ 0 = ap (λ (q : Photo). length (q .blocks)) (none t) in
               shot-more x y (d .S .disk x) a (cardIn st) (cardIn (storeNext geo (direct a y) w)) p here (k .1) (k .0)
               (ap (blockAt (st .settled)) (sym here) ∙ settled-block (ap (λ (j : ℕ). among j (d .writes)) here ∙ t) ∙ ap (d .S .disk) here ∙ sym (ap (λ (u : Bool). cond u (d .S .disk x) (p .before)) (eq-eqb _ 0 empty)))
-              (other-of x (p .blocks) (queue (cardIn st)) (firm-besides x (queue (cardIn st)) (sym (ap (among x) (writes-is o)) ∙ t)))
+              (to-other x (queue (cardIn st)) (firm-besides x (queue (cardIn st)) (sym (ap (among x) (writes-is o)) ∙ t)) ∙ sym (ap (λ (q : Photo). q .blocks) (none t)))
 
       -- the first, behind a flush
       shot-first : a ≡ x → d .waiting ≡ geo .direct → 2 ≤ d .power → Shot x (cardIn (storeNext geo (direct a y) w)) (photographed y (d .S .disk x) noPhoto)
@@ -539,7 +570,7 @@ module _ (geo : Geometry) (x : ℕ) where
           let k = full-card z l in
           record {
             before = ap (λ (s : List ℕ). blockAt s x) (k .1) ∙ ap (blockAt (flushedBytes geo st)) (sym here) ∙ flushed-block ∙ ap (d .S .disk) here;
-            blocks = subst (All (OneOf x (y ∷ []))) (sym (k .0)) ((λ q. (0, omega arith, refl)), tt);
+            blocks = ap (blocksTo x) (k .0) ∙ to-here x a y here;
           }
 
       -- to another block
