@@ -1,31 +1,39 @@
 -- The theorems about histories. Their types stand in specs/Statements.antt, specs/Refusals.antt, specs/Cuts.antt, specs/Formats.antt, specs/Costs.antt,
 -- specs/GetLists.antt, specs/Directs.antt, specs/AlikeCards.antt, specs/Dispatch.antt, specs/Linked.antt and specs/Scripts.antt.
-use Prim.Native.Nat.{ℕ}
+use Prim.Native.Nat.{ℕ, _<_}
 use mathlib.Core.Path.{_≡_, refl, ap, sym, _∙_}
 use mathlib.Core.Logic.{_≢_, _⊎_}
-use mathlib.Core.Bool.{Bool, true, false, cond}
+use mathlib.Core.Bool.{Bool, true, false, true≢false, cond}
 use native.Mathlib.Omega.{arith}
 use native.Mathlib.Decide.{ℕ-discrete}
 use lib.Dec.{eqb}
 use Rattle.store.specs.Request as Request
-use Rattle.store.specs.State.{State, Outcome}
-use Rattle.store.specs.Causes.{cause}
+use Rattle.store.specs.State.{State, Outcome, openMode, cardIn}
+use Rattle.store.specs.Causes.{isFound, cause}
 use Rattle.store.specs.Outcomes.{refused}
 use Rattle.store.specs.Format.{formatCall}
 use Rattle.store.specs.Power.{powerCall}
 use Rattle.store.specs.Put.{putCall}
 use Rattle.store.specs.Commit.{commitCall}
 use Rattle.store.specs.Abandon.{abandonCall}
+use Rattle.store.specs.Direct.{directCall}
 use Rattle.store.specs.Saves.{syncCall, applyCall, recoverCall}
 use Rattle.store.specs.Cut.{cutCall}
+use Rattle.cells.specs.Entry.{entryAt}
+use Rattle.card.specs.Card.{queue}
+use Rattle.card.proofs.All.{upTo-all}
 use Rattle.journal.specs.Geometry.{Geometry}
+use Rattle.journal.specs.Layout.{isData}
+use Rattle.journal.specs.Lookup.{lastSlot}
+use Rattle.journal.specs.declared.lookup.Found.{Found}
+use Rattle.journal.specs.declared.lookup.Found.the-variants.{At, Absent}
 use Rattle.store.proofs.Listings.{listing-number}
 use Rattle.journal.proofs.Choices.{fallback-number}
 use Rattle.history.specs.Call.{Call, requestOf, recover, sync}
 use Rattle.history.specs.Plain.{Done, refusal, served}
 use Rattle.history.specs.Dispatch.{called, dispatch, Cited}
 use Rattle.history.specs.Ledger.{Ledger}
-use Rattle.history.specs.History.{World, begun, after, foundWritten}
+use Rattle.history.specs.History.{World, begun, after, fed}
 use Rattle.history.specs.Statements.{Sound, Safety, FallbackNumbered, Refinement, ReadBack, WrittenSummed, Logged, Written, CrashAtomicity}
 use Rattle.history.specs.Refusals.{Refusals}
 use Rattle.history.specs.Cuts.{AllCuts, AllMixtures}
@@ -38,7 +46,8 @@ use Rattle.history.specs.Linked.{Linked}
 use Rattle.history.specs.Scripts.{ScriptsAreHistories}
 use Rattle.history.proofs.Relation.CauseLaws.{cause-one, cause-two, cause-passes}
 use Rattle.history.proofs.Relation.Forms.{get-called, list-called}
-use Rattle.history.proofs.Relation.Sim.{Safe}
+use Rattle.history.proofs.Relation.Sim.{Waits, OpenSim, ClosedSim, DownSim, Safe}
+use Rattle.history.proofs.Relation.Lists.{slot-among}
 use Rattle.history.proofs.Steps.Shown.{same-cause, dispatch-refused, plain-served}
 use Rattle.history.proofs.Steps.Local.{is-open, list-plain}
 use Rattle.history.proofs.Steps.Sync.{logged}
@@ -75,9 +84,9 @@ module _ (geo : Geometry) where
         go (no h) = _⊎_.inl (h, ap (λ (o : Outcome). o .answer) (dispatch-refused geo c st h))
         go (yes h) =
             let k : refusal geo c (s .plain) ≡ 0 = sym (same-cause geo st (s .ledger) (s .plain) (s .sim) c) ∙ h in
-            let e : dispatch geo c st .answer ≡ served geo c (foundWritten geo c world) (s .plain) .answer =
-            step geo c world (s .sim) .agrees .answer ∙ ap (λ (o : Done). o .answer) (plain-served geo c (foundWritten geo c world) (s .plain) k) in
-            _⊎_.inr (either e (served-answer geo c (foundWritten geo c world) (s .plain)))
+            let e : dispatch geo c st .answer ≡ served geo c (fed geo c world) (s .plain) .answer =
+            step geo c world (s .sim) .agrees .answer ∙ ap (λ (o : Done). o .answer) (plain-served geo c (fed geo c world) (s .plain) k) in
+            _⊎_.inr (either e (served-answer geo c (fed geo c world) (s .plain)))
           where
             either : {a b : ℕ} → a ≡ b → Either b → Either a
             either e (_⊎_.inl q) = _⊎_.inl (e ∙ q)
@@ -101,6 +110,24 @@ module _ (geo : Geometry) where
         go false true e = c (sym e)
         go false false e = a (sym e)
 
+    -- the invariant that carries direct writes
+    waits-apart : st .rec .mode ≡ openMode → (i : ℕ) → i < st .rec .waiting
+        → (isData geo (st .rec .blocks) (entryAt (st .waiting) i .address) ≡ true) × (lastSlot (st .settled) (entryAt (st .waiting) i .address) (st .rec .logged) ≡ Absent)
+    unfolding queue
+    waits-apart o i l = go (s .sim .phase)
+      where
+        none : (f : Found) → isFound f ≡ false → f ≡ Absent
+        none (At k) e = absurd (true≢false e)
+        none Absent e = refl
+
+        go : OpenSim geo st (s .ledger) (s .plain) ⊎ (ClosedSim geo st (s .ledger) (s .plain) ⊎ DownSim geo st (s .ledger) (s .plain))
+            → (isData geo (st .rec .blocks) (entryAt (st .waiting) i .address) ≡ true) × (lastSlot (st .settled) (entryAt (st .waiting) i .address) (st .rec .logged) ≡ Absent)
+        go (_⊎_.inl p) =
+            let w = upTo-all (Waits geo st) (entryAt (st .waiting)) (st .rec .waiting) (p .waits) i l in
+            (w .0, none (lastSlot (st .settled) (entryAt (st .waiting) i .address) (st .rec .logged)) (slot-among geo (st .settled) (entryAt (st .waiting) i .address) (st .rec .logged) ∙ w .1))
+        go (_⊎_.inr (_⊎_.inl p)) = absurd (omega (arith, p .mode))
+        go (_⊎_.inr (_⊎_.inr p)) = absurd (omega (arith, p .mode))
+
     pub sound : Sound geo st
     sound = record {
       sizes = s .sim .basics .sizes;
@@ -113,6 +140,7 @@ module _ (geo : Geometry) where
       never-nine = λ h.
           recover-refusals 9 (λ e. omega arith) (λ e. omega arith) (λ e. omega arith)
           (sym (same-cause geo st (s .ledger) (s .plain) (s .sim) recover) ∙ by-cause recover 9 (λ e. omega arith) (λ e. omega arith) h);
+      apart = waits-apart;
     }
 
   pub safety : Safety geo
@@ -218,11 +246,12 @@ module _ (geo : Geometry) where
   -- ---- Through C
 
   pub cited : Cited geo
-  unfolding called formatCall powerCall putCall commitCall abandonCall syncCall applyCall recoverCall cutCall
+  unfolding called formatCall powerCall putCall commitCall abandonCall directCall syncCall applyCall recoverCall cutCall
   cited = record {
     formats = refl;
     powers = λ k. refl;
     puts = λ a b. refl;
+    directs = λ a b. refl;
     gets = get-called geo;
     lists = λ xs bs st. list-called geo xs bs st ∙ ap (λ (n : ℕ). refused n st) (sym (listing-number geo xs bs st));
     commits = refl;

@@ -131,7 +131,7 @@ module _ (geo : Geometry) where
 
   -- ---- any other call: if the record is open behind it, nothing that waits is in the log; else it was open before, or what waits is no more
 
-  open-named : (f : Progress) (w : World) → WorldSim geo w → w .store .rec .mode ≡ openMode → (old : Laid) → Watch geo old f (w .store) (w .ledger) (w .plain) → Named f (w .plain)
+  pub open-named : (f : Progress) (w : World) → WorldSim geo w → w .store .rec .mode ≡ openMode → (old : Laid) → Watch geo old f (w .store) (w .ledger) (w .plain) → Named f (w .plain)
   open-named f w m o old p x u =
       let y = open-watch geo old f (w .store) (w .ledger) (w .plain) p o in
       go (m .phase) ∙ ap (λ (g : Progress). newBy g x) (sym (y .0))
@@ -251,3 +251,11 @@ module _ (geo : Geometry) where
       let q = both (not (S.finished geo c w)) (noneFinished geo cs (next geo c w)) n in
       let nf = not-true _ (q .0) in
       named-list (S.drawnBy geo c w old) cs (next geo c w) (observe geo c w f) (next-sim geo c w m (clean-first geo c cs w e)) (q .1) e (watch-step geo old c w f m nf p) (named-step old w f m p i c nf (clean-first geo c cs w e))
+
+  pub none-loose : (w : World) → WorldSim geo w → w .store .rec .mode ≡ openMode → w .plain .loose ≡ []
+  none-loose w m o = go (m .phase)
+    where
+      go : OpenSim geo (w .store) (w .ledger) (w .plain) ⊎ (ClosedSim geo (w .store) (w .ledger) (w .plain) ⊎ DownSim geo (w .store) (w .ledger) (w .plain)) → w .plain .loose ≡ []
+      go (_⊎_.inl i) = i .loose
+      go (_⊎_.inr (_⊎_.inl i)) = absurd (omega (arith, i .mode))
+      go (_⊎_.inr (_⊎_.inr i)) = absurd (omega (arith, i .mode))

@@ -1,5 +1,5 @@
 -- Crash atomicity, from the fate of the sync that was cut short.
-use Prim.Native.Nat.{ℕ, _+_, _≤_}
+use Prim.Native.Nat.{ℕ, _+_, _≤_, _<_}
 use mathlib.Core.Path.{_≡_, refl, ap, ap₂, subst, sym, _∙_}
 use mathlib.Core.Logic.{_≢_, _⊎_}
 use mathlib.Core.Bool.{Bool, true, false, true≢false, cond, not}
@@ -8,11 +8,15 @@ use native.Mathlib.Omega.{arith}
 use native.Mathlib.Nat.{zero-add}
 use native.Mathlib.Decide.{ℕ-discrete, decLe}
 use borrow.Author.Tests.{eq-eqb, ne-eqb, eqb-true, not-true}
+use lib.ListN.{length, getD}
 use Rattle.card.specs.Disk.{Disk, overlay}
 use Rattle.crash.specs.Laid.{Laid}
 use Rattle.card.specs.Card.{queue, blockAt, blocksIn}
 use Rattle.cells.specs.Entry.{Entry}
-use Rattle.card.proofs.Overlays.{overlay-nil, overlay-append, overlay-cover}
+use Rattle.card.proofs.All.{Any}
+use Rattle.card.proofs.Overlays.{overlay-nil, overlay-append, overlay-other, overlay-cover}
+use Rattle.crash.proofs.Batches.{no-queue}
+use Rattle.journal.specs.Log.{entries}
 use Rattle.journal.specs.Geometry.{Geometry}
 use Rattle.journal.specs.Layout.{isData}
 use Rattle.journal.proofs.Choices.{both}
@@ -30,8 +34,9 @@ use Rattle.history.specs.Dispatch.{dispatch}
 use Rattle.history.specs.History.{World, begun, next, after, storeNext, ledgerNext, fed}
 use Rattle.history.specs.Ledger.{Ledger}
 use Rattle.history.specs.Statements as S
-use Rattle.history.specs.Statements.{Fate, quiet, decided, known, fate, outcome, WholeIsNew, shortSync, countShort, noneFinished, EndsFinished, groupsLaid, numberFound, CrashAtomicity}
-use Rattle.history.proofs.Relation.Lists.{besides-firm}
+use Rattle.history.specs.Statements.{Fate, quiet, decided, Progress, known, fate, outcome, WholeIsNew, shortSync, countShort, noneFinished, EndsFinished, groupsLaid, numberFound, CrashAtomicity}
+use Rattle.history.proofs.Relation.Lists.{firm-besides, besides-firm}
+use Rattle.history.proofs.Relation.CauseLaws.{record-facts, idle}
 use Rattle.history.proofs.Relation.OpenFacts as Facts
 use Rattle.history.proofs.Relation.PlainLaws as PlainLaws
 use Rattle.history.proofs.Steps.Shown.{plainNext, WorldSim, same-cause, dispatch-refused, plain-refused, plain-served}
@@ -41,7 +46,11 @@ use Rattle.history.proofs.Relation.PlainAnswers.{sync-cases, LocalKind,
 use Rattle.history.proofs.Atomicity.ReadsBack.{found-closed, recovered-sim, recovered-mode, recovered-open, same-ledger, power-served}
 use Rattle.history.proofs.Atomicity.Phases.{OtherPhase, Watch, short-is, not-short, short-serves, open-now, closed-watch}
 use Rattle.history.proofs.Atomicity.ShortSyncs.{watch-list, short-plain}
-use Rattle.history.proofs.Atomicity.Finished.{served-of, finished-opens}
+use Rattle.history.proofs.Atomicity.Finished.{served-of, finished-opens, finished-empties}
+use Rattle.history.proofs.Atomicity.Names.{Named, open-named, named-list, none-loose}
+use Rattle.history.proofs.Atomicity.NeverDirect.{outcome-at, never-drawn, never-loose}
+use Rattle.history.proofs.Atomicity.Photos.{photo-stands, any-one}
+use Rattle.history.proofs.Atomicity.Loosened.{first-cut, first-N, first-loose, first-bytes, first-long}
 use Rattle.history.proofs.Atomicity.Counts.{groups-counted}
 
 -- ---- N never changes
@@ -74,6 +83,17 @@ module _ (geo : Geometry) where
       let same : after geo a (begun geo st) ≡ next geo c (after geo b (begun geo st)) = ap (λ (l : List Call). after geo l (begun geo st)) (e .2) ∙ after-append geo b (c ∷ []) (begun geo st) in
       let clean : after geo b (begun geo st) .excepted ≡ false = clean-before geo (c ∷ []) (after geo b (begun geo st)) (ap (λ (w : World). w .excepted) (sym same) ∙ x) in
       ap (λ (w : World). w .store .rec .mode) same ∙ finished-opens geo c (after geo b (begun geo st)) (after-sim geo b (begun geo st) (begun-sim geo st f) clean) (e .3)
+
+  -- and nothing waits there
+  ends-empty : (st : State) → formatCall geo st .answer ≡ 0 → (a : List Call) → EndsFinished geo a (begun geo st) → after geo a (begun geo st) .excepted ≡ false → after geo a (begun geo st) .plain .writes ≡ []
+  unfolding after next begun fresh
+  ends-empty st f a (_⊎_.inl e) x = ap (λ (l : List Call). after geo l (begun geo st) .plain .writes) e
+  ends-empty st f a (_⊎_.inr e) x =
+      let b = e .0 in
+      let c = e .1 in
+      let same : after geo a (begun geo st) ≡ next geo c (after geo b (begun geo st)) = ap (λ (l : List Call). after geo l (begun geo st)) (e .2) ∙ after-append geo b (c ∷ []) (begun geo st) in
+      let clean : after geo b (begun geo st) .excepted ≡ false = clean-before geo (c ∷ []) (after geo b (begun geo st)) (ap (λ (w : World). w .excepted) (sym same) ∙ x) in
+      ap (λ (w : World). w .plain .writes) same ∙ finished-empties geo c (after geo b (begun geo st)) (after-sim geo b (begun geo st) (begun-sim geo st f) clean) (e .3)
 
   -- ---- at most one sync is cut short
 
@@ -218,6 +238,24 @@ module _ (geo : Geometry) where
     pub firm-found : (x : ℕ) → among x (w .plain .loose) ≡ false → plainNext geo recover w .S .disk x ≡ w .plain .S .disk x
     firm-found x z = ap (λ (d : Plain). d .S .disk x) plain-now ∙ ap (λ (t : Bool). cond t (found x) (w .plain .S .disk x)) z
 
+    -- the log's addresses are those that the plain disk has
+    pub log-found : addresses (entries geo (storeNext geo recover w .settled) (storeNext geo recover w .rec .logged)) ≡ w .plain .log
+    log-found = step geo recover w m .agrees .log (recovered-mode geo w m h) ∙ ap (λ (d : Plain). d .log) plain-now
+
+    -- a block that the log lacks is the home block
+    pub home-found : (x : ℕ) → isData geo (w .store .rec .blocks) x ≡ true → among x (w .plain .log) ≡ false → plainNext geo recover w .S .disk x ≡ blockAt (storeNext geo recover w .settled) x
+    unfolding overlay
+    home-found x q i =
+        let o = recovered-open geo w m h in
+        let N : storeNext geo recover w .rec .blocks ≡ w .store .rec .blocks = sym (sim .basics .mirrors .N) ∙ step-N recover (fed geo recover w) (w .plain) ∙ m .basics .mirrors .N in
+        let none : queue (cardIn (storeNext geo recover w)) ≡ [] =
+        no-queue (cardIn (storeNext geo recover w)) (sym (sim .basics .mirrors .waiting) ∙ ap (λ (d : Plain). d .waiting) plain-now ∙ m .basics .mirrors .waiting ∙ idle geo (w .store) (record-facts geo (w .store) (m .basics .counts)) (found-closed geo w m h .mode)) in
+        Facts.open-disk geo (storeNext geo recover w) (ledgerNext geo recover w) (plainNext geo recover w) (sim .basics) o x (ap (λ (k : ℕ). isData geo k x) N ∙ q)
+        ∙ overlay-other (Facts.log geo (storeNext geo recover w) (ledgerNext geo recover w) (plainNext geo recover w) (sim .basics) o) _ x
+        (firm-besides x (Facts.log geo (storeNext geo recover w) (ledgerNext geo recover w) (plainNext geo recover w) (sim .basics) o)
+        (ap (λ (l : List Entry). among x (addresses l)) (sym (Facts.entries-log geo (storeNext geo recover w) (ledgerNext geo recover w) (plainNext geo recover w) (sim .basics) o)) ∙ ap (among x) log-found ∙ i))
+        ∙ ap (λ (l : List Entry). overlay l (blockAt (storeNext geo recover w .settled)) x) none
+
     -- a block that the end of the log has
     pub logged-found : (L G : List Entry) (D : Disk) (x : ℕ) → isData geo (w .store .rec .blocks) x ≡ true → w .plain .F ≡ false → w .ledger .written ≡ L ++ G → among x (addresses G) ≡ true
         → plainNext geo recover w .S .disk x ≡ overlay G D x
@@ -239,6 +277,11 @@ module _ (geo : Geometry) where
     pub fated : fate geo b (after geo a (begun geo st)) (known quiet) ≡ known end
     pub found : S.FoundIs geo (λ x. (among x (after geo b (after geo a (begun geo st)) .plain .loose) ≡ false) ⊎ (S.newHas end x ≡ true)) (blocksIn (st .settled)) (storeNext geo recover (after geo b (after geo a (begun geo st))))
         (outcome end (S.drawnOver geo b (after geo a (begun geo st)) (after geo a (begun geo st) .plain .S)) .disk)
+    pub loosened : (x : ℕ) → isData geo (blocksIn (st .settled)) x ≡ true → among x (after geo b (after geo a (begun geo st)) .plain .loose) ≡ true → S.newHas end x ≡ false
+        → S.Loosened geo (storeNext geo recover (after geo b (after geo a (begun geo st)))) b (after geo a (begun geo st)) x
+    pub logged : (x : ℕ) → among x (after geo b (after geo a (begun geo st)) .plain .loose) ≡ true
+        → among x (addresses (entries geo (storeNext geo recover (after geo b (after geo a (begun geo st))) .settled) (storeNext geo recover (after geo b (after geo a (begun geo st))) .rec .logged))) ≡ S.newHas end x
+    pub never : S.FoundIs geo (λ x. S.neverDirect geo x b (after geo a (begun geo st)) ≡ true) (blocksIn (st .settled)) (storeNext geo recover (after geo b (after geo a (begun geo st)))) (outcome end (after geo a (begun geo st) .plain .S) .disk)
     pub number : numberFound geo (after geo b (after geo a (begun geo st))) ≡ outcome end (after geo a (begun geo st) .plain .S) .groups
     pub whole : WholeIsNew end
 
@@ -262,7 +305,7 @@ module _ (geo : Geometry) where
 
   pub split-reading : (st : State) → formatCall geo st .answer ≡ 0 → (a b : List Call) → EndsFinished geo a (begun geo st) → noneFinished geo b (after geo a (begun geo st)) ≡ true
       → dispatch geo recover (after geo b (after geo a (begun geo st)) .store) .answer ≡ 0 → after geo b (after geo a (begun geo st)) .excepted ≡ false → SplitReading st a b
-  unfolding begun fresh
+  unfolding begun fresh among
   split-reading st f a b ends none h x =
       let clean : after geo a (begun geo st) .excepted ≡ false = clean-before geo b (after geo a (begun geo st)) x in
       let m : WorldSim geo (after geo a (begun geo st)) = after-sim geo a (begun geo st) (begun-sim geo st f) clean in
@@ -278,6 +321,12 @@ module _ (geo : Geometry) where
         end = o .end;
         fated = o .fated;
         found = λ y d z. let s = shows-S w m′ h (blocksIn (st .settled)) y N d in (s .0, s .1 ∙ by m′ (o .end) (o .phase) y (rw (N ∙ m′ .basics .mirrors .N) at d) z);
+        loosened = λ y d z n. loose-found m m′ none x (ends-open st f a ends clean) (ends-empty st f a ends clean) (rw (N ∙ m′ .basics .mirrors .N) at d) z (log-now m′ (o .end) y (names m (ends-open st f a ends clean) none x start (o .fated)) z ∙ n) (shows-S w m′ h (blocksIn (st .settled)) y N d);
+        logged = λ y z. ap (among y) (log-found w m′ h) ∙ log-now m′ (o .end) y (names m (ends-open st f a ends clean) none x start (o .fated)) z;
+        never = λ y d n.
+            let s = shows-S w m′ h (blocksIn (st .settled)) y N d in
+            let free : among y (w .plain .loose) ≡ false = never-loose geo y b (after geo a (begun geo st)) m x n (nothing-free m (ends-open st f a ends clean) (ends-empty st f a ends clean) y) in
+            (s .0, s .1 ∙ by m′ (o .end) (o .phase) y (rw (N ∙ m′ .basics .mirrors .N) at d) (_⊎_.inl free) ∙ outcome-at (o .end) old (after geo a (begun geo st) .plain .S) y (never-drawn geo y b (after geo a (begun geo st)) (after geo a (begun geo st) .plain .S) n));
         number = found-number w m′ h ∙ ap (λ (S : Laid). S .groups) (o .phase .S) ∙ outcome-groups (o .end) old (after geo a (begun geo st) .plain .S) (drawn-groups b (after geo a (begun geo st)) (after geo a (begun geo st) .plain .S));
         whole = o .phase .whole;
       }
@@ -287,6 +336,49 @@ module _ (geo : Geometry) where
 
       old : Laid
       old = S.drawnOver geo b (after geo a (begun geo st)) (after geo a (begun geo st) .plain .S)
+
+      w₀ : World
+      w₀ = after geo a (begun geo st)
+
+      -- nothing waits and nothing is loose where a ends
+      nothing-free : WorldSim geo w₀ → w₀ .store .rec .mode ≡ openMode → w₀ .plain .writes ≡ [] → (y : ℕ) → (among y (w₀ .plain .writes) ≡ false) × (among y (w₀ .plain .loose) ≡ false)
+      nothing-free m i e y = (ap (among y) e, ap (among y) (none-loose geo w₀ m i))
+
+      names : (m : WorldSim geo w₀) → w₀ .store .rec .mode ≡ openMode → noneFinished geo b w₀ ≡ true → w .excepted ≡ false → Watch geo (w₀ .plain .S) (known quiet) (w₀ .store) (w₀ .ledger) (w₀ .plain) → {end : Fate} → fate geo b w₀ (known quiet) ≡ known end → Named geo (known end) (w .plain)
+      names m i n x p e = subst (λ (g : Progress). Named geo g (w .plain)) e (named-list geo (w₀ .plain .S) b w₀ (known quiet) m n x p (open-named geo (known quiet) w₀ m i (w₀ .plain .S) p))
+
+      log-now : WorldSim geo w → (end : Fate) (y : ℕ) → Named geo (known end) (w .plain) → among y (w .plain .loose) ≡ true → among y (w .plain .log) ≡ S.newHas end y
+      log-now m′ end y n z = n y (ap (λ (l : List ℕ). among y (l ++ w .plain .loose)) (found-closed geo w m′ h .writes) ∙ z)
+
+      loose-found : (m : WorldSim geo w₀) (m′ : WorldSim geo w) → noneFinished geo b w₀ ≡ true → w .excepted ≡ false → w₀ .store .rec .mode ≡ openMode → w₀ .plain .writes ≡ [] → {y : ℕ} → isData geo (w .store .rec .blocks) y ≡ true
+          → among y (w .plain .loose) ≡ true → among y (w .plain .log) ≡ false → S.Shows geo (storeNext geo recover w) y (plainNext geo recover w .S .disk y) → S.Loosened geo (storeNext geo recover w) b w₀ y
+      loose-found m m′ n x i e {y} d z l s =
+          let c = first-cut geo b w₀ m (λ q. omega (arith, i)) x (found-closed geo w m′ h .mode) in
+          let d′ : isData geo (after geo (c .before) w₀ .store .rec .blocks) y ≡ true = ap (λ (k : ℕ). isData geo k y) (sym (first-N geo b w₀ c m n x)) ∙ d in
+          let block : blockOf geo y (storeNext geo recover w) ≡ blockAt (storeNext geo recover w .settled) y = s .1 ∙ home-found w m′ h y d l in
+          let waited : among y (after geo (c .before) w₀ .plain .writes) ≡ true = sym (first-loose geo b w₀ c m n x (none-loose geo w₀ m i) y) ∙ z in
+          let clean : after geo (c .before) w₀ .excepted ≡ false =
+          clean-before geo (cut (c .ms) ∷ c .behind) (after geo (c .before) w₀) (ap (λ (v : World). v .excepted) (sym (after-append geo (c .before) (cut (c .ms) ∷ c .behind) w₀) ∙ ap (λ (k : List Call). after geo k w₀) (sym (c .split))) ∙ x) in
+          let p = photo-stands geo y (c .before) w₀ m e clean waited in
+          record {
+            before = c .before;
+            ms = c .ms;
+            behind = c .behind;
+            split = c .split;
+            uncut = c .uncut;
+            accepted = c .accepted;
+            waited = waited;
+            settled = p .before;
+            queued = p .blocks;
+            answer = s .0;
+            size = ap length block ∙ first-long geo b w₀ c m n x h y d′;
+            bytes = λ j k. one-byte y j (c .before) (p .before) (p .blocks) (subst (λ (t : List ℕ). (getD t j 0 ≡ getD (blockAt (after geo (c .before) w₀ .store .settled) y) j 0) ⊎ Any (λ e. (e .address ≡ y) × (getD t j 0 ≡ getD (e .block) j 0)) (queue (cardIn (after geo (c .before) w₀ .store)))) (sym block) (first-bytes geo b w₀ c m n x h y d′ j k));
+          }
+        where
+          one-byte : (y j : ℕ) (before : List Call) → blockAt (after geo before w₀ .store .settled) y ≡ S.photo geo y before w₀ S.noPhoto .before → S.blocksTo y (queue (cardIn (after geo before w₀ .store))) ≡ S.photo geo y before w₀ S.noPhoto .blocks → {t : ℕ}
+              → (t ≡ getD (blockAt (after geo before w₀ .store .settled) y) j 0) ⊎ Any (λ e. (e .address ≡ y) × (t ≡ getD (e .block) j 0)) (queue (cardIn (after geo before w₀ .store))) → S.OneOf j t (S.photo geo y before w₀ S.noPhoto)
+          one-byte y j before p q (_⊎_.inl u) = _⊎_.inl (u ∙ ap (λ (b : List ℕ). getD b j 0) p)
+          one-byte y j before p q {t} (_⊎_.inr u) = _⊎_.inr (subst (λ (bs : List (List ℕ)). (i : ℕ) × (i < length bs) × (t ≡ getD (getD bs i []) j 0)) q (any-one y j t (queue (cardIn (after geo before w₀ .store))) u))
 
       by : (m′ : WorldSim geo w) (end : Fate) → OtherPhase geo old end (w .store) (w .ledger) (w .plain) → (y : ℕ) → isData geo (w .store .rec .blocks) y ≡ true
           → (among y (w .plain .loose) ≡ false) ⊎ (S.newHas end y ≡ true) → plainNext geo recover w .S .disk y ≡ outcome end old .disk y
@@ -351,6 +443,10 @@ module _ (geo : Geometry) where
       ∙ groups-counted geo cs (begun geo st) (known quiet) (begun-sim geo st f) x (begun geo st .plain .S, _⊎_.inl (record { mode = begun-open st f; S = refl }))
       ∙ zero-add _
 
+  begun-free : (st : State) (x : ℕ) → (among x (begun geo st .plain .writes) ≡ false) × (among x (begun geo st .plain .loose) ≡ false)
+  unfolding begun fresh among
+  begun-free st x = (refl, refl)
+
   -- ---- the theorem
 
   pub crash-atomicity : CrashAtomicity geo
@@ -371,8 +467,12 @@ module _ (geo : Geometry) where
         fated = r .fated;
         found = subst (λ (w : World). S.FoundIs geo (λ y. (among y (w .plain .loose) ≡ false) ⊎ (S.newHas (r .end) y ≡ true)) (blocksIn (st .settled)) (storeNext geo recover w)
             (outcome (r .end) (S.drawnOver geo (s .b) (after geo (s .a) (begun geo st)) (after geo (s .a) (begun geo st) .plain .S)) .disk)) (sym same) (r .found);
-        loosened = ?;
-        never = ?;
+        loosened = λ y d z n.
+            subst (λ (w : World). S.Loosened geo (storeNext geo recover w) (s .b) (after geo (s .a) (begun geo st)) y) (sym same) (r .loosened y d (ap (λ (w : World). among y (w .plain .loose)) (sym same) ∙ z) n);
+        logged = λ y d z.
+            ap (λ (w : World). among y (addresses (entries geo (storeNext geo recover w .settled) (storeNext geo recover w .rec .logged)))) same ∙ r .logged y (ap (λ (w : World). among y (w .plain .loose)) (sym same) ∙ z);
+        unfed = λ y n. never-loose geo y cs (begun geo st) (begun-sim geo st f) x n (begun-free st y);
+        never = subst (λ (w : World). S.FoundIs geo (λ y. S.neverDirect geo y (s .b) (after geo (s .a) (begun geo st)) ≡ true) (blocksIn (st .settled)) (storeNext geo recover w) (outcome (r .end) (after geo (s .a) (begun geo st) .plain .S) .disk)) (sym same) (r .never);
         whole = r .whole;
         number = ap (numberFound geo) same ∙ r .number;
         counted = found-counted st f cs h x;
