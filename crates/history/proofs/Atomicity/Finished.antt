@@ -50,7 +50,6 @@ module _ (geo : Geometry) where
       (λ z. ap (λ (x : Done). x .plain .mode) (PlainLaws.sync-nothing geo (w .plain) z) ∙ barrier z P (ℕ-discrete (w .plain .waiting) 0) (decLe 1 (w .plain .power)) d)
       (λ z p. ap (λ (x : Done). x .plain .mode) (PlainLaws.sync-finished geo (w .plain) z p) ∙ d)
       (λ z p. absurd (let k : _≡_ {A = ℕ} 4 0 = sym (ap (λ (x : Done). x .answer) (P ∙ PlainLaws.sync-short geo (w .plain) z p)) ∙ sym (step geo sync w m .agrees .answer) ∙ h in omega arith))
-
     where
       barrier : length (w .plain .G) ≡ 0 → plainStep geo sync (fed geo sync w) (w .plain) ≡ plainSync geo (w .plain) → Dec (w .plain .waiting ≡ 0) → Dec (1 ≤ w .plain .power) → w .plain .mode ≡ 1 → plainBarrier geo (w .plain) .plain .mode ≡ 1
       barrier z P (yes e) q d = ap (λ (x : Done). x .plain .mode) (PlainLaws.barrier-none geo (w .plain) e) ∙ d

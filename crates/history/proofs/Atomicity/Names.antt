@@ -106,7 +106,6 @@ module _ (geo : Geometry) where
         ∙ ap (λ (x : Verdict). x .n) (PlainLaws.choose-none geo (w .plain .n) (length (w .plain .G)) (w .plain .F) (headerKept ms (w .plain .waiting)) (cut-found geo ms w)) in
         ap (λ (k : ℕ). among i (take k (w .plain .log))) same ∙ ap (among i) (all-log (r .5)) ∙ e
 
-
     -- nothing is laid
     still-named : (f : Fate) → v .laid ≡ false → NewLog geo f (w .ledger) (w .plain) → Named (known f) (w .plain) → Named (known f) (plainNext geo (cut ms) w)
     still-named f e n names x u = ap (among x) (log-by false e) ∙ kept f n x (names x (loose-by x u))

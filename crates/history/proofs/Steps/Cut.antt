@@ -50,11 +50,13 @@ module _ (geo : Geometry) where
       → Behind geo X Y (st .rec .blocks) (st .settled) q (l .written) (d .S) (d .n) (d .F) → ((a : ℕ) → Firm geo (cutLoose d) a → Y a) → take (d .n) (d .log) ≡ addresses (take (d .n) (l .written)) → CutLeads geo ms st l d
   unfolding resolved queue
   still-leads {X} {Y} {q} ms st l d e h s p r sub log =
-      rw (s, p, choose-none geo (d .n) (length (d .G)) (d .F) (headerKept ms (d .waiting)) (sameLog (foundIn geo (cutSettled ms st)) (l .written)))
-      (leads-sub geo Y (Firm geo (cutLoose d)) sub (st .rec .blocks) (cutSettled ms st) (l .written) (d .S) (d .n) (d .F)
-      (still-cuts geo r (cardIn st) (cardIn st) (st .rec .power) ms
-      (record { settled = refl; waits = e; count = sym (ap length (sym e) ∙ length-upTo (entryAt (st .waiting)) (st .rec .waiting)); power = refl; room = refl })
-      (ap (marksFit ms) (sym e) ∙ h)), log)
+      rw (s, p, choose-none geo (d .n) (length (d .G)) (d .F) (headerKept ms (d .waiting)) (sameLog (foundIn geo (cutSettled ms st)) (l .written))) (
+        leads-sub geo Y (Firm geo (cutLoose d)) sub (st .rec .blocks) (cutSettled ms st) (l .written) (d .S) (d .n) (d .F)
+            (still-cuts geo r (cardIn st) (cardIn st) (st .rec .power) ms
+            (record { settled = refl; waits = e; count = sym (ap length (sym e) ∙ length-upTo (entryAt (st .waiting)) (st .rec .waiting)); power = refl; room = refl })
+            (ap (marksFit ms) (sym e) ∙ h)),
+        log,
+      )
 
   pub any-cut-leads : (ms : List ℕ) (st : State) (l : Ledger) (d : Plain) → Sim geo st l d → marksFit ms (queue (cardIn st)) ≡ true → CutLeads geo ms st l d
   any-cut-leads ms st l d m h = go (m .phase)

@@ -41,7 +41,6 @@ use Rattle.history.proofs.Steps.Local.{power-step, put-step, get-step, 
 use Rattle.history.proofs.Steps.Cut.{cut-step}
 use Rattle.history.proofs.Steps.Apply.{apply-step}
 use Rattle.history.proofs.Steps.Recover.{recover-step}
-
 use Rattle.history.proofs.Steps.Directs.{direct-step}
 use Rattle.history.proofs.Steps.Sync.{sync-step}
 

@@ -339,9 +339,10 @@ module _ (geo : Geometry) where
                 let u : Bool = sameLog (foundIn geo (cut ms r .settled)) (cond (keptAt ms (length (y .q) + (length G + geo .descriptors))) (log ++ G) (y .list)) in
                 rw (note-top k (omega arith))
                 (chosen-by geo _ _ _ (shortAt k) _ (ownVerdict (y .n) (length G) t u)
-                (choose-sync-own geo k (st .rec .logged) (length G) false _ u (omega (arith, y .inner-plain)) ∙ (λ i. ownVerdict (y .n-is i) (length G) (kept-mark ms _ (length (y .q) + (length G + geo .descriptors)) wt i) u))
-                (leads-sub geo (Besides (y .q)) (Firm geo (cutLoose (shortAt k))) (spared k (omega arith)) N _ _ _ _ _ (short-top geo (y .meets) (cardIn st) r j l h ms q t u refl refl),
-                top-lists geo (y .meets) (d .log) (y .log-is) (y .list-is) t u));
+                (choose-sync-own geo k (st .rec .logged) (length G) false _ u (omega (arith, y .inner-plain)) ∙ (λ i. ownVerdict (y .n-is i) (length G) (kept-mark ms _ (length (y .q) + (length G + geo .descriptors)) wt i) u)) (
+                  leads-sub geo (Besides (y .q)) (Firm geo (cutLoose (shortAt k))) (spared k (omega arith)) N _ _ _ _ _ (short-top geo (y .meets) (cardIn st) r j l h ms q t u refl refl),
+                  top-lists geo (y .meets) (d .log) (y .log-is) (y .list-is) t u,
+                ));
           }
 
       cuts : Throughout At (queue (cardIn st)) plan (st .settled) 0
