@@ -105,7 +105,3 @@ module _ (geo : Geometry) where
           ∙ settle-overlay (e ∷ []) s a (rw (← size) (data-below geo N a q)) (whole, tt)
           ∙ lay-same e (blockAt s) a z)
       go a q (no z) = lay-other e (S .disk) a z ∙ others .disk a q z
-
--- a plan's first flush settles q₀ too: as if it were settled before
-pub settles-from : (q₀ W : List Entry) (Ws : Plan) (s : List ℕ) → settles q₀ (W ∷ Ws) s ≡ settles [] (W ∷ Ws) (settle q₀ s)
-settles-from q₀ W Ws s = ap (settles [] Ws) (settle-append q₀ W s)

@@ -66,11 +66,6 @@ module _ (geo : Geometry) where
   never-drawn x [] w S h = refl
   never-drawn x (c ∷ cs) w S h = let p = never-here x c cs w h in never-drawn x cs (next geo c w) (drawnBy geo c w S) (p .1) ∙ drawn-other x c w S (p .0)
 
-  pub never-append : (x : ℕ) (a b : List Call) (w : World) → neverDirect geo x (a ++ b) w ≡ true → neverDirect geo x b (after geo a w) ≡ true
-  unfolding after neverDirect
-  never-append x [] b w h = h
-  never-append x (c ∷ a) b w h = never-append x a b (next geo c w) (both (not (directDone geo c w && ofDirect geo c (λ e. eqb (e .address) x) false)) (neverDirect geo x (a ++ b) (next geo c w)) h .1)
-
   -- ---- what waits and what is loose
 
   abbrev Free : ℕ → Plain → Type 0

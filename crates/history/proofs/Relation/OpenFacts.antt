@@ -68,9 +68,6 @@ module _ (geo : Geometry) where
     unfolding queue
     waiting-whole = all-upTo Whole (entryAt (st .waiting)) (st .rec .waiting) (λ i h. length-block (st .waiting) i (omega (arith, sz .waiting, few, geo .queued)))
 
-    pub waiting-low : All (λ e. e .address < st .rec .blocks) waiting
-    waiting-low = all-map (Waits geo st) (λ e. e .address < st .rec .blocks) (λ e p. data-below geo (st .rec .blocks) (e .address) (p .0)) waiting (o .waits)
-
     -- the settled bytes once they have settled
     abbrev pub flushed : List ℕ
     flushed = flushedBytes geo st

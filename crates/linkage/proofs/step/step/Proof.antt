@@ -4,6 +4,7 @@ use Rattle.store.specs.Power.{powerCall}
 use Rattle.store.specs.Put.{putCall}
 use Rattle.store.specs.Commit.{commitCall}
 use Rattle.store.specs.Abandon.{abandonCall}
+use Rattle.store.specs.Direct.{directCall}
 use Rattle.store.specs.Saves.{syncCall, applyCall, recoverCall}
 use Rattle.store.specs.Cut.{cutCall}
 use Rattle.history.specs.Dispatch.{called}
@@ -44,26 +45,32 @@ returns-6 c =
     rw (m .before .before .before .before .before .enum-told3 .given .1) (no-place (m .trapcard-abandon .ensures))
 
 returns-7 : tie.Need-returns-7
-unfolding called syncCall
+unfolding called directCall
 returns-7 c =
+    let m = c .before .before .before .before .before .before in
+    rw (m .before .before .before .before .before .before .before .code4 .given .1) (no-place (m .trapcard-direct .ensures))
+
+returns-8 : tie.Need-returns-8
+unfolding called syncCall
+returns-8 c =
     let m = c .before .before .before .before .before .before in
     rw (m .before .before .before .before .before .before .enum-told4 .given .1) (no-place (m .trapcard-sync .ensures))
 
-returns-8 : tie.Need-returns-8
+returns-9 : tie.Need-returns-9
 unfolding called applyCall
-returns-8 c =
+returns-9 c =
     let m = c .before .before .before .before .before .before in
     rw (m .before .before .before .before .before .before .enum-told5 .given .1) (no-place (m .trapcard-apply .ensures))
 
-returns-9 : tie.Need-returns-9
+returns-10 : tie.Need-returns-10
 unfolding called recoverCall
-returns-9 c =
+returns-10 c =
     let m = c .before .before .before .before .before .before in
     rw (m .before .before .before .before .before .before .enum-told6 .given .1) (no-place (m .trapcard-recover .ensures))
 
-returns-10 : tie.Need-returns-10
+returns-11 : tie.Need-returns-11
 unfolding called cutCall
-returns-10 c =
+returns-11 c =
     let m = c .before .before .before .before in
     rw (m .before .before .before .before .before .enum-told7 .given .1) (no-place (m .trapcard-cut .ensures))
 
@@ -71,6 +78,8 @@ pub step-spec : {M : Type 1} → statement M
 step-spec =
     tie.close
     (tie.spec
+    (λ c. search needs)
+    (λ c κs. search needs)
     (λ c. search needs)
     (λ c κs. search needs)
     (λ c. search needs)
@@ -141,4 +150,9 @@ step-spec =
     (λ c. search needs)
     (λ c. search needs)
     (λ c. search needs)
-    returns-10)
+    returns-10
+    (λ c. search needs)
+    (λ c. search needs)
+    (λ c. search needs)
+    (λ c. search needs)
+    returns-11)
