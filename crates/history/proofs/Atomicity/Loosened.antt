@@ -349,12 +349,6 @@ module _ (geo : Geometry) where
         loose = λ z. r .loose (o .writes z) ∙ o .loose z;
       }
 
-  -- a block that no waiting write is addressed to
-  pub block-stays : (x : ℕ) (cs : List Call) (w : World) → WorldSim geo w → w .store .rec .mode ≢ openMode → isData geo (w .store .rec .blocks) x ≡ true
-      → All (λ e. x ≢ e .address) (queue (cardIn (w .store))) → noneFinished geo cs w ≡ true → after geo cs w .excepted ≡ false
-      → blockAt (after geo cs w .store .settled) x ≡ blockAt (w .store .settled) x
-  block-stays x cs w m s d o n e = behind cs w m s n e .block x d o
-
   -- ---- the first accepted cut
 
   pub record FirstCut (cs : List Call) (w : World) : Type 0 where
