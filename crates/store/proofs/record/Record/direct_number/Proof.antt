@@ -8,8 +8,9 @@ use Rattle.journal.specs.Geometry.{trap}
 use Rattle.store.specs.State.{State}
 use Rattle.store.specs.CodeState.{stateOf}
 use Rattle.store.specs.Request.{Request, direct, abandon}
-use Rattle.store.specs.Causes.{first, cause}
+use Rattle.store.specs.Causes.{listedRow, first, cause}
 use Rattle.store.proofs.Causes.{ownRows, cause-block, cause-4, passes-sound}
+use Rattle.store.proofs.Directs.{listed-row}
 use borrow.Author.Needs.{needs}
 use Rattle.store.proofs.record.Record.direct_number.Statement.{statement}
 use Rattle.store.proofs.record.Record.direct_number.Tie as tie
@@ -26,6 +27,10 @@ table-of : (c : tie.After-not-open) → let start = c .before .before .before .b
 table-of c =
     let start = c .before .before .before .before .before .before in
     cause-4 trap (given start) (c .not-open .result) (ownRows trap (request start)) _ (ap not (eq-eqb _ _ (c .before .if1 .left))) (c .not-open .ensures)
+
+-- row 14
+row-of : (c : tie.After-lists) → let start = c .before .before .before .before .before .before .before .before .before .before in listedRow trap (start .args .address) .test (given start) ≡ c .lists .result
+row-of c = let start = c .before .before .before .before .before .before .before .before .before .before in listed-row trap (start .args .address) (given start) (c .lists .result) (c .lists .ensures)
 
 returns : tie.Need-returns
 returns c =
@@ -51,10 +56,10 @@ lists-requires c κs =
     (omega arith, (omega arith, (s .counts .open-count, s .counts .group-count, s .counts .log-count)))
 
 returns-4 : tie.Need-returns-4
-returns-4 c = rw (table-of (c .before .before .before .before .before), eq-eqb _ _ (c .before .before .before .before .if2 .left), ← c .before .before .before .is-data .ensures, c .before .before .if3 .left, ← c .before .lists .ensures, c .if4 .taken)
+returns-4 c = rw (table-of (c .before .before .before .before .before), eq-eqb _ _ (c .before .before .before .before .if2 .left), ← c .before .before .before .is-data .ensures, c .before .before .if3 .left, row-of (c .before), c .if4 .taken)
 
 returns-5 : tie.Need-returns-5
-returns-5 c = rw (table-of (c .before .before .before .before .before), eq-eqb _ _ (c .before .before .before .before .if2 .left), ← c .before .before .before .is-data .ensures, c .before .before .if3 .left, ← c .before .lists .ensures, c .if4 .left)
+returns-5 c = rw (table-of (c .before .before .before .before .before), eq-eqb _ _ (c .before .before .before .before .if2 .left), ← c .before .before .before .is-data .ensures, c .before .before .if3 .left, row-of (c .before), c .if4 .left)
 
 pub direct-number-spec : {M : Type 1} → statement M
 direct-number-spec =
