@@ -38,9 +38,9 @@ impl Record {
     ) -> Saved
         ensures { λ r. ⌜ outcomeOf (r .number) (r .orders) (r .rec) (now (settled .exit)) (now (waiting .exit)) (now (work .entry)) ≡ directCall trap address (now (block .entry)) (stateOf self (now (settled .entry)) (now (waiting .entry)) (now (work .entry))) ⌝ }
     {
-        let number = self.direct_number(settled, waiting, work, address, block);
-        if number != 0 {
-            return self.refused(number);
+        let refusal = self.direct_number(settled, waiting, work, address, block);
+        if refusal != 0 {
+            return self.refused(refusal);
         }
         self.saved(self.written(settled, waiting, address, block))
     }

@@ -49,7 +49,7 @@ look-requires c κs =
     let start = c .before .before .before .before .before .before .before .before .before .before .before .before .before .before .before .before .before .before in
     let k = c .before .before .before .before .before .before .before .before .before .before .chain in
     let few : wantedCount (start .args .list .now) ≤ 32 = start .pre .1 .1 .0 .0 in
-    (omega (arith, start .pre .0 .2), (start .pre .1 .0 .3, (k .kept .1 .0, ((omega (arith, k .kept .1 .1 .0), few), (k .ensures, met-none (start .args .list .now) 32 few)))))
+    (omega (arith, start .pre .0 .2), (omega (arith, start .pre .1 .0 .3), (k .kept .1 .0, ((omega (arith, k .kept .1 .1 .0), few), (k .ensures, met-none (start .args .list .now) 32 few)))))
 
 slice-aggregate-look-work : tie.Need-slice-aggregate-look-work
 slice-aggregate-look-work c = search needs

@@ -1,19 +1,20 @@
 -- `store::record::Record::unlogged` meets its contract.
 use mathlib.Core.Path.{_≡_, sym, _∙_}
+use mathlib.Core.List.{[]}
 use native.Mathlib.Omega.{arith}
 use borrow.Author.Needs.{needs}
 use Rattle.journal.specs.Geometry.{trap}
 use Rattle.journal.specs.declared.lookup.Found.{Found}
 use Rattle.journal.specs.declared.lookup.Found.the-variants.{At, Absent}
-use Rattle.store.specs.Lists.{find}
-use Rattle.store.specs.Get.{waitingFrom}
+use Rattle.store.specs.CodeState.{stateOf}
+use Rattle.store.specs.Get.{waitingFrom, findWaiting}
 use Rattle.store.proofs.Lookups.{find-at}
 use Rattle.store.proofs.record.Record.unlogged.Statement.{statement}
 use Rattle.store.proofs.record.Record.unlogged.Tie as tie
 
 -- the lookup, and what it found
 abbrev lookup : tie.Start → Found
-lookup c = find (c .args .waiting .now) waitingFrom (c .args .self .waiting) (c .args .address)
+lookup c = findWaiting (stateOf (c .args .self) [] (c .args .waiting .now) []) (c .args .address)
 
 in-waiting : (c : tie.After-i) → lookup (c .before .before .before .before) ≡ At (c .i .given .0 .0)
 in-waiting c = sym (c .before .before .find .ensures) ∙ c .i .given .1
