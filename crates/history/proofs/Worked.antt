@@ -7,4 +7,5 @@ pub mod Blank
 pub mod Formats
 pub mod TornMarks
 pub mod Second
+pub mod Drawn
 pub mod Both

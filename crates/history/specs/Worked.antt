@@ -1,6 +1,7 @@
 -- "Around it", document 01's two worked scripts on a card of 64 blocks, as lists of calls: "format / put 40 7 / commit / sync / put 40 9 /
 -- commit / power 3 / sync / cut 101 / power 100 / recover / get 40", and the same with cut 111. W-204: and the same with cuts that tear the log
--- block, the descriptor, or the header, which is refused. W-205: and a format in the midst of them.
+-- block, the descriptor, or the header, which is refused. W-205: and a format in the midst of them. W-209: and two with a direct
+-- write.
 use Prim.Native.Nat.{ℕ, _+_}
 use mathlib.Core.Path.{_≡_}
 use mathlib.Core.Bool.{Bool, true, false}
@@ -14,12 +15,13 @@ use Rattle.store.specs.Outcomes.{refused}
 use Rattle.script.specs.Replies.{marks}
 use Rattle.store.specs.Format.{formatCall}
 use Rattle.journal.specs.Geometry.{trap}
-use Rattle.history.specs.Call.{Call, power, put, get, commit, sync, apply, recover, cut}
+use Rattle.history.specs.Call.{Call, power, put, get, commit, direct, sync, apply, recover, cut}
+use Rattle.history.specs.Plain.{among}
 use Rattle.store.specs.Get.{blockOf}
 use Rattle.history.specs.Dispatch.{dispatch}
 use Rattle.history.specs.History.{World, begun, next, after, storeNext, foundWritten, acceptedCut, exception}
 use Rattle.history.specs.Linked.{AllPassable}
-use Rattle.history.specs.Statements.{EndsFinished, noneFinished, quiet, decided, known, fate, groupsLaid, numberFound, noCut}
+use Rattle.history.specs.Statements.{EndsFinished, noneFinished, quiet, decided, known, fate, groupsLaid, numberFound, noCut, noPhoto, photo}
 
 -- "byte filling the block"
 unfoldable pub sevens : List ℕ
@@ -105,11 +107,43 @@ pub record Script (st : State) (ms : List ℕ) (same new all : Bool) (k c : ℕ)
   pub groups : groupsLaid trap (filed ++ crashed ms) (begun trap st) (known quiet) ≡ c
   pub block : blockOf trap 40 (storeNext trap recover (metByRecover ms st)) ≡ b
 
+-- ---- W-209: a direct write
+
+-- "direct 50 7"
+abbrev pub drawn : List Call
+drawn = direct 50 sevens ∷ []
+
+-- then a cut that keeps the first half of the write that waits, and "power 100"
+abbrev pub drawnHalf : List Call
+drawnHalf = direct 50 sevens ∷ cut half ∷ power 100 ∷ []
+
+-- or a sync, whose group is empty, then a cut at which nothing waits, and "power 100"
+abbrev pub drawnWhole : List Call
+drawnWhole = direct 50 sevens ∷ sync ∷ cut [] ∷ power 100 ∷ []
+
+-- behind the cut of the write block 50 is loose: before the write S had zeros there, and "recover" finds it half written
+pub record Photographed (st : State) : Type 0 where
+  pub lines : answers (drawnHalf ++ (recover ∷ get 50 ∷ [])) (begun trap st) ≡ (0, 1) ∷ (0, 0) ∷ (0, 0) ∷ (0, 0) ∷ (0, 0) ∷ []
+  pub accepted : acceptedCut trap (cut half) (after trap drawn (begun trap st)) ≡ true
+  pub shot : photo trap 50 drawn (begun trap st) noPhoto ≡ record { before = replicate blockBytes 0; blocks = sevens ∷ [] }
+  pub clean : after trap drawnHalf (begun trap st) .excepted ≡ false
+  pub loose : among 50 (after trap drawnHalf (begun trap st) .plain .loose) ≡ true
+  pub block : blockOf trap 50 (storeNext trap recover (after trap drawnHalf (begun trap st))) ≡ replicate 256 7 ++ replicate 256 0
+
+-- behind the sync, which is one order, it is not, and "recover" finds the write
+pub record Barred (st : State) : Type 0 where
+  pub lines : answers (drawnWhole ++ (recover ∷ get 50 ∷ [])) (begun trap st) ≡ (0, 1) ∷ (0, 1) ∷ (0, 0) ∷ (0, 0) ∷ (0, 0) ∷ (0, 0) ∷ []
+  pub accepted : acceptedCut trap (cut []) (after trap (drawn ++ (sync ∷ [])) (begun trap st)) ≡ true
+  pub clean : after trap drawnWhole (begun trap st) .excepted ≡ false
+  pub firm : among 50 (after trap drawnWhole (begun trap st) .plain .loose) ≡ false
+  pub block : blockOf trap 50 (storeNext trap recover (after trap drawnWhole (begun trap st))) ≡ sevens
+
 -- cut 101 loses the new descriptor: another log than the one written, no collision, old, save 1; cut 111 keeps every write: new, save 2. Where
 -- half of the log block is kept: again another log, no collision, old, save 1; where of the descriptor just the byte is kept that is new: the
 -- log written, new, save 2, though not every write was kept. A torn header is refused, and leaves everything. The digits of any line, "0" being
 -- byte 48, are spread into the marks of its cut, the first digit's first. W-205: behind the first sync a format is turned down, and behind cut
--- 101, where the header needs a fallback; behind an apply it is not. There is such a card
+-- 101, where the header needs a fallback; behind an apply it is not. W-209: a direct
+-- write that a cut tears leaves its block loose, one that a sync settled does not. There is such a card
 pub record Worked : Type 0 where
   pub lost : (st : State) → formatCall trap st .answer ≡ 0 → blocksIn (st .settled) ≡ 64 → Script st cut101 false false false 2 1 sevens
   pub whole : (st : State) → formatCall trap st .answer ≡ 0 → blocksIn (st .settled) ≡ 64 → Script st cut111 true true true 0 2 nines
@@ -123,4 +157,6 @@ pub record Worked : Type 0 where
       → formatCall trap (after trap filed (begun trap st) .store) ≡ refused 13 (after trap filed (begun trap st) .store)
   pub fallback : (st : State) → formatCall trap st .answer ≡ 0 → blocksIn (st .settled) ≡ 64 → formatCall trap (metByRecover cut101 st .store) ≡ refused 13 (metByRecover cut101 st .store)
   pub applied : (st : State) → formatCall trap st .answer ≡ 0 → blocksIn (st .settled) ≡ 64 → formatCall trap (after trap (apply ∷ []) (after trap filed (begun trap st)) .store) .answer ≡ 0
+  pub photographed : (st : State) → formatCall trap st .answer ≡ 0 → blocksIn (st .settled) ≡ 64 → Photographed st
+  pub barred : (st : State) → formatCall trap st .answer ≡ 0 → blocksIn (st .settled) ≡ 64 → Barred st
   pub card : (st : State) × (formatCall trap st .answer ≡ 0) × (blocksIn (st .settled) ≡ 64)

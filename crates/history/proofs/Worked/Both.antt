@@ -31,6 +31,7 @@ use Rattle.history.proofs.Worked.Plain.{openAt, plain-put, plain-commit
 use Rattle.history.proofs.Worked.Sync.{filed-log, filed-next, filed-slot}
 use Rattle.history.proofs.Worked.Second.{put-settled, commit-settled, length-sevens, zeros, old, Filed, Cuts, lost-cuts, lost-falls, halved-cuts, all-111, whole-cuts, fifth-cuts, header-refused, accepted, t₆, t₇, block, number, all-clean, none-done, fated, later-lines}
 use Rattle.history.proofs.Worked.Formats.{format-turned, format-served, open-count, fall-count}
+use Rattle.history.proofs.Worked.Drawn.{photographed-script, barred-script}
 use Rattle.history.proofs.Worked.Blank as Blank
 
 -- ---- the whole scripts
@@ -169,5 +170,7 @@ worked = record {
   turned = turned-down;
   fallback = needs-fallback;
   applied = is-served;
+  photographed = photographed-script;
+  barred = barred-script;
   card = Blank.blank;
 }

@@ -46,7 +46,7 @@ kept-behind m ms i e h = ap (λ (b : List ℕ). same b (replicate blockBytes 1))
 length-half : length half ≡ blockBytes
 length-half = refl
 
-low-half : overOne half ≡ false
+pub low-half : overOne half ≡ false
 unfolding overOne
 low-half = refl
 
