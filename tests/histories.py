@@ -24,10 +24,14 @@ def size(chance, large):
 
 # ---- arguments
 
+def wrong_address(chance, blocks):
+    return chance.choice((0, FIRST_DATA - 1, blocks, TOP))
+
+
 def address(chance, blocks):
     """Mostly a data block, of few, so that some come again; on a card that is large enough also others in the buckets of those."""
     if chance.random() < 0.04:
-        return chance.choice((0, FIRST_DATA - 1, blocks, TOP))
+        return wrong_address(chance, blocks)
     edge = chance.choice((FIRST_DATA, blocks - 1))
     if chance.random() < 0.2:
         return edge
@@ -45,12 +49,14 @@ def free_addresses(lists, blocks):
 
 
 def direct_address(chance, lists, blocks):
-    """Mostly one that open, group and log don't have, often one that waits; else one of a list, or any."""
+    """Mostly one that open, group and log don't have, often one that waits; else one of a list, any, or a wrong one."""
     free, kind = free_addresses(lists, blocks), chance.random()
     if kind < 0.6 and free:
         return chance.choice(free)
     several = [listed for listed in (lists[:3] if kind < 0.8 else lists[3:]) if listed]
-    return chance.choice(chance.choice(several)) if several and kind < 0.92 else address(chance, blocks)
+    if several and kind < 0.92:
+        return chance.choice(chance.choice(several))
+    return address(chance, blocks) if kind < 0.97 else wrong_address(chance, blocks)
 
 
 def block(chance):
@@ -152,8 +158,8 @@ class History:
     def when_waiting(self, waiting):
         """Behind a photograph: one more write with little power, a cut, a sync without a group, or a look at what waits."""
         kind, chance = self.chance.random(), self.chance
-        if kind < 0.3 and waiting >= DIRECT - 1:
-            return [Step("power", (chance.choice((0, 1, 2)),)), self.step("direct"), self.step("direct")]
+        if kind < 0.6 and waiting >= DIRECT - 1:
+            return [Step("power", (chance.choice((0, 1, 1, 2)),)), self.step("direct"), self.step("direct")]
         if kind < 0.6:
             return [self.step("cut")]
         if kind < 0.8:
@@ -163,8 +169,8 @@ class History:
     def photograph(self):
         """Direct writes to blocks that no list has, one after another, or to any; the 33rd that waits finds 32."""
         chance, lists = self.chance, self.bench.listed()
-        count = chance.choice((1, 1, 1, 2, 2, 3, 5, 5, 8, DIRECT - 1, DIRECT, DIRECT + 1))
         free = free_addresses(lists, self.blocks)
+        count = chance.choice((1, 1, 1, 2, 2, 3, 5, 5, 8, DIRECT - 1, DIRECT, DIRECT + 1) if free else (1, 2))
         if free and chance.random() < 0.6:
             first = chance.randrange(len(free))
             addresses = [free[(first + i) % len(free)] for i in range(count)]
@@ -189,7 +195,7 @@ class History:
     def few(self):
         """A small group, often the last one again: then a write that a cut loses may leave the bytes that it had."""
         chance, queue = self.chance, self.bench.queue()
-        if not self.group or chance.random() < 0.5:
+        if not self.group or chance.random() < (0.2 if queue else 0.5):
             self.group = [(address(chance, self.blocks), block(chance)) for _ in range(chance.choice((1, 1, 2, 3, 6)))]
         photographed = [(chance.choice(queue), block(chance))] if queue and chance.random() < 0.3 else []
         return [Step("put", put) for put in self.group + photographed] + [Step("commit")]
@@ -271,11 +277,11 @@ def screens(chance, bench):
 
 def photographs(chance, bench):
     """Calls on an open record with direct writes waiting."""
-    blocks = size(chance, False)
+    blocks = chance.choice((70, 100, size(chance, False)))
     yield Step("make", (blocks, chance.randrange(1 << 32), ("photograph",) if chance.random() < 0.7 else ("photograph", "last_save")))
-    for call in chance.choices(("direct", "direct", "sync", "apply", "get", "get_list", "put", "power", "sync_cost", "apply_cost"), k=6):
+    calls = chance.choices(("direct", "direct", "sync", "sync", "apply", "get", "get_list", "put"), k=4)
+    for call in [chance.choice(("sync_cost", "apply_cost")), chance.choice(("power", "get")), *calls, "cut"]:
         yield Step(call, arguments(chance, call, bench, blocks))
-    yield Step("cut", arguments(chance, "cut", bench, blocks))
 
 
 def demonstrations(chance, bench):
@@ -296,7 +302,7 @@ def made_up(chance, bench, large):
     blocks, count = size(chance, large), chance.choice((0, 0, 1, 1, 1, 1, 2, 3))
     pool = chance.choice((RECORD_FAULTS, RECORD_FAULTS, CARD_FAULTS, RECORD_FAULTS + CARD_FAULTS))
     yield Step("make", (blocks, chance.randrange(1 << 32), tuple(fault.__name__ for fault in chance.sample(pool, count))))
-    calls = chance.choices(ELEVEN + COSTS + ("get_list", "get_list", "direct", "sync", "tally", "alike"), k=chance.randint(2, 12))
+    calls = chance.choices(ELEVEN + COSTS + ("get_list", "get_list", "direct", "sync", "tally", "alike"), k=chance.randint(3, 14))
     calls += ["cut", "cut", "recover_cost", "recover"]
     for _ in range(chance.choice((0, 0, 1, 2))):
         calls.insert(chance.randint(len(calls) // 2, len(calls)), "format")

@@ -225,7 +225,7 @@ def photograph(made):
     """No fault by itself: direct writes wait for few data blocks, those of open, group and log among them, and there is little power."""
     chance = made.chance
     made.open()
-    made.queued, made.power = chance.choice((1, 2, 5, DIRECT - 1, DIRECT, DIRECT)), chance.choice((0, 1, 2, made.power, made.power))
+    made.queued, made.power = chance.choice((1, 5, DIRECT - 1, DIRECT, DIRECT)), chance.choice((0, 1, 2, made.power, made.power))
     made.grouped, made.logged = chance.choice((0, made.grouped, made.room)), chance.choice((0, made.logged, SLOTS))
     pool = [made.data() for _ in range(4)] + chance.choice(([], made.listed()))
     for i in range(DIRECT):
@@ -307,8 +307,8 @@ def empty_unsound(made):
 
 
 RECORD_FAULTS = (mode, open_count, group_count, log_count, waiting_when_closed, waiting_when_open, waiting_when_down, other_blocks, open_address,
-                 group_address, log_address, waiting_address, twice_in_open, twice_in_group, few_blocks, few_blocks, few_blocks,
-                 few_buckets, few_buckets, photograph, photograph, photograph, last_save)
+                 group_address, log_address, waiting_address, twice_in_open, twice_in_group, few_blocks, few_blocks, few_buckets, photograph,
+                 last_save)
 CARD_FAULTS = (card_format, card_blocks, card_count, card_previous, sum_of_count, sum_of_count, sum_of_previous, neither_sum, stray_in_list,
                no_save_counts, no_save_sums)
 UNUSED = (zeros, any_bytes, empty_log, empty_unsound, card_format, card_blocks, card_count, card_previous, no_save_counts, no_save_sums)
