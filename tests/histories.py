@@ -71,7 +71,7 @@ def ends(rec):
     inner = (n, n + 1, n + 2, n + 2, n + 3) if n else ()
     before = n + 3 if n + m > SLOTS else 0
     own = (before, before + 1, before + m, before + m + 1, before + m + 2, before + m + 3) if m else ()
-    behind = (before + m + 2,) * 8 if m and rec.waiting else ()
+    behind = (before + m + 2,) * 6 if m and rec.waiting else ()
     return (0, 1, 2) + inner + own * 2 + behind
 
 
@@ -140,7 +140,7 @@ class History:
 
     def when_open(self):
         kind, chance, waiting = self.chance.random(), self.chance, self.bench.rec().waiting
-        if waiting and chance.random() < 0.2:
+        if chance.random() < (0.5 if waiting >= DIRECT - 1 else 0.2 if waiting else 0):
             return self.when_waiting(waiting)
         if kind < 0.1:
             return [self.step("put")]
@@ -279,8 +279,11 @@ def photographs(chance, bench):
     """Calls on an open record with direct writes waiting."""
     blocks = chance.choice((70, 100, size(chance, False)))
     yield Step("make", (blocks, chance.randrange(1 << 32), ("photograph",) if chance.random() < 0.7 else ("photograph", "last_save")))
-    calls = chance.choices(("direct", "direct", "sync", "sync", "apply", "get", "get_list", "put"), k=4)
-    for call in [chance.choice(("sync_cost", "apply_cost")), chance.choice(("power", "get")), *calls, "cut"]:
+    calls = chance.choices(("direct", "sync", "apply", "get", "get_list", "put"), k=3)
+    begin = chance.choice((("sync_cost", "power", "sync"), ("power", "sync"), ("apply_cost", "power", "apply"), ("direct", "direct")))
+    if begin[0] == "direct":
+        yield Step("power", (chance.choice((0, 1, 1, 2)),))
+    for call in [*begin, *calls, "cut"]:
         yield Step(call, arguments(chance, call, bench, blocks))
 
 
@@ -295,8 +298,8 @@ def demonstrations(chance, bench):
 def made_up(chance, bench, large):
     """A record and a card with nought to three faults, and calls on them; now and then lists of gets alone, calls behind direct writes, or
     pairs of cards."""
-    if not large and chance.random() < 0.3:
-        kinds = screens, screens, photographs, photographs, photographs, demonstrations, demonstrations, demonstrations
+    if not large and chance.random() < 0.35:
+        kinds = screens, screens, demonstrations, demonstrations, demonstrations, *[photographs] * 6
         yield from chance.choice(kinds)(chance, bench)
         return
     blocks, count = size(chance, large), chance.choice((0, 0, 1, 1, 1, 1, 2, 3))

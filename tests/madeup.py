@@ -226,7 +226,7 @@ def photograph(made):
     chance = made.chance
     made.open()
     made.queued, made.power = chance.choice((1, 5, DIRECT - 1, DIRECT, DIRECT)), chance.choice((0, 1, 2, made.power, made.power))
-    made.grouped, made.logged = chance.choice((0, made.grouped, made.room)), chance.choice((0, made.logged, SLOTS))
+    made.grouped, made.logged = chance.choice((0, made.grouped, made.room)), chance.choice((0, made.logged, SLOTS, SLOTS))
     pool = [made.data() for _ in range(4)] + chance.choice(([], made.listed()))
     for i in range(DIRECT):
         made.wait_at(i, chance.choice(pool))
