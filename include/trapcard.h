@@ -8,6 +8,10 @@
  * one or that of one of those writes. Block 0 stays as it was settled, or is one of the writes to it, whole. What is said here of a
  * power loss holds on such a card too.
  *
+ * Blocks are saved by transactions: trapcard_put, trapcard_commit, trapcard_sync. A photograph goes straight to its blocks instead,
+ * by trapcard_direct. Its writes wait until the next flush, and until then a power loss may tear them; a trapcard_sync of an empty
+ * group is a barrier that makes them safe. How a save is found does not depend on them.
+ *
  * A buffer is a pointer and a length in bytes, of any alignment. A buffer that is const here is never written. The proofs
  * assume of the caller: pointers that are not null, with true lengths, also where a length is 0; buffers that do not overlap
  * where one of them is written (trapcard_alike may be given one card twice); and that nobody else writes them meanwhile.
@@ -50,15 +54,17 @@ extern "C" {
 /* Sizes in bytes. The settled bytes are N blocks, TRAPCARD_LEAST to TRAPCARD_MOST of them. */
 #define TRAPCARD_BLOCK 512u
 #define TRAPCARD_RECORD 44u
-#define TRAPCARD_WAITING 17544u
+#define TRAPCARD_WAITING 34056u
 #define TRAPCARD_WORK 33024u
 #define TRAPCARD_LEAST 35u
 #define TRAPCARD_MOST 65536u
 
-/* The first data block; the last is N - 1. The most entries that open, group and log hold, and the most waiting writes. */
+/* The first data block; the last is N - 1. The most entries that open, group and log hold, the most writes that wait, and the most
+ * that wait in an open record. */
 #define TRAPCARD_FIRST 34u
 #define TRAPCARD_SLOTS 32u
-#define TRAPCARD_PLACES 34u
+#define TRAPCARD_PLACES 66u
+#define TRAPCARD_DIRECT 32u
 
 /* The most addresses of a list. */
 #define TRAPCARD_LIST 32u
@@ -94,11 +100,13 @@ extern "C" {
 #define TRAPCARD_ERR_MARKS 10u   /* marks not 512 for each waiting write, a mark over 1, or unlike marks for a write to block 0 */
 #define TRAPCARD_ERR_LAST 12u    /* sync of a group that is not empty, at the largest save number, 2^64 - 1 */
 #define TRAPCARD_ERR_IN_USE 13u  /* format of a card whose header is not foreign and has a count above 0 */
+#define TRAPCARD_ERR_LISTED 14u  /* direct write of an address that open, group or log has */
 
 /* The buffer in which trapcard_get found its block. */
 #define TRAPCARD_NOWHERE 0u
 #define TRAPCARD_IN_SETTLED 1u
 #define TRAPCARD_IN_WORK 2u
+#define TRAPCARD_IN_WAITING 3u
 
 /* Makes a fresh card: zeros everywhere, an empty log, save number 0, the record open with power 1,000,000. Returns 0, 1 or 13, and
  * looks at nothing but lengths and block 0: not at what the record holds, nor at any list. 13, TRAPCARD_ERR_IN_USE, is for a card
@@ -123,7 +131,7 @@ uint32_t trapcard_format(uint8_t *record, size_t record_len, uint8_t *settled, s
 /* Sets the power count: how many orders to the card still happen. Returns 0, 1 or 2. Changes the record alone. Every order takes
  * 1 from it, also where no power is ever lost, and at 0 the next call with orders returns TRAPCARD_ERR_POWER: set it again before
  * it runs down. No sync, apply or recovery takes more than 70; how many the next one takes, and whether the count reaches, is asked
- * with trapcard_sync_cost, trapcard_apply_cost and trapcard_recover_cost. */
+ * with trapcard_sync_cost, trapcard_apply_cost and trapcard_recover_cost. A direct write takes 1 or 2. */
 uint32_t trapcard_power(uint8_t *record, size_t record_len, const uint8_t *settled, size_t settled_len, const uint8_t *waiting,
                         size_t waiting_len, const uint8_t *work, size_t work_len, uint32_t count);
 
@@ -133,9 +141,29 @@ uint32_t trapcard_put(uint8_t *record, size_t record_len, const uint8_t *settled
                       size_t waiting_len, uint8_t *work, size_t work_len, uint32_t address, const uint8_t *block,
                       size_t block_len);
 
-/* Finds the newest block at an address: of open, group, log or the home block. Returns 0, 1 to 4 or 6. Sets *buffer to
- * TRAPCARD_IN_SETTLED or TRAPCARD_IN_WORK and *offset to the byte where its 512 bytes start there, or both to 0 when refused.
- * Changes nothing; the place is good until the next call that writes that buffer. */
+/* Writes a block of 512 bytes of a photograph straight to its data block, outside any transaction; trapcard_get finds it from then
+ * on. Returns 0, 1 to 4, 6 or 14: TRAPCARD_ERR_LISTED if open, group or log has the address, which trapcard_sync moves from the
+ * group into the log and trapcard_apply takes out of it. Changes the record and the waiting bytes and, where it flushes, the
+ * settled bytes. *orders: the orders carried out, 1, or 2 with TRAPCARD_DIRECT writes waiting: it flushes those first. If power
+ * ends in the call it is 0, or 1 if the flush happened; this block is then nowhere on the card.
+ *
+ * After 0 the write waits until a flush. Every trapcard_sync that gives orders flushes before it returns 0, one of an empty group
+ * too; so does a trapcard_apply of a log that is not empty, and a direct write with TRAPCARD_DIRECT waiting. Then every later
+ * recovery finds the block, until it is written or saved anew. If power is lost before the flush, in another call too, the next
+ * recovery finds each byte of the block as it was settled or as any of the writes to it that waited; unless it finds a save that
+ * power cut off and that has the address, whose block it finds then. What was found so stays. All other blocks are found as if no
+ * direct write had waited. All this holds checksum collisions apart.
+ *
+ * So a save that names a photograph comes behind a barrier: the direct writes, trapcard_sync of an empty group, and when that has
+ * returned 0 put, commit and sync of what names it. Without the barrier these writes wait beside the save's own, and the save may
+ * be found where the photograph is torn. */
+uint32_t trapcard_direct(uint8_t *record, size_t record_len, uint8_t *settled, size_t settled_len, uint8_t *waiting,
+                         size_t waiting_len, const uint8_t *work, size_t work_len, uint32_t address, const uint8_t *block,
+                         size_t block_len, uint32_t *orders);
+
+/* Finds the newest block at an address: of open, group, log, the direct writes that wait, or the home block. Returns 0, 1 to 4 or
+ * 6. Sets *buffer to TRAPCARD_IN_SETTLED, TRAPCARD_IN_WORK or TRAPCARD_IN_WAITING and *offset to the byte where its 512 bytes start
+ * there, or both to 0 when refused. Changes nothing; the place is good until the next call that writes that buffer. */
 uint32_t trapcard_get(const uint8_t *record, size_t record_len, const uint8_t *settled, size_t settled_len,
                       const uint8_t *waiting, size_t waiting_len, const uint8_t *work, size_t work_len, uint32_t address,
                       uint32_t *buffer, uint64_t *offset);
@@ -161,13 +189,14 @@ uint32_t trapcard_abandon(uint8_t *record, size_t record_len, const uint8_t *set
 
 /* Saves the group as one: after 0 it is on the card, and every later recovery finds it. Returns 0, 1 to 4 or 12. If power ends in
  * the call, or at any moment before it returns, the next recovery finds all of the group or none of it. Both hold checksum
- * collisions apart. The save number is one more after 0; an empty group saves nothing and leaves it. *orders: the orders carried
- * out. */
+ * collisions apart. The save number is one more after 0. An empty group saves nothing and leaves the number: such a sync is a
+ * barrier, one flush if direct writes wait, and no order if none does. *orders: the orders carried out. */
 uint32_t trapcard_sync(uint8_t *record, size_t record_len, uint8_t *settled, size_t settled_len, uint8_t *waiting,
                        size_t waiting_len, const uint8_t *work, size_t work_len, uint32_t *orders);
 
-/* Writes the log home and empties it. Returns 0 or 1 to 4. The disk that a recovery finds is the same before, after and
- * wherever power ends in the call, checksum collisions apart. *orders: the orders carried out. */
+/* Writes the log home and empties it. Returns 0 or 1 to 4. The disk that a recovery finds is the same before, after and wherever
+ * power ends in the call, checksum collisions and direct writes that wait apart; these are settled by it, unless the log is empty,
+ * for then it gives no orders. *orders: the orders carried out. */
 uint32_t trapcard_apply(uint8_t *record, size_t record_len, uint8_t *settled, size_t settled_len, uint8_t *waiting,
                         size_t waiting_len, const uint8_t *work, size_t work_len, uint32_t *orders);
 
@@ -207,7 +236,8 @@ uint32_t trapcard_recover_cost(const uint8_t *record, size_t record_len, const u
 uint32_t trapcard_cut(uint8_t *record, size_t record_len, uint8_t *settled, size_t settled_len, const uint8_t *waiting,
                       size_t waiting_len, const uint8_t *work, size_t work_len, const uint8_t *marks, size_t marks_len);
 
-/* The sum of all data bytes after the log is laid over, from the settled bytes alone. Returns 0, 1, 8 or 9. Changes nothing. */
+/* The sum of all data bytes after the log is laid over, from the settled bytes alone: direct writes that wait are not in it, nor
+ * does trapcard_alike see them. Returns 0, 1, 8 or 9. Changes nothing. */
 uint32_t trapcard_tally(const uint8_t *settled, size_t settled_len, uint64_t *sum);
 
 /* Whether two cards are the same but for save number and leftovers: *yes is 1 if N is equal, the logs that a recovery would take have
@@ -219,10 +249,13 @@ uint32_t trapcard_alike(const uint8_t *settled_a, size_t settled_a_len, const ui
                         uint32_t *yes);
 
 /* The 512 bytes at a place that trapcard_get gave, or a null pointer for TRAPCARD_NOWHERE. */
-static inline const uint8_t *trapcard_block(const uint8_t *settled, const uint8_t *work, uint32_t buffer, uint64_t offset)
+static inline const uint8_t *trapcard_block(const uint8_t *settled, const uint8_t *waiting, const uint8_t *work, uint32_t buffer,
+                                            uint64_t offset)
 {
     if (buffer == TRAPCARD_IN_SETTLED)
         return settled + offset;
+    if (buffer == TRAPCARD_IN_WAITING)
+        return waiting + offset;
     if (buffer == TRAPCARD_IN_WORK)
         return work + offset;
     return NULL;

@@ -1,7 +1,6 @@
 """The library and the model side by side: one step, then everything that the call returned or was lent is compared."""
 import random
 from collections import Counter
-from dataclasses import replace
 from functools import lru_cache
 
 import costs
@@ -59,8 +58,8 @@ def two_cards(settled, kind, detail):
 
 
 def given(step):
-    """The numbers of a call, and the buffers behind them: put's block, cut's marks, a list and what its buffer holds before."""
-    if step.call == "put":
+    """The numbers of a call, and the buffers behind them: a block, cut's marks, a list and what its buffer holds before."""
+    if step.call in ("put", "direct"):
         return step.arguments[:1], (content(*step.arguments[1]),)
     if step.call == "cut":
         return (), (marks.spelled(step.arguments[0]),)
@@ -88,10 +87,8 @@ class Bench:
         return model.entries(self.bytes_of("waiting"), 0, min(self.rec().waiting, 2 * PLACES))
 
     def listed(self):
-        """The addresses of open, group and log, as far as there is room for what the record says."""
-        rec, most = self.rec(), model.SLOTS
-        rec = replace(rec, opened=min(rec.opened, most), grouped=min(rec.grouped, most), logged=min(rec.logged, most))
-        return model.lists(rec, self.bytes_of("settled"), self.bytes_of("work"))
+        """The addresses of open, group, log and queue, as far as there is room for what the record says."""
+        return model.held(model.bounded(self.rec()), self.bytes_of("settled"), self.bytes_of("waiting"), self.bytes_of("work"))
 
     def close(self):
         for buffer in self.lent.values():
@@ -170,7 +167,9 @@ class Bench:
         walk = bool(step.arguments)
         costs.held(self.library, lent, self.at_end, step.call, walk, outcome)
         if walk and outcome[1]:
-            self.seen["cases", "%s: %sorder by order" % (step.call, "applies, " if outcome[2] else ""), ""] += 1
+            waits = lent["record"].number(costs.WAITING) > 0
+            for what in ("applies, " if outcome[2] else "", *(["something waits, "] if waits else [])):
+                self.seen["cases", "%s: %sorder by order" % (step.call, what), ""] += 1
 
     def release(self, lent):
         """Copies made for one call go."""

@@ -1,4 +1,4 @@
-/* Calls the sixteen functions through include/trapcard.h. The lent buffers have lengths of their own, odd addresses and guard
+/* Calls the seventeen functions through include/trapcard.h. The lent buffers have lengths of their own, odd addresses and guard
  * bytes around them; out-parameters stand between guard words. After each call whatever it may not write is compared, and a
  * refused call may write nothing. It is C99 and C++. */
 #include <stddef.h>
@@ -31,7 +31,7 @@ static const struct {
     size_t at, length;
 } parts[LENT] = {PART(record), PART(settled), PART(waiting), PART(work), PART(block), PART(marks), PART(addresses), PART(blocks)};
 
-enum call { FORMAT, POWER, PUT, GET, GET_LIST, COMMIT, ABANDON, SYNC, APPLY, RECOVER, CUT, SYNC_COST, APPLY_COST, RECOVER_COST, CALLS };
+enum call { FORMAT, POWER, PUT, DIRECT, GET, GET_LIST, COMMIT, ABANDON, SYNC, APPLY, RECOVER, CUT, SYNC_COST, APPLY_COST, RECOVER_COST, CALLS };
 
 /* The most 4-byte out-parameters of a call. */
 enum { OUTS = 4 };
@@ -43,6 +43,7 @@ static const struct {
     {"format", RECORD | SETTLED | WAITING | WORK, 0},
     {"power", RECORD, 0},
     {"put", RECORD | WORK, 0},
+    {"direct", RECORD | SETTLED | WAITING, 1},
     {"get", 0, 1},
     {"get_list", BLOCKS, 1},
     {"commit", RECORD | WORK, 0},
@@ -124,6 +125,7 @@ static uint32_t perform(enum call call, uint32_t argument)
     case FORMAT: return trapcard_format(CARD);
     case POWER: return trapcard_power(CARD, argument);
     case PUT: return trapcard_put(CARD, argument, c.block, length[4]);
+    case DIRECT: return trapcard_direct(CARD, argument, c.block, length[4], &word[1]);
     case GET: return trapcard_get(CARD, argument, &word[1], &wide[1]);
     case GET_LIST: return trapcard_get_list(CARD, c.addresses, length[6], c.blocks, length[7], &word[1]);
     case COMMIT: return trapcard_commit(CARD);
@@ -163,9 +165,14 @@ static void refused(enum call call, uint32_t argument, uint32_t number)
 }
 
 /* The power ends in the call. */
+static void gone_at(enum call call, uint32_t argument, uint32_t orders)
+{
+    expect(call, argument, TRAPCARD_ERR_POWER, calls[call].writes, &orders, 0);
+}
+
 static void gone(enum call call, uint32_t orders)
 {
-    expect(call, 0, TRAPCARD_ERR_POWER, calls[call].writes, &orders, 0);
+    gone_at(call, 0, orders);
 }
 
 /* An inquiry is served. */
@@ -178,10 +185,10 @@ static void costs(enum call call, uint32_t orders, uint32_t applies, uint32_t pe
 /* A get finds a block filled with a byte at a place. */
 static void got(uint32_t address, uint32_t buffer, uint64_t offset, uint8_t byte)
 {
-    const uint8_t *block;
+    const uint8_t *block, *in = buffer == TRAPCARD_IN_WORK ? c.work : buffer == TRAPCARD_IN_WAITING ? c.waiting : c.settled;
     expect(GET, address, TRAPCARD_DONE, 0, &buffer, offset);
-    block = trapcard_block(c.settled, c.work, word[1], wide[1]);
-    must(block == (buffer == TRAPCARD_IN_WORK ? c.work : c.settled) + offset, "block", "another place");
+    block = trapcard_block(c.settled, c.waiting, c.work, word[1], wide[1]);
+    must(block == in + offset, "block", "another place");
     for (size_t i = 0; i < TRAPCARD_BLOCK; i++)
         same("get", "found the byte", block[i], byte);
 }
@@ -209,6 +216,13 @@ static void put(uint32_t address, uint8_t byte)
 {
     memset(c.block, byte, sizeof c.block);
     done(PUT, address, 0);
+}
+
+/* A direct write, with the orders that it takes. */
+static void directed(uint32_t address, uint8_t byte, uint32_t orders)
+{
+    memset(c.block, byte, sizeof c.block);
+    done(DIRECT, address, orders);
 }
 
 /* A digit for each waiting write: 512 marks alike. */
@@ -266,6 +280,7 @@ static void lengths(void)
         }
     length[4]--;
     refused(PUT, TRAPCARD_FIRST, TRAPCARD_ERR_SIZE);
+    refused(DIRECT, TRAPCARD_FIRST, TRAPCARD_ERR_SIZE);
 }
 
 /* A block in every place where a get finds it; orders and counts that all differ. */
@@ -316,7 +331,7 @@ static void causes(void)
     refused(COMMIT, 0, TRAPCARD_ERR_FULL);
     done(POWER, TRAPCARD_SLOTS + 2, 0);
     gone(SYNC, TRAPCARD_SLOTS + 2);
-    holds(TRAPCARD_MODE_DOWN, 1, TRAPCARD_SLOTS, 0, TRAPCARD_PLACES, 0);
+    holds(TRAPCARD_MODE_DOWN, 1, TRAPCARD_SLOTS, 0, TRAPCARD_SLOTS + 2, 0);
     numbered(0);
     refused(APPLY, 0, TRAPCARD_ERR_POWER);
     refused(CUT, 0, TRAPCARD_ERR_MARKS);
@@ -515,7 +530,7 @@ static void inquiries(void)
     group(40, 1);
     ask_and_save(39, 1, 32);
     group(TRAPCARD_FIRST, TRAPCARD_SLOTS);
-    ask_and_save(39, 1, TRAPCARD_PLACES);
+    ask_and_save(39, 1, TRAPCARD_SLOTS + 2);
     done(POWER, 34, 0);
     costs(APPLY_COST, 35, 0, 32, 0);
     done(POWER, 35, 0);
@@ -647,11 +662,12 @@ static void unnumbered(void)
     formatted();
 }
 
-/* A list with repeats, whose blocks are in every place, one of them in two slots and one in open, group and log. None, and 32. */
+/* A list with repeats, whose blocks are in every place, one of them in two slots, one in two waiting writes and one in open, group and log. None,
+ * and 32. */
 static void lists(void)
 {
     const uint32_t addresses[] = {43, 41, 44, 42, 41, 40, 43, N - 1, TRAPCARD_FIRST};
-    const uint8_t bytes[] = {6, 3, 0, 4, 3, 7, 6, 0, 0};
+    const uint8_t bytes[] = {6, 3, 9, 4, 3, 7, 6, 0, 0};
     uint32_t full[TRAPCARD_LIST];
     uint8_t filled[TRAPCARD_LIST];
     start();
@@ -667,6 +683,8 @@ static void lists(void)
     put(43, 5);
     done(COMMIT, 0, 0);
     put(43, 6);
+    directed(44, 8, 1);
+    directed(44, 9, 1);
     list(addresses, 9);
     listed(4, bytes);
     list(addresses, 0);
@@ -726,6 +744,184 @@ static void list_causes(void)
         refused(GET_LIST, 0, TRAPCARD_ERR_ADDRESS);
         full[i % TRAPCARD_LIST] = 40;
     }
+}
+
+/* ---- direct writes */
+
+/* So many direct writes, to data blocks from the first on, each filled with its number. */
+static void direct_many(uint32_t count)
+{
+    for (uint32_t i = 0; i < count; i++)
+        directed(TRAPCARD_FIRST + i, (uint8_t)i, 1);
+}
+
+/* They wait, and a get finds the newest. With 32 waiting the next one flushes first; then a sync of an empty group does, if anything waits. */
+static void photograph(void)
+{
+    start();
+    done(POWER, 100, 0);
+    direct_many(TRAPCARD_DIRECT - 1);
+    directed(40, 77, 1);
+    holds(TRAPCARD_MODE_OPEN, 0, 0, 0, TRAPCARD_DIRECT, 68);
+    got(TRAPCARD_FIRST, TRAPCARD_IN_WAITING, 4, 0);
+    got(41, TRAPCARD_IN_WAITING, 516 * 7 + 4, 7);
+    got(40, TRAPCARD_IN_WAITING, 516 * 31 + 4, 77);
+    got(N - 1, TRAPCARD_IN_SETTLED, (N - 1) * TRAPCARD_BLOCK, 0);
+    directed(41, 88, 2);
+    holds(TRAPCARD_MODE_OPEN, 0, 0, 0, 1, 66);
+    got(40, TRAPCARD_IN_SETTLED, 40 * TRAPCARD_BLOCK, 77);
+    got(41, TRAPCARD_IN_WAITING, 4, 88);
+    done(APPLY, 0, 0);
+    holds(TRAPCARD_MODE_OPEN, 0, 0, 0, 1, 66);
+    done(SYNC, 0, 1);
+    holds(TRAPCARD_MODE_OPEN, 0, 0, 0, 0, 65);
+    numbered(0);
+    got(41, TRAPCARD_IN_SETTLED, 41 * TRAPCARD_BLOCK, 88);
+    done(SYNC, 0, 0);
+}
+
+/* With 32 waiting and power for none, one or both of its orders: nothing happened, the queue is settled and the block nowhere, or done. */
+static void photograph_without_power(void)
+{
+    for (uint32_t power = 0; power <= 2; power++) {
+        start();
+        direct_many(TRAPCARD_DIRECT);
+        done(POWER, power, 0);
+        memset(c.block, 99, sizeof c.block);
+        if (power == 2)
+            done(DIRECT, N - 1, 2);
+        else
+            gone_at(DIRECT, N - 1, power);
+        holds(power == 2 ? TRAPCARD_MODE_OPEN : TRAPCARD_MODE_DOWN, 0, 0, 0, power == 0 ? TRAPCARD_DIRECT : power - 1, 0);
+        same("direct", "settled", c.settled[41 * TRAPCARD_BLOCK], power == 0 ? 0 : 7);
+        same("direct", "settled", c.settled[(N - 1) * TRAPCARD_BLOCK], 0);
+    }
+    start();
+    directed(40, 1, 1);
+    done(POWER, 0, 0);
+    gone_at(DIRECT, 41, 0);
+    start();
+    directed(40, 1, 1);
+    done(POWER, 0, 0);
+    gone(SYNC, 0);
+    holds(TRAPCARD_MODE_DOWN, 0, 0, 0, 1, 0);
+}
+
+/* An address in open, in the group or in the log is refused, behind the other causes and before the power is looked at. */
+static void listed_addresses(void)
+{
+    start();
+    done(POWER, 0, 0);
+    refused(DIRECT, TRAPCARD_FIRST - 1, TRAPCARD_ERR_ADDRESS);
+    refused(DIRECT, N, TRAPCARD_ERR_ADDRESS);
+    put(40, 7);
+    refused(DIRECT, 40, TRAPCARD_ERR_LISTED);
+    done(COMMIT, 0, 0);
+    refused(DIRECT, 40, TRAPCARD_ERR_LISTED);
+    done(POWER, 20, 0);
+    done(SYNC, 0, 4);
+    refused(DIRECT, 40, TRAPCARD_ERR_LISTED);
+    done(APPLY, 0, 4);
+    directed(40, 9, 1);
+    put(40, 8);
+    got(40, TRAPCARD_IN_WORK, 4, 8);
+    refused(DIRECT, 40, TRAPCARD_ERR_LISTED);
+    done(POWER, 0, 0);
+    gone_at(DIRECT, 41, 0);
+    refused(DIRECT, 40, TRAPCARD_ERR_POWER);
+    cut("1");
+    refused(DIRECT, 40, TRAPCARD_ERR_CLOSED);
+}
+
+/* Open 32 writes may wait, down 66, closed none. */
+static void most_waiting(void)
+{
+    start();
+    c.record[TRAPCARD_RECORD_WAITING] = TRAPCARD_DIRECT + 1;
+    refused(DIRECT, 40, TRAPCARD_ERR_STATE);
+    refused(GET, 40, TRAPCARD_ERR_STATE);
+    c.record[TRAPCARD_RECORD_WAITING] = TRAPCARD_DIRECT;
+    got(40, TRAPCARD_IN_SETTLED, 40 * TRAPCARD_BLOCK, 0);
+    c.record[TRAPCARD_RECORD_MODE] = TRAPCARD_MODE_DOWN;
+    c.record[TRAPCARD_RECORD_WAITING] = TRAPCARD_PLACES + 1;
+    length[5] = MARKS;
+    refused(CUT, 0, TRAPCARD_ERR_STATE);
+    c.record[TRAPCARD_RECORD_WAITING] = TRAPCARD_PLACES;
+    refused(CUT, 0, TRAPCARD_ERR_MARKS);
+    length[5] = TRAPCARD_PLACES * TRAPCARD_BLOCK;
+    memset(c.marks, 0, sizeof c.marks);
+    done(CUT, 0, 0);
+    c.record[TRAPCARD_RECORD_WAITING] = 1;
+    refused(RECOVER, 0, TRAPCARD_ERR_STATE);
+}
+
+/* A cut of an open record tears what waits; a second one before the recovery changes nothing, and what is found stays. */
+static void photograph_torn(void)
+{
+    start();
+    directed(40, 6, 1);
+    done(SYNC, 0, 1);
+    directed(40, 7, 1);
+    directed(41, 9, 1);
+    directed(40, 8, 1);
+    mark("101");
+    for (size_t i = 0; i < TRAPCARD_BLOCK; i++) {
+        c.marks[i] = i % 4 > 0;
+        c.marks[2 * TRAPCARD_BLOCK + i] = i % 4 > 1;
+    }
+    done(CUT, 0, 0);
+    cut("");
+    done(RECOVER, 0, 0);
+    got(41, TRAPCARD_IN_SETTLED, 41 * TRAPCARD_BLOCK, 0);
+    for (size_t i = 0; i < TRAPCARD_BLOCK; i++)
+        same("cut", "left the byte", c.settled[40 * TRAPCARD_BLOCK + i], i % 4 == 0 ? 6 : i % 4 == 1 ? 7 : 8);
+    directed(40, 5, 1);
+    got(40, TRAPCARD_IN_WAITING, 4, 5);
+}
+
+/* Two direct writes and a save that stops before its flush: its header waits behind them. Whatever becomes of them, the save goes by its own
+ * writes. */
+static void save_behind(const char *digits, uint64_t number, uint8_t photographed, uint8_t saved)
+{
+    start();
+    directed(40, 1, 1);
+    directed(41, 2, 1);
+    put(42, 5);
+    put(41, 4);
+    done(COMMIT, 0, 0);
+    done(POWER, 4, 0);
+    gone(SYNC, 4);
+    holds(TRAPCARD_MODE_DOWN, 0, 2, 0, 6, 0);
+    mark(digits);
+    c.marks[5 * TRAPCARD_BLOCK] ^= 1;
+    refused(CUT, 0, TRAPCARD_ERR_MARKS);
+    cut(digits);
+    done(RECOVER, 0, 0);
+    numbered(number);
+    got(40, TRAPCARD_IN_SETTLED, 40 * TRAPCARD_BLOCK, digits[0] == '1');
+    got(41, TRAPCARD_IN_SETTLED, number ? 3 * TRAPCARD_BLOCK : 41 * TRAPCARD_BLOCK, photographed);
+    got(42, TRAPCARD_IN_SETTLED, number ? 2 * TRAPCARD_BLOCK : 42 * TRAPCARD_BLOCK, saved);
+}
+
+/* The figures of inquiries behind direct writes, and the calls made next; the peak is all places. */
+static void inquiries_behind(void)
+{
+    start();
+    done(POWER, 2000, 0);
+    direct_many(TRAPCARD_DIRECT);
+    done(POWER, 0, 0);
+    costs(APPLY_COST, 0, 0, TRAPCARD_DIRECT, 1);
+    costs(SYNC_COST, 1, 0, TRAPCARD_DIRECT, 0);
+    group(TRAPCARD_FIRST, TRAPCARD_SLOTS);
+    ask_and_save(TRAPCARD_SLOTS + 3, 0, TRAPCARD_PLACES);
+    done(POWER, 1000, 0);
+    for (uint32_t i = 0; i < TRAPCARD_DIRECT; i++)
+        directed(N - 1 - i % 4, (uint8_t)i, 1);
+    costs(APPLY_COST, TRAPCARD_SLOTS + 3, 0, TRAPCARD_SLOTS + TRAPCARD_DIRECT, 1);
+    group(TRAPCARD_FIRST, 1);
+    ask_and_save(TRAPCARD_SLOTS + 3 + 4, 1, TRAPCARD_SLOTS + TRAPCARD_DIRECT);
+    holds(TRAPCARD_MODE_OPEN, 0, 0, 1, 0, 0);
+    got(N - 1, TRAPCARD_IN_SETTLED, (N - 1) * TRAPCARD_BLOCK, 28);
 }
 
 /* ---- tally and alike */
@@ -1032,6 +1228,16 @@ int main(void)
     lists();
     list_lengths();
     list_causes();
+    photograph();
+    photograph_without_power();
+    listed_addresses();
+    most_waiting();
+    photograph_torn();
+    save_behind("001111", 1, 4, 5);
+    save_behind("111111", 1, 4, 5);
+    save_behind("111110", 0, 2, 0);
+    save_behind("010000", 0, 2, 0);
+    inquiries_behind();
     bounds();
     corrections();
     list_of_largest();
@@ -1041,6 +1247,6 @@ int main(void)
     nearly_full(TRAPCARD_SLOTS - 1, 39);
     nearly_full(TRAPCARD_SLOTS - 1, 38);
     nearly_full(TRAPCARD_SLOTS, 40);
-    printf("boundary: the sixteen functions answer through the header, and write nothing else\n");
+    printf("boundary: the seventeen functions answer through the header, and write nothing else\n");
     return 0;
 }

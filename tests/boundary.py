@@ -33,7 +33,7 @@ NUMBERS = {
 TRAP = ("journal", "Geometry", "trap", "Geometry")
 
 # Constants that are numbers of that geometry, and definitions that take a geometry, at that one.
-OF_TRAP = {"TRAPCARD_SLOTS": "slots", "TRAPCARD_PLACES": "places"}
+OF_TRAP = {"TRAPCARD_SLOTS": "slots", "TRAPCARD_PLACES": "places", "TRAPCARD_DIRECT": "direct"}
 AT_TRAP = {
     "TRAPCARD_WAITING": ("store", "Causes", "waitingBytes"),
     "TRAPCARD_WORK": ("store", "Causes", "workBytes"),
@@ -47,6 +47,7 @@ CLAUSES = {
     "TRAPCARD_NOWHERE": ("firmware", "Face", "bufferNumber", "Nowhere"),
     "TRAPCARD_IN_SETTLED": ("firmware", "Face", "bufferNumber", "Settled"),
     "TRAPCARD_IN_WORK": ("firmware", "Face", "bufferNumber", "Work"),
+    "TRAPCARD_IN_WAITING": ("firmware", "Face", "bufferNumber", "Waiting"),
 }
 
 # Constants that are offsets in the record: the field as it stands in the row. These are all fields.
@@ -78,6 +79,7 @@ CAUSES = {
     "TRAPCARD_ERR_MARKS": ["marksRow"],
     "TRAPCARD_ERR_LAST": ["lastSaveRow"],
     "TRAPCARD_ERR_IN_USE": ["inUseRow"],
+    "TRAPCARD_ERR_LISTED": ["listedRow"],
 }
 
 # Constants of rows whose test compares the number of the choice: the case of the choice that has that number.

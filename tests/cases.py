@@ -1,10 +1,11 @@
 """What one call met, as cells of the coverage table. It is asked before the call, and told the outcome after it."""
 from collections import Counter
+from dataclasses import replace
 
-from coverage import BUFFER, IN_APPLY, IN_SYNC, NUMBER, TWO
-from model import (BLOCK, CLOSED, COSTS, DOWN, EMPTY_SUM, FIRST_DATA, LAST, LEAST, LIST, MOST, OPEN, PLACES, RECORD, SLOTS, WAITING, WORK, choice,
-                   chosen, data_sum, entries, foreign, in_use, is_data, lists, log, marks_of, read_header, torn, wanted, wrong_counts, wrong_list,
-                   wrong_lists, wrong_marks)
+from coverage import BUFFER, HELD, IN_APPLY, IN_SYNC, NUMBER, TWO
+from model import (BLOCK, CLOSED, COSTS, DIRECT, DOWN, EMPTY_SUM, FIRST_DATA, LAST, LEAST, LIST, MOST, OPEN, PLACES, RECORD, SLOTS, WAITING, WORK,
+                   bounded, choice, chosen, data_sum, entries, foreign, held, in_use, is_data, lists, log, marks_of, read_header, torn, wanted,
+                   wrong_counts, wrong_list, wrong_lists, wrong_marks)
 from pairs import likeness
 from wanted import BUCKETS
 
@@ -37,12 +38,20 @@ def place_in_sync(orders, m):
     return IN_SYNC[max(orders - m, 0)]
 
 
+def empty_sync_case(rec, answer):
+    if rec.waiting == 0:
+        return "sync: nothing to save"
+    return "sync: an empty group, " + ("cut short at once" if answer else "flushed, exactly enough power" if rec.power == 1 else "flushed")
+
+
 def sync_case(rec, answer, orders):
     n, m = rec.logged, rec.grouped
+    if m == 0:
+        return empty_sync_case(rec, answer)
     applied = n + 3 if n + m > SLOTS else 0
     name = "sync that applies: " if applied else "sync: "
     if answer == 0:
-        return name + ("nothing to save" if m == 0 else "done, exactly enough power" if rec.power == orders else "done")
+        return name + ("done, exactly enough power" if rec.power == orders else "done")
     if orders < applied:
         return name + ("cut short in its apply, " + place_in_apply(orders, n) if orders else "cut short before its apply")
     if orders == applied:
@@ -54,6 +63,13 @@ def apply_case(rec, answer, orders):
     if answer == 0:
         return "apply: " + ("nothing to do" if rec.logged == 0 else "done, exactly enough power" if rec.power == orders else "done")
     return "apply: cut short" + (", " + place_in_apply(orders, rec.logged) if orders else " at once")
+
+
+def direct_case(rec, answer, orders):
+    name = "direct, 32 wait: " if rec.waiting == DIRECT else "direct: "
+    if answer == 0:
+        return name + ("done, exactly enough power" if rec.power == orders else "done")
+    return name + ("cut short after its flush" if orders else "cut short at once")
 
 
 def recover_case(rec, answer, orders):
@@ -74,16 +90,27 @@ def reach(power, orders):
     return "one order short" if power == orders - 1 else "more than one order short"
 
 
-def cost_cases(call, rec, orders, applies):
+def waiting_costs(call, rec, applies, peak):
+    """An inquiry that is served, with something waiting."""
+    yield "something waits"
+    for case, holds in (("nothing to save", call == "sync_cost" and rec.grouped == 0), ("nothing to do", call == "apply_cost" and rec.logged == 0),
+                        ("applies", applies), ("peak %d" % peak, peak in (PLACES - 2, PLACES))):
+        if holds:
+            yield "something waits, " + case
+
+
+def cost_cases(call, rec, orders, applies, peak):
     """An inquiry that is served."""
     n, m = rec.logged, rec.grouped
     yield reach(rec.power, orders)
+    yield from waiting_costs(call, rec, applies, peak) if rec.waiting else ()
     if call == "sync_cost" and m == 0 and rec.save == LAST:
         yield "save number 2^64 - 1, nothing to save"
     if call == "sync_cost" and m and n + m in (SLOTS, SLOTS + 1):
         yield "n + m = %d" % (n + m)
-    if applies and n != m + 2:
-        yield "applies, peak " + ("in its apply" if n > m + 2 else "after its apply")
+    first = rec.waiting + n
+    if applies and first != m + 2:
+        yield "applies, peak " + ("in its apply" if first > m + 2 else "after its apply")
 
 
 # ---- a format
@@ -170,31 +197,40 @@ def refused(parts, writes, excess):
         yield from ["one of several headers torn"] if len(headers) > 1 else []
 
 
-# ---- a list of gets
+# ---- gets, and lists of them
 
 def standing(address, lists):
     """Where an address stands, the newest first."""
-    return [name for name, listed in zip(("open", "group", "log"), lists) if address in listed] + ["home"]
+    return [name for name, listed in zip(HELD, lists) if address in listed] + ["home"]
+
+
+def found_place(address, lists):
+    """Where a block is found, and over what."""
+    place, *older = standing(address, lists)
+    yield place
+    yield from ("%s over %s" % (place, other) for other in older if other != "home")
+    if place == "log" and lists[2].count(address) > 1:
+        yield "log, of two slots"
+    if place == "waiting" and lists[3].count(address) > 1:
+        yield "waiting, of two writes"
 
 
 def found_places(addresses, lists):
     """Where the blocks of a list are found, and over what."""
     newest = set()
     for address in set(addresses):
-        place, *older = standing(address, lists)
+        place, *more = found_place(address, lists)
         newest.add(place)
-        yield from ("%s over %s" % (place, other) for other in older if other != "home")
+        yield from more
         if addresses.count(address) > 1:
             yield place + " repeated"
-        if place == "log" and lists[2].count(address) > 1:
-            yield "log, of two slots"
     yield from newest
-    if len(newest) == 4:
+    if len(newest) == len(HELD) + 1:
         yield "every place"
 
 
 def bucket_cases(addresses, lists):
-    """Addresses that agree in their low bits: of the list, and one of it with one of open, group or log that is not in it."""
+    """Addresses that agree in their low bits: of the list, and one of it with one of open, group, log or queue that is not in it."""
     last, unlike, lows = {}, set(addresses), [address % BUCKETS for address in addresses]
     for i, (address, low) in enumerate(zip(addresses, lows)):
         if any(addresses[k] != address and lows[k] == low for k in range(last.get(address, i), i)):
@@ -202,7 +238,7 @@ def bucket_cases(addresses, lists):
         last[address] = i
     fullest = max(Counter(address % BUCKETS for address in unlike).values(), default=0)
     yield from ("%d unlike of one bucket" % least for least in (2, 8, 16) if fullest >= least)
-    for place, listed in zip(("open", "group", "log"), lists):
+    for place, listed in zip(HELD, lists):
         if any(address % BUCKETS in lows for address in set(listed) - unlike):
             yield "a bucket's other address in " + place
 
@@ -275,8 +311,34 @@ def foreign_part(call, settled):
         yield "cause 8", parts[0], call
 
 
+# ---- row 2, and row 14
+
+def bound(rec, part):
+    """One write more than may wait."""
+    more = {"waiting when closed": "1 waits, closed", "waiting when open": "33 wait, open", "waiting when down": "67 wait, down"}
+    if part in more and rec.waiting == {CLOSED: 1, OPEN: DIRECT + 1, DOWN: PLACES + 1}.get(rec.mode):
+        yield "row 2: " + more[part]
+
+
+def beyond(rec, settled, work, address):
+    """Where an address stands beyond a count."""
+    most = lists(replace(rec, opened=SLOTS, grouped=SLOTS, logged=SLOTS), settled, work)
+    for name, listed, count in zip(HELD, most, (rec.opened, rec.grouped, rec.logged)):
+        if address in listed[count:]:
+            yield "beyond the count of " + name
+
+
+def refused_direct(address, lists, power):
+    """A direct write of an address that open, group or log has."""
+    names = standing(address, lists[:3])[:-1]
+    yield "in %s alone" % names[0] if len(names) == 1 else "in several lists"
+    for case, holds in (("power 0", power == 0), ("it waits", address in lists[3]), ("32 wait", len(lists[3]) == DIRECT)):
+        if holds:
+            yield "listed, " + case
+
+
 SEVEN = ("put", "get", "get_list", "commit", "abandon", "sync", "apply")
-ORDERS = {"sync": sync_case, "apply": apply_case, "recover": recover_case}
+ORDERS = {"direct": direct_case, "sync": sync_case, "apply": apply_case, "recover": recover_case}
 
 
 class Met:
@@ -292,7 +354,7 @@ class Met:
         card = views["settled"], views["waiting"], views["work"]
         self.parts = list(wrong_counts(rec, card[0])) or list(wrong_lists(rec, *card))
         if not self.parts and rec.mode == OPEN:
-            self.lists = lists(rec, card[0], card[2])
+            self.lists = held(rec, *card)
 
     def cells(self, outcome, after):
         answer = outcome[0]
@@ -302,6 +364,7 @@ class Met:
             yield "cause 1", self.sizes[0], self.call
         if answer == 2 and len(self.parts) == 1:
             yield "cause 2", self.parts[0], self.call
+            yield from (("cases", case, "") for case in bound(self.rec, self.parts[0]))
         if answer == 8:
             yield from foreign_part(self.call, self.foreigner())
         if 0 < answer < 10:
@@ -316,10 +379,12 @@ class Met:
         """Rows that apply, be they the first or not, as far as the record and the arguments show it. An inquiry has its call's."""
         if any(self.parts) or any(wrong_counts(self.rec, self.views["settled"])):
             yield 2
-        if self.rows in SEVEN and self.rec.mode in (CLOSED, DOWN):
+        if self.rows in (*SEVEN, "direct") and self.rec.mode in (CLOSED, DOWN):
             yield 3 if self.rec.mode == CLOSED else 4
-        if self.rows in ("put", "get") and not is_data(self.blocks, self.numbers[0]):
+        if self.rows in ("put", "direct", "get") and not is_data(self.blocks, self.numbers[0]):
             yield 6
+        if self.rows == "direct" and any(self.numbers[0] in listed for listed in self.bounded_lists()):
+            yield 14
         if self.rows == "get_list" and not all(is_data(self.blocks, address) for address in wanted(self.more[0])):
             yield 6
         if self.rows == "put" and self.rec.opened == SLOTS and not is_data(self.blocks, self.numbers[0]):
@@ -334,13 +399,19 @@ class Met:
         if self.rows == "cut" and any(wrong_marks(self.rec, self.views["waiting"], *self.more)):
             yield 10
 
+    def bounded_lists(self):
+        """The addresses of open, group and log, whatever the record says and however long the buffers are."""
+        return lists(bounded(self.rec), self.views["settled"], self.views["work"])
+
     def cases(self, outcome, number, after):
         if self.call in ORDERS and number in ("0", "gone"):
-            yield ORDERS[self.call](self.rec, *outcome)
-        elif self.call in ("format", "put", "get", "get_list", "commit", "cut"):
+            case = ORDERS[self.call](self.rec, *outcome)
+            yield case
+            yield from ["behind waiting writes, " + case] if self.call in ("sync", "apply") and self.rec.waiting else []
+        if self.call in ("format", "put", "direct", "get", "get_list", "commit", "cut"):
             yield from getattr(self, self.call)(outcome[0], after)
         elif self.call in COSTS and number == "0":
-            yield from ("%s: %s" % (self.call, case) for case in cost_cases(self.call, self.rec, *outcome[1:3]))
+            yield from ("%s: %s" % (self.call, case) for case in cost_cases(self.call, self.rec, *outcome[1:4]))
         if number in ("0", "gone", "12"):
             cases = save_cases(self.call, self.rec, number, outcome[-1], self.head)
             yield from ("save number, %s: %s" % (self.call, case) for case in cases)
@@ -348,7 +419,8 @@ class Met:
             yield from self.accepted()
 
     def accepted(self):
-        for state, count in (("32 open", self.rec.opened), ("32 in the group", self.rec.grouped), ("32 in the log", self.rec.logged)):
+        for state, count in (("32 open", self.rec.opened), ("32 in the group", self.rec.grouped), ("32 in the log", self.rec.logged),
+                             ("32 waiting", self.rec.waiting)):
             if count == SLOTS and self.lists:
                 yield "accepted: " + state
         if self.blocks in (LEAST, MOST - 1, MOST):
@@ -370,21 +442,37 @@ class Met:
             parts = list(foreign(self.blocks, self.head))
             yield from ("format, " + case for case in unused(self.rec, self.parts, parts, self.head))
 
-    def put(self, answer, after):
+    def wrong_block(self, answer):
         if answer == 1 and not self.sizes:
-            yield "put: block " + ("short" if len(self.more[0]) < BLOCK else "long")
+            yield "%s: block %s" % (self.call, "short" if len(self.more[0]) < BLOCK else "long")
+
+    def put(self, answer, after):
+        yield from self.wrong_block(answer)
         yield from self.edge(answer)
         if answer == 0 and self.numbers[0] in self.lists[0]:
             yield "put: replaces" + (", 32 open" if after.opened == SLOTS else "")
         elif answer == 0:
             yield "put: adds" + (" the 32nd" if after.opened == SLOTS else "")
 
+    def direct(self, answer, after):
+        yield from self.wrong_block(answer)
+        yield from self.edge(answer)
+        address, settled, work = self.numbers[0], self.views["settled"], self.views["work"]
+        if answer == 14:
+            yield from ("direct refused: " + case for case in refused_direct(address, self.lists, self.rec.power))
+        if answer == 6 and self.rec.power == 0:
+            yield "direct refused: no data block, power 0"
+        if answer == 0:
+            yield from ("direct: " + case for case in beyond(self.rec, settled, work, address))
+            for case, holds in (("nothing waits", self.rec.waiting == 0), ("31 wait", self.rec.waiting == DIRECT - 1),
+                                ("an address that waits", address in self.lists[3])):
+                if holds:
+                    yield "direct: " + case
+
     def get(self, answer, after):
         yield from self.edge(answer)
         if answer == 0:
-            address, (opened, grouped, logged) = self.numbers[0], self.lists
-            yield "get: " + ("open" if address in opened else "group" if address in grouped else
-                             "home" if address not in logged else "log" if logged.count(address) == 1 else "log, of two slots")
+            yield from ("get: " + case for case in found_place(self.numbers[0], self.lists))
 
     def get_list(self, answer, after):
         data, buffer = self.more
@@ -400,7 +488,7 @@ class Met:
 
     def commit(self, answer, after):
         if answer == 0:
-            opened, grouped, _ = self.lists
+            opened, grouped = self.lists[:2]
             replaced = sum(address in grouped for address in opened)
             for case, holds in (("empty", not opened), ("replaces", replaced), ("joins", replaced < len(opened)),
                                 ("gives 32", opened and after.grouped == SLOTS)):
@@ -418,7 +506,9 @@ class Met:
             return
         yield from ("cut: " + case for case in taken(writes))
         if self.rec.waiting in (0, PLACES):
-            yield "cut: " + ("34 wait" if self.rec.waiting else "nothing waits")
+            yield "cut: " + ("66 wait" if self.rec.waiting else "nothing waits")
+        if self.rec.mode == OPEN and self.rec.waiting:
+            yield "cut: an open record, " + ("32 wait" if self.rec.waiting == DIRECT else "something waits")
 
 
 class MetCards(Met):

@@ -52,15 +52,15 @@ class Copies:
         return max(waiting)
 
 
-def closed_form(call, n, m, orders):
-    """The orders, the apply and the peak as document 01 counts them. Nothing waits before a call that is not refused."""
+def closed_form(call, n, m, waiting, orders):
+    """The orders, the apply and the peak as document 01 counts them, behind what waits before the call: nothing before a recovery."""
     if call == "recover":
         return (2, 0, 1) if orders else (0, 0, 0)
     if call == "apply":
-        return (n + 3, 0, n) if n else (0, 0, 0)
+        return (n + 3, 0, waiting + n) if n else (0, 0, waiting)
     if m == 0:
-        return 0, 0, 0
-    return (n + 3 + m + 3, 1, max(n, m + 2)) if n + m > SLOTS else (m + 3, 0, m + 2)
+        return int(waiting > 0), 0, waiting
+    return (n + 3 + m + 3, 1, max(waiting + n, m + 2)) if n + m > SLOTS else (m + 3, 0, waiting + m + 2)
 
 
 def compare(copies, walk, number, orders, applies, peak, reaches):
@@ -70,11 +70,12 @@ def compare(copies, walk, number, orders, applies, peak, reaches):
     if number:
         must((applies, peak, reaches) == (0, 0, 0), "a refusal has figures")
         return
-    n, m = copies.asked(LOG), copies.asked(GROUP)
+    n, m, waiting = copies.asked(LOG), copies.asked(GROUP), copies.asked(WAITING)
     if call == "sync":
         must(copies.left(LOG) == (0 if applies else n) + m, "the sync made next leaves %d in the log", copies.left(LOG))
     must(applies == copies.applied(), "the %s made next begins otherwise", call)
-    must((orders, applies, peak) == closed_form(call, n, m, orders), "the paper counts %s", closed_form(call, n, m, orders))
+    form = closed_form(call, n, m, waiting, orders)
+    must((orders, applies, peak) == form, "the paper counts %s", form)
     power = copies.asked(POWER)
     answer = copies.made(power)[0]
     must(reaches == (answer != 4) == (power >= orders), "the %s made next with power %d answers %d", call, power, answer)

@@ -1,5 +1,5 @@
 #!/usr/bin/env bash
-# The C library: all its functions are called through the header; its example is built against the archive, run, held to its
+# The C library: all its functions are called through the header; its examples are built against the archive, run, held to their
 # output and run under valgrind; the stack frames of the archive are measured, its sum is looked through for products, and the
 # instructions of its tally, of its alike and of its list of gets are counted.
 set -euo pipefail
@@ -19,10 +19,12 @@ if command -v g++ >/dev/null; then
   echo "boundary: the same from C++"
 fi
 
-gcc -std=c99 "${strict[@]}" examples/firmware/save.c "$archive" -o "$out/save"
-"$out/save" | cmp - examples/firmware/save.out
-valgrind -q --error-exitcode=1 --leak-check=full "$out/save" >/dev/null
-echo "firmware: the example saved whole, and valgrind found nothing"
+for example in save photograph; do
+  gcc -std=c99 "${strict[@]}" "examples/firmware/$example.c" "$archive" -o "$out/$example"
+  "$out/$example" | cmp - "examples/firmware/$example.out"
+  valgrind -q --error-exitcode=1 --leak-check=full "$out/$example" >/dev/null
+done
+echo "firmware: the examples saved whole, blocks and a photograph with its index, and valgrind found nothing"
 
 largest=$(bash tests/frames.sh "$archive")
 echo "firmware: the largest stack frame has $largest bytes"

@@ -59,6 +59,7 @@ FUNCTIONS = {
     "format": (CARD, CARD, 0, (), ()),
     "power": (CARD, ("record",), 1, (), ()),
     "put": (CARD, ("record", "work"), 1, ("block",), ()),
+    "direct": (CARD, ("record", "settled", "waiting"), 1, ("block",), (4,)),
     "get": (CARD, (), 1, (), (4, 8)),
     "get_list": (CARD, ("blocks",), 0, ("addresses", "blocks"), (4,)),
     "commit": (CARD, ("record", "work"), 0, (), ()),
@@ -76,7 +77,7 @@ FUNCTIONS = {
 
 
 class Library:
-    """The sixteen functions of an archive, or of a shared object made of one."""
+    """The seventeen functions of an archive, or of a shared object made of one."""
 
     def __init__(self, shared):
         linked = ctypes.CDLL(str(shared))

@@ -6,11 +6,11 @@ import marks
 import pairs
 import wanted
 from madeup import CARD_FAULTS, RECORD_FAULTS, TOP, UNUSED
-from model import BLOCK, CLOSED, COSTS, DOWN, FIRST_DATA, OPEN, RECORD, SLOTS, WAITING, WORK, fresh
+from model import BLOCK, CLOSED, COSTS, DIRECT, DOWN, FIRST_DATA, OPEN, RECORD, SLOTS, WAITING, WORK, fresh
 
 # odd: pairs of a lent buffer's name and another length for it.
 Step = namedtuple("Step", "call arguments odd", defaults=((), ()))
-TEN = ("power", "put", "get", "get_list", "commit", "abandon", "sync", "apply", "recover", "cut")
+ELEVEN = ("power", "put", "direct", "get", "get_list", "commit", "abandon", "sync", "apply", "recover", "cut")
 SIZES = (35, 36, 37, 40, 48, 66, 67, 70, 80, 100, 300)
 LARGE_SIZES = (65535, 65536)
 
@@ -24,14 +24,39 @@ def size(chance, large):
 
 # ---- arguments
 
+def wrong_address(chance, blocks):
+    return chance.choice((0, FIRST_DATA - 1, blocks, TOP))
+
+
 def address(chance, blocks):
     """Mostly a data block, of few, so that some come again; on a card that is large enough also others in the buckets of those."""
     if chance.random() < 0.04:
-        return chance.choice((0, FIRST_DATA - 1, blocks, TOP))
+        return wrong_address(chance, blocks)
     edge = chance.choice((FIRST_DATA, blocks - 1))
     if chance.random() < 0.2:
         return edge
     return chance.choice(wanted.same_bucket(FIRST_DATA + chance.randrange(min(blocks - FIRST_DATA, 40)), blocks)[:3])
+
+
+def few_addresses(blocks):
+    return [*range(FIRST_DATA, min(blocks, FIRST_DATA + 40)), blocks - 1]
+
+
+def free_addresses(lists, blocks):
+    """Those of few data blocks that open, group and log don't have."""
+    taken = set().union(*lists[:3])
+    return [address for address in few_addresses(blocks) if address not in taken]
+
+
+def direct_address(chance, lists, blocks):
+    """Mostly one that open, group and log don't have, often one that waits; else one of a list, any, or a wrong one."""
+    free, kind = free_addresses(lists, blocks), chance.random()
+    if kind < 0.6 and free:
+        return chance.choice(free)
+    several = [listed for listed in (lists[:3] if kind < 0.8 else lists[3:]) if listed]
+    if several and kind < 0.92:
+        return chance.choice(chance.choice(several))
+    return address(chance, blocks) if kind < 0.97 else wrong_address(chance, blocks)
 
 
 def block(chance):
@@ -46,7 +71,8 @@ def ends(rec):
     inner = (n, n + 1, n + 2, n + 2, n + 3) if n else ()
     before = n + 3 if n + m > SLOTS else 0
     own = (before, before + 1, before + m, before + m + 1, before + m + 2, before + m + 3) if m else ()
-    return (0, 1, 2) + inner + own * 2
+    behind = (before + m + 2,) * 6 if m and rec.waiting else ()
+    return (0, 1, 2) + inner + own * 2 + behind
 
 
 def power(chance, rec):
@@ -61,8 +87,11 @@ def arguments(chance, call, bench, blocks):
         return (power(chance, bench.rec()),)
     if call == "put":
         return address(chance, blocks), block(chance)
+    if call == "direct":
+        return direct_address(chance, bench.listed(), blocks), block(chance)
     if call == "get":
-        return (address(chance, blocks),)
+        queue = bench.queue() if chance.random() < 0.2 else ()
+        return (chance.choice(queue) if queue else address(chance, blocks),)
     if call == "get_list":
         return wanted.drawn(chance, blocks, bench.listed())
     if call == "cut":
@@ -104,23 +133,51 @@ class History:
         return Step(call, arguments(self.chance, call, self.bench, self.blocks))
 
     def any(self):
-        call = self.chance.choice(TEN + COSTS + ("format", "tally", "alike"))
+        call = self.chance.choice(ELEVEN + COSTS + ("format", "tally", "alike"))
         if call == "alike":
             return [Step(call, other_card(self.chance, self.blocks, self.blocks in LARGE_SIZES))]
         return [self.step(call)]
 
     def when_open(self):
-        kind, chance = self.chance.random(), self.chance
-        if kind < 0.12:
+        kind, chance, waiting = self.chance.random(), self.chance, self.bench.rec().waiting
+        if chance.random() < (0.5 if waiting >= DIRECT - 1 else 0.2 if waiting else 0):
+            return self.when_waiting(waiting)
+        if kind < 0.1:
             return [self.step("put")]
-        if kind < 0.22:
-            return [self.step("get" if kind < 0.17 else "get_list")]
-        if kind < 0.33:
+        if kind < 0.2:
+            return [self.step("get" if kind < 0.15 else "get_list")]
+        if kind < 0.3:
             return self.any()
+        if kind < 0.4:
+            return self.photograph()
         if kind < 0.9 and (self.bench.rec().grouped == 0 or chance.random() < 0.15):
             return self.many() if chance.random() < 0.2 else self.few()
         call = chance.choice(("sync", "sync", "sync", "apply"))
         return [self.step("power"), *self.asked(call), *([Step("format")] if chance.random() < 0.05 else [])]
+
+    def when_waiting(self, waiting):
+        """Behind a photograph: one more write with little power, a cut, a sync without a group, or a look at what waits."""
+        kind, chance = self.chance.random(), self.chance
+        if kind < 0.6 and waiting >= DIRECT - 1:
+            return [Step("power", (chance.choice((0, 1, 1, 2)),)), self.step("direct"), self.step("direct")]
+        if kind < 0.6:
+            return [self.step("cut")]
+        if kind < 0.8:
+            return [Step("power", (chance.choice((0, 1, 2, 1000)),)), *self.asked("sync")]
+        return [Step("get", (chance.choice(self.bench.queue()),)), self.step("get_list")]
+
+    def photograph(self):
+        """Direct writes to blocks that no list has, one after another, or to any; the 33rd that waits finds 32."""
+        chance, lists = self.chance, self.bench.listed()
+        free = free_addresses(lists, self.blocks)
+        count = chance.choice((1, 1, 1, 2, 2, 3, 5, 5, 8, DIRECT - 1, DIRECT, DIRECT + 1) if free else (1, 2))
+        if free and chance.random() < 0.6:
+            first = chance.randrange(len(free))
+            addresses = [free[(first + i) % len(free)] for i in range(count)]
+        else:
+            addresses = [direct_address(chance, lists, self.blocks) for _ in range(count)]
+        before = [Step("power", (1000,))] if chance.random() < 0.7 else []
+        return before + [Step("direct", (address, block(chance))) for address in addresses]
 
     def asked(self, call):
         """A call that gives orders; before half of them comes its inquiry, as firmware makes it."""
@@ -137,15 +194,18 @@ class History:
 
     def few(self):
         """A small group, often the last one again: then a write that a cut loses may leave the bytes that it had."""
-        chance = self.chance
-        if not self.group or chance.random() < 0.5:
+        chance, queue = self.chance, self.bench.queue()
+        if not self.group or chance.random() < (0.2 if queue else 0.5):
             self.group = [(address(chance, self.blocks), block(chance)) for _ in range(chance.choice((1, 1, 2, 3, 6)))]
-        return [Step("put", put) for put in self.group] + [Step("commit")]
+        photographed = [(chance.choice(queue), block(chance))] if queue and chance.random() < 0.3 else []
+        return [Step("put", put) for put in self.group + photographed] + [Step("commit")]
 
     def when_closed(self):
         kind = self.chance.random()
         if kind < 0.03:
             return [Step("format")]
+        if kind < 0.08:
+            return [self.step("cut")]
         if kind < 0.28:
             return self.any()
         return [Step("power", (self.chance.choice((0, 1, 2, 3, 1000)),)), *self.asked("recover")]
@@ -167,7 +227,7 @@ def lived(chance, bench, large):
         return  # refused, by a planted fault
     if large:
         yield Step("get_list", ((blocks - 1, FIRST_DATA, blocks - 1), 0, 3 * BLOCK, 256))
-    for _ in range(8 if large else 60):
+    for _ in range(8 if large else 50):
         yield from history.steps()
     if large:
         yield Step("tally")
@@ -215,6 +275,18 @@ def screens(chance, bench):
         yield Step("get_list", arguments(chance, "get_list", bench, blocks))
 
 
+def photographs(chance, bench):
+    """Calls on an open record with direct writes waiting."""
+    blocks = chance.choice((70, 100, size(chance, False)))
+    yield Step("make", (blocks, chance.randrange(1 << 32), ("photograph",) if chance.random() < 0.7 else ("photograph", "last_save")))
+    calls = chance.choices(("direct", "sync", "apply", "get", "get_list", "put"), k=3)
+    begin = chance.choice((("sync_cost", "power", "sync"), ("power", "sync"), ("apply_cost", "power", "apply"), ("direct", "direct")))
+    if begin[0] == "direct":
+        yield Step("power", (chance.choice((0, 1, 1, 2)),))
+    for call in [*begin, *calls, "cut"]:
+        yield Step(call, arguments(chance, call, bench, blocks))
+
+
 def demonstrations(chance, bench):
     """Pairs of cards that are equal but for little, and cards beside those that are refused."""
     blocks = size(chance, False)
@@ -224,14 +296,16 @@ def demonstrations(chance, bench):
 
 
 def made_up(chance, bench, large):
-    """A record and a card with nought to three faults, and calls on them; now and then lists of gets alone, or pairs of cards."""
-    if not large and chance.random() < 0.2:
-        yield from chance.choice((screens, screens, demonstrations, demonstrations, demonstrations))(chance, bench)
+    """A record and a card with nought to three faults, and calls on them; now and then lists of gets alone, calls behind direct writes, or
+    pairs of cards."""
+    if not large and chance.random() < 0.35:
+        kinds = screens, screens, demonstrations, demonstrations, demonstrations, *[photographs] * 6
+        yield from chance.choice(kinds)(chance, bench)
         return
     blocks, count = size(chance, large), chance.choice((0, 0, 1, 1, 1, 1, 2, 3))
     pool = chance.choice((RECORD_FAULTS, RECORD_FAULTS, CARD_FAULTS, RECORD_FAULTS + CARD_FAULTS))
     yield Step("make", (blocks, chance.randrange(1 << 32), tuple(fault.__name__ for fault in chance.sample(pool, count))))
-    calls = chance.choices(TEN + COSTS + ("get_list", "get_list", "sync", "tally", "alike"), k=chance.randint(2, 12))
+    calls = chance.choices(ELEVEN + COSTS + ("get_list", "get_list", "direct", "sync", "tally", "alike"), k=chance.randint(3, 14))
     calls += ["cut", "cut", "recover_cost", "recover"]
     for _ in range(chance.choice((0, 0, 1, 2))):
         calls.insert(chance.randint(len(calls) // 2, len(calls)), "format")

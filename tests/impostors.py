@@ -1,7 +1,8 @@
 """Faults for the model, to see that the lockstep bites: those of document 01's "Faults to keep out", two of the save number, three of
 the inquiries, those of a torn cut, two of which are faults of the plain disk and of the witness that feeds it, those of a format that
 meets a card in use, one of which is a fault of the bench, those of a tally that corrects the home blocks' sum for the log, those of a
-list of gets, one of which is a fault of the plain disk, and those of an alike that compares too little or too much."""
+list of gets, one of which is a fault of the plain disk, those of an alike that compares too little or too much, and those of direct writes and
+of what waits behind them, with faults of the plain disk and of the witness among these."""
 from contextlib import contextmanager
 from dataclasses import replace
 
@@ -9,7 +10,7 @@ import model
 from bench import Bench
 from crash import Witness
 from model import BLOCK, EMPTY_SUM, ENTRY
-from plain import Plain
+from plain import Plain, Short
 
 
 def checkpoint(rec, orders):
@@ -240,13 +241,12 @@ def last_block_out(settled, listed):
 
 # ---- a list of gets
 
-def own_list(rec, settled, work, addresses, blocks, find):
+def own_list(rec, settled, waiting, work, addresses, blocks, find):
     """Copies the block of each address from where it is found; one that is found nowhere is left out."""
     for i, address in enumerate(model.wanted(addresses)):
-        place = find(i, address, *model.lists(rec, settled, work))
+        place = find(i, address, *model.held(rec, settled, waiting, work))
         if place:
-            buffer, at = place
-            blocks[BLOCK * i:BLOCK * (i + 1)] = (settled if buffer == 1 else work)[at:at + BLOCK]
+            blocks[BLOCK * i:BLOCK * (i + 1)] = model.part(place, settled, waiting, work)
 
 
 def served(find):
@@ -254,7 +254,7 @@ def served(find):
     def get_list(rec, settled, waiting, work, addresses, blocks):
         answer = model.cause("get_list", rec, settled, waiting, work, listed=(addresses, blocks))
         if answer == 0:
-            own_list(rec, settled, work, addresses, blocks, lambda *where: find(model.wanted(addresses), *where))
+            own_list(rec, settled, waiting, work, addresses, blocks, lambda *where: find(model.wanted(addresses), *where))
         return answer, rec.logged if answer == 0 and addresses else 0
     get_list.__doc__ = find.__doc__
     return get_list
@@ -267,22 +267,28 @@ def once(wanted, i, address, *lists):
 
 
 @served
-def first_slots(wanted, i, address, opened, grouped, logged):
+def first_slots(wanted, i, address, opened, grouped, logged, queued):
     """a list takes the first slot"""
-    buffer, at = model.newest(address, opened, grouped, logged)
+    buffer, at = model.newest(address, opened, grouped, logged, queued)
     return (1, BLOCK * (2 + logged.index(address))) if buffer == 1 and address in logged else (buffer, at)
 
 
 @served
-def group_first(wanted, i, address, opened, grouped, logged):
+def group_first(wanted, i, address, opened, grouped, logged, queued):
     """a list takes the group over open"""
-    return model.newest(address, [] if address in grouped else opened, grouped, logged)
+    return model.newest(address, [] if address in grouped else opened, grouped, logged, queued)
 
 
 @served
-def log_first(wanted, i, address, opened, grouped, logged):
+def log_first(wanted, i, address, opened, grouped, logged, queued):
     """a list takes the log over open and group"""
-    return model.newest(address, *([], []) if address in logged else (opened, grouped), logged)
+    return model.newest(address, *([], []) if address in logged else (opened, grouped), logged, queued)
+
+
+@served
+def list_home_first(wanted, i, address, opened, grouped, logged, queued):
+    """a list takes the home block over waiting writes"""
+    return model.newest(address, opened, grouped, logged, [])
 
 
 @served
@@ -304,7 +310,7 @@ def copied_first(rec, settled, waiting, work, addresses, blocks):
     if answer == 6:
         wanted = model.wanted(addresses)
         bad = next(i for i, address in enumerate(wanted) if not model.is_data(rec.blocks, address))
-        own_list(rec, settled, work, addresses[:4 * bad], blocks, lambda _, *where: model.newest(*where))
+        own_list(rec, settled, waiting, work, addresses[:4 * bad], blocks, lambda _, *where: model.newest(*where))
     return answer, slots
 
 
@@ -435,6 +441,172 @@ def second_first(one, other):
     return real_alike(one, other) if model.chosen(other)[0] == 0 else (model.chosen(other)[0], 0)
 
 
+# ---- direct writes, and what waits behind them
+
+def no_flush(orders, address, block):
+    """a direct write with 32 waiting does not flush"""
+    orders.write(address, bytes(block))
+
+
+def early_flush(orders, address, block):
+    """a direct write with 31 waiting flushes"""
+    if orders.count >= model.DIRECT - 1:
+        orders.flush()
+    orders.write(address, bytes(block))
+
+
+def late_flush(orders, address, block):
+    """a direct write with 32 waiting flushes behind its write"""
+    full = orders.count == model.DIRECT
+    orders.write(address, bytes(block))
+    if full:
+        orders.flush()
+
+
+def one_order(rec, settled, waiting, work, address, block):
+    """a direct write counts one order with its flush"""
+    answer, orders, left = real_direct(rec, settled, waiting, work, address, block)
+    return answer, min(orders, 1), left
+
+
+def listed_in(*which):
+    """A direct write refused by some lists alone: 0 open, 1 group, 2 log."""
+    def cause(call, rec, settled, waiting, work, address=None, *more, **named):
+        answer = real_cause(call, rec, settled, waiting, work, address, *more, **named)
+        held = model.lists(rec, settled, work) if call == "direct" and answer == 14 else ()
+        return 0 if held and not any(address in held[i] for i in which) else answer
+    return cause
+
+
+not_in_open, not_in_group, not_in_log = listed_in(1, 2), listed_in(0, 2), listed_in(0, 1)
+not_in_open.__doc__, not_in_group.__doc__, not_in_log.__doc__ = ("a direct write of an address in %s is served" % name
+                                                                 for name in ("open", "the group", "the log"))
+
+
+def stale_slots(call, rec, settled, waiting, work, address=None, *more, **named):
+    """a direct write of an address in a slot beyond the count is refused"""
+    answer = real_cause(call, rec, settled, waiting, work, address, *more, **named)
+    return 14 if call == "direct" and answer == 0 and address in model.lists(replace(rec, logged=model.SLOTS), settled, work)[2] else answer
+
+
+def listed_before_down(call, rec, settled, waiting, work, address=None, *more, **named):
+    """14 comes before 4"""
+    answer = real_cause(call, rec, settled, waiting, work, address, *more, **named)
+    listed = call == "direct" and answer == 4 and any(address in held for held in model.lists(rec, settled, work))
+    return 14 if listed else answer
+
+
+def waiting_refused(call, rec, settled, waiting, work, address=None, *more, **named):
+    """a put of a waiting address is refused as 14"""
+    answer = real_cause(call, rec, settled, waiting, work, address, *more, **named)
+    return 14 if call == "put" and answer == 0 and address in model.entries(waiting, 0, rec.waiting) else answer
+
+
+def oldest_write_first(address, opened, grouped, logged, queued):
+    """get takes the oldest waiting write"""
+    buffer, at = real_newest(address, opened, grouped, logged, queued)
+    return (3, ENTRY * queued.index(address) + 4) if buffer == 3 else (buffer, at)
+
+
+def home_first(address, opened, grouped, logged, queued):
+    """get takes the home block over waiting writes"""
+    return real_newest(address, opened, grouped, logged, [])
+
+
+def waiting_first(address, opened, grouped, logged, queued):
+    """get takes a waiting write over the log"""
+    return real_newest(address, opened, grouped, [] if address in queued else logged, queued)
+
+
+def no_barrier(orders):
+    """a sync with an empty group does not flush"""
+
+
+def always_barrier(orders):
+    """a sync with an empty group flushes where nothing waits"""
+    orders.flush()
+
+
+def empty_apply(rec, settled, waiting, work):
+    """an apply of an empty log flushes what waits"""
+    if rec.logged or model.cause("apply", rec, settled, waiting, work):
+        return real_apply(rec, settled, waiting, work)
+    orders = model.Orders(rec, settled, waiting)
+    model.barrier(orders)
+    return orders.outcome(rec, rec)
+
+
+def without_earlier(call, rec, settled, waiting, work):
+    """an inquiry's peak is without the writes that wait before"""
+    answer, orders, applies, peak, reaches = real_cost(call, rec, settled, waiting, work)
+    return answer, orders, applies, peak - (0 if answer or applies else rec.waiting), reaches
+
+
+def most_waiting(mode, most):
+    """Another bound in row 2."""
+    def wrong_counts(rec, settled):
+        fits = rec.mode == mode and rec.waiting <= most
+        return (part for part in real_wrong_counts(rec, settled) if not (fits and part.startswith("waiting")))
+    return wrong_counts
+
+
+one_more_open, one_more_closed = most_waiting(model.OPEN, model.DIRECT + 1), most_waiting(model.CLOSED, 1)
+one_more_open.__doc__, one_more_closed.__doc__ = "an open record may have 33 waiting writes", "a closed record may have a waiting write"
+
+
+def as_before(rec, settled):
+    """an open record may have no waiting writes, as before W-209"""
+    yield from real_wrong_counts(rec, settled)
+    if rec.mode == model.OPEN and rec.waiting:
+        yield "waiting when open"
+
+
+def forgotten(self):
+    """the plain disk forgets the loose addresses at a second cut"""
+    self.loose = set(self.writes)
+
+
+def emptied(self, found):
+    """the plain disk empties the loose addresses at a recovery cut short"""
+    outcome = real_plain_recover(self, found)
+    self.loose = set() if outcome[0] else self.loose
+    return outcome
+
+
+def laid_when_short(self, address, block):
+    """the plain disk lays the block of a direct write cut short"""
+    outcome = real_plain_direct(self, address, block)
+    self.S[address] = bytes(block)
+    return outcome
+
+
+def kept_in_queue(self):
+    """the plain disk keeps the waiting addresses where the flush happened in a call cut short"""
+    return False
+
+
+def nothing_loose(self):
+    """the plain disk has no loose addresses"""
+
+
+def all_loose(self):
+    """the plain disk takes every block for loose where any waits"""
+    self.loose |= set(self.S) if self.writes else set()
+
+
+def header_place(self):
+    """the header of a sync behind waiting writes is looked for as if nothing had waited"""
+    return 0
+
+
+def settled_before(self, call, arguments, answer, orders):
+    """the direct writes that wait are taken for settled, so that a block is found old or as the last of them"""
+    real_photograph(self, call, arguments, answer, orders)
+    self.writes = {}
+
+
+real_direct, real_newest, real_apply, real_cost = model.direct, model.newest, model.apply, model.cost
+real_wrong_counts, real_plain_recover, real_plain_direct, real_photograph = model.wrong_counts, Plain.recover, Plain.direct, Witness.photograph
 real_get, real_recover, real_unnumbered = model.get, model.recover, model.unnumbered
 real_sync_cost, real_apply_cost, real_recover_cost = model.sync_cost, model.apply_cost, model.recover_cost
 real_tear, real_wrong_marks, real_cut = model.tear, model.wrong_marks, Witness.cut
@@ -451,20 +623,29 @@ USED = {before_lengths: (model, "c_call"), any_card: (model, "in_use"), by_previ
         without_save: (model, "in_use"), with_good_list: (model, "in_use"), with_found_list: (model, "in_use"),
         records_blocks: (model, "cause"), clears_waiting: (model, "format"), begins_again: (Bench, "follow")}
 SUMMED = dict.fromkeys((every_slot, first_slot, own_for_home, first_block_out, last_block_out), (model, "data_sum"))
-LISTED = {**dict.fromkeys((once, first_slots, group_first, log_first, sorted_out, one_of_bucket, copied_first, empty_walk, walk_for_each),
-                          (model, "get_list")),
+LISTED = {**dict.fromkeys((once, first_slots, group_first, log_first, list_home_first, sorted_out, one_of_bucket, copied_first, empty_walk,
+                           walk_for_each), (model, "get_list")),
           **dict.fromkeys((one_more, half_addresses, longer_buffer), (model, "wrong_list")), first_address: (model, "cause"),
           counted_by_list: (Plain, "get_list")}
 ALIKE = {**dict.fromkeys((data_alone, counts_alone, addresses_alone, blocks_alone, any_order, without_counts, without_last_slot),
                          (model, "same_logs")),
          **dict.fromkeys((beyond_count, headers_list, fallback_apart, saves_too, homes_too, logs_only, second_first), (model, "alike"))}
-IMPOSTORS = (checkpoint, log_sum, choice, get, recover, unnumbered, sync_cost, apply_cost, recover_cost, *TORN, *USED, *SUMMED, *LISTED, *ALIKE)
+DIRECT = {**dict.fromkeys((no_flush, early_flush, late_flush), (model, "direct_orders")), one_order: (model, "direct"),
+          **dict.fromkeys((not_in_open, not_in_group, not_in_log, stale_slots, listed_before_down, waiting_refused), (model, "cause")),
+          **dict.fromkeys((oldest_write_first, home_first, waiting_first), (model, "newest")),
+          **dict.fromkeys((no_barrier, always_barrier), (model, "barrier")), empty_apply: (model, "apply"),
+          without_earlier: (model, "cost"), **dict.fromkeys((one_more_open, one_more_closed, as_before), (model, "wrong_counts")),
+          **dict.fromkeys((forgotten, nothing_loose, all_loose), (Plain, "loosen")), emptied: (Plain, "recover"),
+          laid_when_short: (Plain, "direct"), kept_in_queue: (Short, "flushed"), header_place: (Witness, "first_own"),
+          settled_before: (Witness, "photograph")}
+OTHERS = {**TORN, **USED, **SUMMED, **LISTED, **ALIKE, **DIRECT}
+IMPOSTORS = (checkpoint, log_sum, choice, get, recover, unnumbered, sync_cost, apply_cost, recover_cost, *OTHERS)
 
 
 @contextmanager
 def planted(impostor):
     """The model, the plain disk, the witness or the bench with one of its functions replaced."""
-    owner, name = {**TORN, **USED, **SUMMED, **LISTED, **ALIKE}.get(impostor, (model, impostor.__name__))
+    owner, name = OTHERS.get(impostor, (model, impostor.__name__))
     real = getattr(owner, name)
     setattr(owner, name, impostor)
     try:

@@ -27,7 +27,7 @@ from histories import lived, made_up
 
 ROOT = Path(__file__).resolve().parent.parent
 ARCHIVE = ROOT / "target/staticlib/libfirmware.a"
-SEED, CALLS, LARGE_EVERY = 1, 150000, 150
+SEED, CALLS, LIVED_EVERY, LARGE_EVERY = 1, 150000, 4, 150
 PUBLISHED = {b"": 0xcbf29ce484222325, b"a": 0xaf63dc4c8601ec8c, b"foobar": 0x85944171f73967e8}
 
 Done = namedtuple("Done", "calls histories seen")
@@ -38,7 +38,7 @@ Run = namedtuple("Run", "library seed calls seconds bench", defaults=(float("inf
 def history(seed, index, bench):
     """The steps of the history with this index; each is chosen by the state that the one before it left."""
     chance = random.Random("%d/%d" % (seed, index))
-    kind, turn = (lived, index // 3) if index % 3 == 0 else (made_up, index)
+    kind, turn = (lived, index // LIVED_EVERY) if index % LIVED_EVERY == 0 else (made_up, index)
     return kind(chance, bench, turn % LARGE_EVERY == LARGE_EVERY - 1)
 
 

@@ -2,8 +2,8 @@
 import random
 import struct
 
-from model import (BLOCK, CLOSED, DOWN, EMPTY_SUM, ENTRY, FIRST_DATA, FORMAT, LAST, OPEN, PLACES, SLOTS, WAITING, WORK, Record, encode,
-                   log, log_sum)
+from model import (BLOCK, CLOSED, DIRECT, DOWN, EMPTY_SUM, ENTRY, FIRST_DATA, FORMAT, LAST, MOST_WAITING, OPEN, PLACES, SLOTS, WAITING, WORK,
+                   Record, encode, entries, log, log_sum)
 
 TOP = 2**32 - 1
 RUN = 1 << 16
@@ -36,15 +36,24 @@ class Made:
         self.chance, self.blocks = chance, blocks
         self.settled, self.waiting, self.work = (noise(chance, n) for n in (BLOCK * blocks, WAITING, WORK))
         self.mode, self.N, self.power = chance.choice((CLOSED, OPEN, OPEN, DOWN)), blocks, chance.choice((0, 1, 2, 3, 5, 9, 40, 80, TOP))
-        room = min(SLOTS, blocks - FIRST_DATA)
-        self.opened, self.grouped, self.logged = few(chance, room), few(chance, room), few(chance, SLOTS)
-        self.queued = chance.choice((few(chance, SLOTS), few(chance, SLOTS), PLACES)) if self.mode == DOWN else 0
+        self.room = min(SLOTS, blocks - FIRST_DATA)
+        self.opened, self.grouped, self.logged = few(chance, self.room), few(chance, self.room), few(chance, SLOTS)
+        self.queued = self.some_waiting()
         self.count = chance.choice((self.logged, few(chance, SLOTS)))
         self.previous = min(self.count, few(chance, SLOTS))
         self.version, self.header_blocks, self.flips, self.one_sum, self.bare = FORMAT, blocks, [0, 0], False, False
         self.save = 0 if self.previous == self.count and chance.random() < 0.3 else save_number(chance)
         self.record_save = chance.choice((0, self.save, save_number(chance), save_number(chance)))
-        self.list_addresses(room)
+        self.list_addresses()
+
+    def some_waiting(self):
+        """None when closed, up to 32 when open, up to 66 when down."""
+        some = few(self.chance, DIRECT)
+        return {CLOSED: 0, OPEN: self.chance.choice((0, some)), DOWN: self.chance.choice((some, DIRECT + some, PLACES))}[self.mode]
+
+    def open(self):
+        """Open, with no more waiting than may."""
+        self.mode, self.queued = OPEN, min(self.queued, DIRECT)
 
     def data(self):
         return self.chance.randrange(FIRST_DATA, self.blocks)
@@ -53,14 +62,22 @@ class Made:
         """An address that is no data block."""
         return self.chance.choice((0, 1, FIRST_DATA - 1, self.blocks, self.blocks + 1, TOP))
 
-    def list_addresses(self, room):
+    def list_addresses(self):
         for first in (0, SLOTS):
-            for i, address in enumerate(self.chance.sample(range(FIRST_DATA, self.blocks), room)):
+            for i, address in enumerate(self.chance.sample(range(FIRST_DATA, self.blocks), self.room)):
                 self.list_at(first + i, address)
         for i in range(SLOTS):
             self.log_at(i, self.data())
+        wild = self.mode != OPEN or self.chance.random() < 0.2
         for i in range(PLACES):
-            self.wait_at(i, self.chance.choice((self.data(), self.chance.randrange(self.blocks), self.chance.randrange(FIRST_DATA))))
+            strange = self.chance.randrange(self.blocks), self.chance.randrange(FIRST_DATA)
+            self.wait_at(i, self.chance.choice((self.data(), *strange)) if wild else self.data())
+
+    def listed(self):
+        """The addresses of open, group and log, as far as there is room for them."""
+        counts = [min(count, SLOTS) for count in (self.opened, self.grouped, self.logged)]
+        logged = [address for address, _ in log(self.settled, counts[2])]
+        return entries(self.work, 0, counts[0]) + entries(self.work, SLOTS, counts[1]) + logged
 
     def list_at(self, place, address):
         struct.pack_into("<I", self.work, ENTRY * place, address)
@@ -119,12 +136,16 @@ def log_count(made):
     made.logged = over(SLOTS)(made)
 
 
-def waiting_count(made):
+def waiting_when_closed(made):
+    made.mode, made.queued = CLOSED, made.chance.choice((1, 1, made.chance.randint(1, PLACES), TOP))
+
+
+def waiting_when_open(made):
+    made.mode, made.queued = OPEN, made.chance.choice((DIRECT + 1, over(DIRECT)(made), PLACES))
+
+
+def waiting_when_down(made):
     made.mode, made.queued = DOWN, over(PLACES)(made)
-
-
-def waiting_unless_down(made):
-    made.mode, made.queued = made.chance.choice((CLOSED, OPEN)), made.chance.randint(1, PLACES)
 
 
 def other_blocks(made):
@@ -139,28 +160,32 @@ def place(made, count, limit):
 
 
 def open_address(made):
-    made.mode, made.queued, made.opened = OPEN, 0, max(made.opened, 1)
+    made.open()
+    made.opened = max(made.opened, 1)
     made.list_at(place(made, made.opened, SLOTS), made.stray())
 
 
 def group_address(made):
-    made.mode, made.queued, made.grouped = OPEN, 0, max(made.grouped, 1)
+    made.open()
+    made.grouped = max(made.grouped, 1)
     made.list_at(SLOTS + place(made, made.grouped, SLOTS), made.stray())
 
 
 def log_address(made):
-    made.mode, made.queued, made.logged = OPEN, 0, max(made.logged, 1)
+    made.open()
+    made.logged = max(made.logged, 1)
     made.log_at(place(made, made.logged, SLOTS), made.stray())
 
 
 def waiting_address(made):
-    made.mode, made.queued = DOWN, max(made.queued, 1)
+    made.mode = made.chance.choice((OPEN, DOWN))
+    made.queued = max(min(made.queued, MOST_WAITING[made.mode]), 1)
     made.wait_at(place(made, made.queued, PLACES), made.chance.choice((made.blocks, made.blocks + 1, TOP)))
 
 
 def twice(made, first, count):
     one, other = made.chance.sample(range(min(max(count, 2), SLOTS)), 2)
-    made.mode, made.queued = OPEN, 0
+    made.open()
     for at in (one, other):
         made.list_at(first + at, made.blocks - 1)
     return max(count, 2)
@@ -175,16 +200,18 @@ def twice_in_group(made):
 
 
 def few_buckets(made):
-    """No fault by itself: the addresses of open, group and log agree in their low 7 bits with few, and often with each other."""
+    """No fault by itself: the addresses of open, group, log and queue agree in their low 7 bits with few, and often with each other."""
     data, chance = range(FIRST_DATA, made.blocks), made.chance
     lows = chance.sample(data[:128], min(len(data), chance.choice((1, 3, 9))))
     pool = [address for low in lows for address in data[low - FIRST_DATA::128][:9]]
-    made.mode, made.queued, made.opened, made.grouped = OPEN, 0, min(made.opened, len(pool)), min(made.grouped, len(pool))
+    made.open()
+    made.opened, made.grouped = min(made.opened, len(pool)), min(made.grouped, len(pool))
     for first in (0, SLOTS):
         for i, address in enumerate(chance.sample(pool, min(len(pool), SLOTS))):
             made.list_at(first + i, address)
     for i in range(SLOTS):
         made.log_at(i, chance.choice(pool))
+        made.wait_at(i, chance.choice(pool))
 
 
 def few_blocks(made):
@@ -192,6 +219,17 @@ def few_blocks(made):
     made.mode, made.queued, blocks = DOWN, made.chance.randint(2, PLACES), (0, 0, 1, made.data(), made.data())
     for i in range(PLACES):
         made.wait_at(i, made.chance.choice(blocks))
+
+
+def photograph(made):
+    """No fault by itself: direct writes wait for few data blocks, those of open, group and log among them, and there is little power."""
+    chance = made.chance
+    made.open()
+    made.queued, made.power = chance.choice((1, 5, DIRECT - 1, DIRECT, DIRECT)), chance.choice((0, 1, 2, made.power, made.power))
+    made.grouped, made.logged = chance.choice((0, made.grouped, made.room)), chance.choice((0, made.logged, SLOTS, SLOTS))
+    pool = [made.data() for _ in range(4)] + chance.choice(([], made.listed()))
+    for i in range(DIRECT):
+        made.wait_at(i, chance.choice(pool))
 
 
 def last_save(made):
@@ -268,9 +306,9 @@ def empty_unsound(made):
     made.save = save_number(made.chance)
 
 
-RECORD_FAULTS = (mode, open_count, group_count, log_count, waiting_count, waiting_unless_down, other_blocks, open_address, group_address,
-                 log_address, waiting_address, twice_in_open, twice_in_group, few_blocks, few_blocks, few_blocks,
-                 few_buckets, few_buckets, last_save)
+RECORD_FAULTS = (mode, open_count, group_count, log_count, waiting_when_closed, waiting_when_open, waiting_when_down, other_blocks, open_address,
+                 group_address, log_address, waiting_address, twice_in_open, twice_in_group, few_blocks, few_blocks, few_buckets, photograph,
+                 last_save)
 CARD_FAULTS = (card_format, card_blocks, card_count, card_previous, sum_of_count, sum_of_count, sum_of_previous, neither_sum, stray_in_list,
                no_save_counts, no_save_sums)
 UNUSED = (zeros, any_bytes, empty_log, empty_unsound, card_format, card_blocks, card_count, card_previous, no_save_counts, no_save_sums)

@@ -3,7 +3,7 @@ that is repeated, in hex digits, or the seed of noise; and a length."""
 import random
 from functools import lru_cache
 
-from model import BLOCK, SLOTS
+from model import BLOCK, FIRST_DATA, SLOTS
 
 KEPT, LOST = ("01", BLOCK), ("00", BLOCK)
 TWO_WAYS = (("00", "01"), ("01", "00"))
@@ -65,6 +65,11 @@ def places(queue, header):
     return [i for i, address in enumerate(queue) if (address == 0) == header] or range(len(queue))
 
 
+def log_places(queue):
+    """Where the writes to the log's blocks and the descriptor wait; all but the headers if there are none."""
+    return [i for i, address in enumerate(queue) if 0 < address < FIRST_DATA] or places(queue, False)
+
+
 def scattered(chance, queue, header):
     """Kept, lost and torn by chance. A write to block 0 is whole, and kept with the chance given."""
     tears = chance.choice((0, 0.2, 1))
@@ -94,7 +99,8 @@ def drawn(chance, queue):
     elif kind < 0.44:
         writes = [(KEPT if kind < 0.36 else LOST,)] * len(queue)
     elif kind < 0.62:
-        writes = all_but(queue, chance.choice(places(queue, False)), torn(chance) if kind < 0.58 else (LOST,))
+        at = chance.choice(log_places(queue) if chance.random() < 0.7 else places(queue, False))
+        writes = all_but(queue, at, torn(chance) if kind < 0.56 else (LOST,))
     else:
         writes = scattered(chance, queue, 0.9 if kind < 0.82 else 0.2)
     return tuple(one for runs in writes for one in runs)

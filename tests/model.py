@@ -1,18 +1,20 @@
 """Document 01's twelve calls, with W-201, the three inquiries of W-202, the torn cut of W-204, the refusal of W-205, the list of gets of
-W-207 and the alike of W-208 of document 02, on plain Python values, written from the papers and not from the code of the crates.
+W-207, the alike of W-208 and the direct write of W-209 of document 02, on plain Python values, written from the papers and not from the code
+of the crates.
 
-Buffers are bytearrays. A call of the ten returns its number and the record that it leaves; sync, apply and recover their orders
-between. An inquiry returns its number and its four figures, tally and alike their number and what they found, a list of gets its number and
-the slots read. `c_call` is any of the sixteen as C sees it.
+Buffers are bytearrays. A call of the ten and a direct write return their number and the record that they leave; sync, apply, recover and a
+direct write their orders between. An inquiry returns its number and its four figures, tally and alike their number and what they found, a
+list of gets its number and the slots read. `c_call` is any of the seventeen as C sees it.
 """
 import struct
 from dataclasses import dataclass, replace
 from functools import lru_cache
 
-BLOCK, ENTRY, SLOTS, FIRST_DATA, PLACES, RECORD = 512, 516, 32, 34, 34, 44
+BLOCK, ENTRY, SLOTS, FIRST_DATA, PLACES, RECORD = 512, 516, 32, 34, 66, 44
 LEAST, MOST = 35, 65536
 WAITING, WORK = PLACES * ENTRY, 2 * SLOTS * ENTRY
 CLOSED, OPEN, DOWN = 0, 1, 2
+DIRECT = 32
 EMPTY_SUM = 14695981039346656037
 FORMAT, LAST, ENOUGH = 2, 2**64 - 1, 2**32 - 1
 LIST = 32
@@ -116,11 +118,17 @@ def choice(blocks, settled):
     return 9, 0, 0, False, 0
 
 
+# W-209: the most writes that wait in a record, by its mode.
+MOST_WAITING = {CLOSED: 0, OPEN: DIRECT, DOWN: PLACES}
+
+
 def wrong_counts(rec, settled):
     """What row 2 finds in the record alone, by name."""
+    most = MOST_WAITING.get(rec.mode, PLACES)
     for name, wrong in (("mode", rec.mode > DOWN), ("open count", rec.opened > SLOTS), ("group count", rec.grouped > SLOTS),
-                        ("log count", rec.logged > SLOTS), ("waiting count", rec.waiting > PLACES),
-                        ("waiting unless down", rec.waiting != 0 and rec.mode != DOWN),
+                        ("log count", rec.logged > SLOTS), ("waiting when closed", rec.mode == CLOSED and rec.waiting > most),
+                        ("waiting when open", rec.mode == OPEN and rec.waiting > most),
+                        ("waiting when down", rec.mode >= DOWN and rec.waiting > most),
                         ("N", rec.blocks != len(settled) // BLOCK)):
         if wrong:
             yield name
@@ -187,7 +195,7 @@ def cause(call, rec, settled, waiting, work, address=None, block=None, marks=Non
     """The first row of the table that applies, or 0. `listed` are the addresses of a list and the buffer for its blocks."""
     if wrong_size(settled):
         return 1
-    if len(waiting) != WAITING or len(work) != WORK or (call == "put" and len(block) != BLOCK):
+    if len(waiting) != WAITING or len(work) != WORK or (call in ("put", "direct") and len(block) != BLOCK):
         return 1
     if call == "get_list" and any(wrong_list(*listed)):
         return 1
@@ -203,11 +211,13 @@ def cause(call, rec, settled, waiting, work, address=None, block=None, marks=Non
         return {OPEN: 5, DOWN: 4}.get(rec.mode) or choice(rec.blocks, settled)[0]
     if rec.mode != OPEN:
         return 3 if rec.mode == CLOSED else 4
-    if call in ("put", "get") and not is_data(rec.blocks, address):
+    if call in ("put", "direct", "get") and not is_data(rec.blocks, address):
         return 6
     if call == "get_list":
         return 0 if all(is_data(rec.blocks, a) for a in wanted(listed[0])) else 6
-    opened, grouped, _ = lists(rec, settled, work)
+    opened, grouped, logged = lists(rec, settled, work)
+    if call == "direct":
+        return 14 if address in opened + grouped + logged else 0
     if call == "put" and address not in opened and rec.opened == SLOTS:
         return 7
     if call == "commit" and len(set(opened) | set(grouped)) > SLOTS:
@@ -264,21 +274,44 @@ def abandon(rec, settled, waiting, work):
     return answer, rec if answer else replace(rec, opened=0)
 
 
-def newest(address, opened, grouped, logged):
-    """The buffer (1 settled, 2 work) with the newest block at an address, and the byte at which it starts there."""
+def bounded(rec):
+    """The record with no list longer than there is room for."""
+    return replace(rec, opened=min(rec.opened, SLOTS), grouped=min(rec.grouped, SLOTS), logged=min(rec.logged, SLOTS),
+                   waiting=min(rec.waiting, PLACES))
+
+
+def held(rec, settled, waiting, work):
+    """The addresses of open, group, log and queue."""
+    return (*lists(rec, settled, work), entries(waiting, 0, rec.waiting))
+
+
+def last(listed, address):
+    return max(i for i, a in enumerate(listed) if a == address)
+
+
+def newest(address, opened, grouped, logged, queued):
+    """The buffer (1 settled, 2 work, 3 waiting) with the newest block at an address, and the byte at which it starts there."""
     if address in opened:
         return 2, ENTRY * opened.index(address) + 4
     if address in grouped:
         return 2, ENTRY * (SLOTS + grouped.index(address)) + 4
     if address in logged:
-        return 1, BLOCK * (2 + max(i for i, a in enumerate(logged) if a == address))
+        return 1, BLOCK * (2 + last(logged, address))
+    if address in queued:
+        return 3, ENTRY * last(queued, address) + 4
     return 1, BLOCK * address
+
+
+def part(place, settled, waiting, work):
+    """The block at a place."""
+    buffer, at = place
+    return {1: settled, 2: work, 3: waiting}[buffer][at:at + BLOCK]
 
 
 def get(rec, settled, waiting, work, address):
     """The number, then the buffer and the byte at which the block starts in it."""
     answer = cause("get", rec, settled, waiting, work, address)
-    return (answer, 0, 0) if answer else (0, *newest(address, *lists(rec, settled, work)))
+    return (answer, 0, 0) if answer else (0, *newest(address, *held(rec, settled, waiting, work)))
 
 
 def get_list(rec, settled, waiting, work, addresses, blocks):
@@ -286,10 +319,9 @@ def get_list(rec, settled, waiting, work, addresses, blocks):
     answer = cause("get_list", rec, settled, waiting, work, listed=(addresses, blocks))
     if answer:
         return answer, 0
-    held = lists(rec, settled, work)
+    places = held(rec, settled, waiting, work)
     for i, address in enumerate(wanted(addresses)):
-        buffer, at = newest(address, *held)
-        blocks[BLOCK * i:BLOCK * (i + 1)] = (settled if buffer == 1 else work)[at:at + BLOCK]
+        blocks[BLOCK * i:BLOCK * (i + 1)] = part(newest(address, *places), settled, waiting, work)
     return 0, rec.logged if addresses else 0
 
 
@@ -355,9 +387,16 @@ def checkpoint(rec, orders):
     return replace(rec, logged=0, sum=EMPTY_SUM)
 
 
+def barrier(orders):
+    """W-209: a sync with an empty group flushes if anything waits."""
+    if orders.count:
+        orders.flush()
+
+
 def sync_orders(rec, orders, work):
     """A sync that is not refused: its number, its orders, and the record that it leaves."""
     if rec.grouped == 0:
+        barrier(orders)
         return orders.outcome(rec, rec)
     before = rec
     if rec.logged + rec.grouped > SLOTS:
@@ -407,6 +446,23 @@ def apply(rec, settled, waiting, work):
 
 def recover(rec, settled, waiting, work):
     return ordered("recover", rec, settled, waiting, work)[1]
+
+
+# ---- W-209: a block of a photograph, outside any transaction
+
+def direct_orders(orders, address, block):
+    """With 32 waiting it flushes first."""
+    if orders.count == DIRECT:
+        orders.flush()
+    orders.write(address, bytes(block))
+
+
+def direct(rec, settled, waiting, work, address, block):
+    answer, orders = cause("direct", rec, settled, waiting, work, address, block), Orders(rec, settled, waiting)
+    if answer:
+        return answer, 0, rec
+    direct_orders(orders, address, block)
+    return orders.outcome(rec, rec)
 
 
 # ---- W-202: the call made next on the same bytes and record but for power enough, here on copies
@@ -489,7 +545,7 @@ def encode(rec):
 
 
 COSTS = ("sync_cost", "apply_cost", "recover_cost")
-OUTS = {"get": 2, "get_list": 1, "sync": 1, "apply": 1, "recover": 1, "tally": 1, "alike": 1, **dict.fromkeys(COSTS, 4)}
+OUTS = {"get": 2, "get_list": 1, "direct": 1, "sync": 1, "apply": 1, "recover": 1, "tally": 1, "alike": 1, **dict.fromkeys(COSTS, 4)}
 
 
 def c_call(call, lent, arguments=()):

@@ -1,9 +1,10 @@
 """The plain disk, from its own section of document 01: fed N, a call's arguments and, at a cut, whether the log found is the log
 written. By W-201 it counts the nonempty groups laid into S, by W-204 a cut has 512 marks for each waiting write, by W-207 there are lists of gets.
-It knows no bytes of a card."""
+By W-209 it keeps the log's addresses, those of the direct writes that wait, and the loose ones: those that waited at a cut. There it is fed what
+the next finished recovery finds. It knows no bytes of a card."""
 
 CLOSED, OPEN, DOWN = 0, 1, 2
-BLOCK, SLOTS, FIRST_DATA, LIST = 512, 32, 34, 32
+BLOCK, SLOTS, FIRST_DATA, LIST, DIRECT = 512, 32, 34, 32, 32
 LAST = 2**64 - 1
 ZERO = bytes(BLOCK)
 
@@ -24,9 +25,17 @@ class Short:
         """Whether a sync's own header write was carried out."""
         return self.call == "sync" and self.orders - self.applied == self.m + 2
 
+    def flushed(self):
+        """Whether one of its orders was a flush."""
+        if self.call == "direct":
+            return self.orders > 0
+        return (self.call == "apply" or self.applied > 0) and self.orders > self.n
+
     def queued(self):
-        """The number of writes that wait when the orders end here."""
+        """The number of its own writes that wait when the orders end here."""
         orders = self.orders
+        if self.call == "direct":
+            return 0
         if self.call == "apply" or (self.applied and orders < self.applied):
             return orders if orders <= self.n else orders - self.n - 1
         return orders - self.applied
@@ -41,11 +50,21 @@ class Plain:
     def __init__(self, blocks):
         """As a format answering 0 leaves it."""
         self.blocks, self.S, self.G, self.T = blocks, {}, {}, {}
-        self.n, self.F, self.mode, self.power, self.waiting, self.short = 0, 0, OPEN, 1000000, 0, None
+        self.log, self.writes, self.loose = [], [], set()
+        self.F, self.mode, self.power, self.short = 0, OPEN, 1000000, None
         self.laid = 0
 
+    @property
+    def n(self):
+        return len(self.log)
+
+    @property
+    def waiting(self):
+        """The direct writes that wait, and behind them those of the call cut short."""
+        return len(self.writes) + (self.short.queued() if self.short else 0)
+
     def refusal(self, call, arguments):
-        if call == "put" and len(arguments[1]) != BLOCK or call == "get_list" and self.wrong_list(*arguments):
+        if call in ("put", "direct") and len(arguments[1]) != BLOCK or call == "get_list" and self.wrong_list(*arguments):
             return 1
         if call == "power":
             return 0
@@ -55,9 +74,11 @@ class Plain:
             return {CLOSED: 0, OPEN: 5, DOWN: 4}[self.mode]
         if self.mode != OPEN:
             return 3 if self.mode == CLOSED else 4
-        asked = arguments[:1] if call in ("put", "get") else wanted(arguments[0]) if call == "get_list" else ()
+        asked = arguments[:1] if call in ("put", "direct", "get") else wanted(arguments[0]) if call == "get_list" else ()
         if not all(FIRST_DATA <= address < self.blocks for address in asked):
             return 6
+        if call == "direct" and any(arguments[0] in listed for listed in (self.T, self.G, self.log)):
+            return 14
         if call == "put" and arguments[0] not in self.T and len(self.T) == SLOTS:
             return 7
         if call == "commit" and len(self.T.keys() | self.G.keys()) > SLOTS:
@@ -74,14 +95,15 @@ class Plain:
         return len(addresses) % 4 != 0 or len(addresses) > 4 * LIST or len(blocks) != BLOCK * len(wanted(addresses))
 
     def step(self, call, arguments=(), found=True):
-        """The answer, the orders handed back or the slots of a list, and the block of a get or those of a list."""
+        """The answer, the orders handed back or the slots of a list, and the block of a get or those of a list. Found is, at a cut, whether
+        the log found is the log written, and, at a recovery, what it finds at an address, if it is finished."""
         answer = self.refusal(call, arguments)
         if answer:
             return answer, 0, None
         if call == "power":
             self.power = arguments[0]
             return 0, 0, None
-        outcome = getattr(self, call)(*arguments, *([found] if call == "cut" else []))
+        outcome = getattr(self, call)(*arguments, *([found] if call in ("cut", "recover") else []))
         if call == "get":
             return 0, 0, outcome
         if call == "get_list":
@@ -111,43 +133,70 @@ class Plain:
             self.power -= orders
             return 0, orders
         self.short = Short(call, self.power, n, m, applied)
-        self.mode, self.waiting = DOWN, self.short.queued()
-        self.power = 0
+        if self.short.flushed():
+            self.writes = []
+        self.mode, self.power = DOWN, 0
         return 4, self.short.orders
+
+    def direct(self, address, block):
+        """Done, it lays its block into S; cut short, it leaves S. With 32 waiting it flushes first."""
+        full = len(self.writes) == DIRECT
+        outcome = self.carried_out("direct", 2 if full else 1)
+        if outcome[0] == 0:
+            self.S[address] = bytes(block)
+            self.writes = ([] if full else self.writes) + [address]
+        return outcome
 
     def sync(self):
         m = len(self.G)
         if m == 0:
-            return 0, 0
+            return self.barrier()
         applied = self.n + 3 if self.n + m > SLOTS else 0
         outcome = self.carried_out("sync", applied + m + 3, self.n, m, applied)
         if outcome[0] == 0:
-            self.lay()
-            self.G = {}
-            self.n = m if applied else self.n + m
+            self.lay(applied)
+            self.G, self.writes = {}, []
         return outcome
 
-    def lay(self):
+    def barrier(self):
+        """A sync with an empty group: one order if anything waits."""
+        outcome = self.carried_out("sync", 1 if self.writes else 0)
+        if outcome[0] == 0:
+            self.writes = []
+        return outcome
+
+    def lay(self, applied):
+        """The group goes over S, and its addresses behind the log's, or in their place if there was an apply."""
         self.S.update(self.G)
+        self.log = ([] if applied else self.log) + list(self.G)
         self.laid += 1
 
     def apply(self):
-        outcome = self.carried_out("apply", self.n + 3 if self.n else 0, self.n)
+        if self.n == 0:
+            return 0, 0
+        outcome = self.carried_out("apply", self.n + 3, self.n)
         if outcome[0] == 0:
-            self.n = 0
+            self.log, self.writes = [], []
         return outcome
 
-    def recover(self):
+    def recover(self, found):
         outcome = self.carried_out("recover", 2 if self.F else 0)
         if outcome[0] == 0:
             self.F, self.mode = 0, OPEN
+            self.S.update((address, found(address)) for address in self.loose)
+            self.loose = set()
         return outcome
 
     def cut(self, marks, found):
         if self.short:
             self.choose(self.short, bool(marks) and all(marks[-BLOCK:]), found)
-        self.G, self.T = {}, {}
-        self.mode, self.waiting, self.short = CLOSED, 0, None
+        self.loosen()
+        self.G, self.T, self.writes = {}, {}, []
+        self.mode, self.short = CLOSED, None
+
+    def loosen(self):
+        """The waiting addresses join the loose ones, which only a finished recovery empties."""
+        self.loose |= set(self.writes)
 
     def choose(self, short, kept, found):
         """By the last header write of the call cut short, which is the last write that waits."""
@@ -157,12 +206,12 @@ class Plain:
             return
         if short.call == "apply" or short.applied:
             if short.orders == short.n + 2:
-                self.n, self.F = 0 if kept else self.n, 0
+                self.log, self.F = [] if kept else self.log, 0
             elif short.orders > short.n + 2:
-                self.n, self.F = 0, 0
+                self.log, self.F = [], 0
         if short.own_header():
             if kept and found:
-                self.lay()
-                self.n, self.F = self.n + short.m, 0
+                self.lay(False)
+                self.F = 0
             else:
                 self.F = 1 if kept else 0

@@ -2,8 +2,9 @@
 
 The copy is compiled without proof: Rattle's code is Rust's but for the clauses of contracts, which are left out, and rustc builds the
 shared object. First the copy without a fault must run like the archive. Those that break demand 2 or 3, what W-202 says of an inquiry,
-what W-205 says of a format in a history or what W-207 says of a list of gets are also to be found by the plain disk, the log written, the old
-and new disks and the library's own calls alone, with nothing compared to the model. Not a part of the gate, since it needs rustc."""
+what W-205 says of a format in a history, what W-207 says of a list of gets or what W-209 says of direct writes are also to be found by the plain
+disk, the log written, the old and new disks and the library's own calls alone, with nothing compared to the model. Not a part of the gate, since
+it needs rustc."""
 import re
 import shutil
 import subprocess
@@ -122,14 +123,14 @@ FAULTS = (
     Fault("a list takes the first slot", "journal/wanted", "a == wanted(list, i)", "a == wanted(list, i) && met[i] == 0", True),
     Fault("a list's walk leaves out the last slot", "journal/wanted", "while read < n {", "while read + 1 < n {", True),
     Fault("a list of 33 addresses is served", "store/get_list", "MOST_WANTED: usize = 32;", "MOST_WANTED: usize = 33;", True),
-    Fault("a list leaves out the last entry of open and group", "store/lists", "while i < n {", "while i + 1 < n {", True),
+    Fault("a list leaves out the last entry of open, group and queue", "store/lists", "while i < n {", "while i + 1 < n {", True),
     Fault("a list takes the group over open", "store/get_list", "if opened != 0 {", "if opened != 0 && grouped == 0 {", True),
     Fault("a list takes the log over the group", "store/get_list", "if grouped != 0 {", "if grouped != 0 && logged == 0 {", True),
     Fault("a list is copied out backwards", "store/get_list", "let at = BLOCK * i;", "let at = BLOCK * (n - 1 - i);", True),
     Fault("a list is copied up to the address that is refused", "store/get_list",
           "self.list_number(settled, waiting, work, list, blocks);", "self.list_number(settled, waiting, work, list, blocks);\nif refusal == 6 {\n"
           "let mut k = 0;\nwhile is_data(self.blocks, wanted(list, k)) {\nk += 1;\n}\n"
-          "self.show(settled, work, &list[..4 * k], &mut blocks[..512 * k]);\n}", True),
+          "self.show(settled, waiting, work, &list[..4 * k], &mut blocks[..512 * k]);\n}", True),
     Fault("slots are counted for an empty list", "store/get_list", "if count(list) == 0 {", "if false {", True),
     Fault("the log's slots are counted for each address of a list", "store/get_list", "Listed { number: 0, slots }",
           "Listed { number: 0, slots: slots * (count(list) as u32) }", True),
@@ -140,6 +141,56 @@ FAULTS = (
           "if wrong_list(list, blocks) && self.not_open(settled, waiting, work) == 0 {", True),
     Fault("a wrong address of a list comes before the record's causes", "store/get_list", "let number = self.not_open(",
           "if stray(list, self.blocks) {\nreturn 6;\n}\nlet number = self.not_open(", True),
+    Fault("a list takes the home block over waiting writes", "store/get_list", "if waited != 0 {", "if false {", True),
+    Fault("a list takes a waiting write over the log", "store/get_list", "if logged != 0 {", "if logged != 0 && waited == 0 {"),
+    Fault("a direct write with 32 waiting does not flush", "store/direct", "if self.waiting < DIRECT {", "if true {", True),
+    Fault("a direct write with 31 waiting flushes", "store/direct", "if self.waiting < DIRECT {", "if self.waiting + 1 < DIRECT {", True),
+    Fault("a direct write with 32 waiting flushes behind its write", "store/direct", "let f = self.queue().flush(settled, waiting);\n"
+          "        if !f.happened {\n            return self.after(f, self);\n        }\n"
+          "        self.after(f.queue.write(waiting, address, block), self)",
+          "let f = self.queue().write(waiting, address, block);\nif !f.happened {\nreturn self.after(f, self);\n}\n"
+          "self.after(f.queue.flush(settled, waiting), self)", True),
+    Fault("a direct write cut short behind its flush is taken for done", "store/direct", "self.after(f.queue.write(waiting, address, block), self)",
+          "let w = f.queue.write(waiting, address, block);\nlet queue = w.queue;\nself.with_queue(queue)", True),
+    Fault("a direct write counts one order with its flush", "firmware/orders", "*orders = written.orders;",
+          "*orders = std::cmp::min(written.orders, 1);", True),
+    Fault("a direct write of an address in open is served", "store/direct", "if holds(work, OPEN, self.opened, address) {", "if false {", True),
+    Fault("a direct write of an address in the group is served", "store/direct", "if holds(work, GROUP, self.grouped, address) {", "if false {", True),
+    Fault("a direct write of an address in the log is served", "store/direct", "last_slot(settled, address, self.logged)",
+          "last_slot(settled, address, 0)", True),
+    Fault("a direct write of an address in a slot beyond the count is refused", "store/direct", "last_slot(settled, address, self.logged)",
+          "last_slot(settled, address, 32)", True),
+    Fault("14 comes before 4", "store/direct", "let number = self.not_open(settled, waiting, work);",
+          "if self.mode == 2 && self.bad_record(settled, waiting, work) == 0 && self.lists(settled, work, address) {\nreturn 14;\n}\n"
+          "let number = self.not_open(settled, waiting, work);", True),
+    Fault("get takes the oldest waiting write", "store/get", "Place::Waiting(place_of(WAITING_FROM, i))", "let mut k = 0;\n"
+          "while crate::lists::address(waiting, WAITING_FROM, k) != address {\nk += 1;\n}\nPlace::Waiting(place_of(WAITING_FROM, k))", True),
+    Fault("get takes the home block over waiting writes", "store/get", "find(waiting, WAITING_FROM, self.waiting, address)",
+          "find(waiting, WAITING_FROM, 0, address)", True),
+    Fault("get takes a waiting write over the log", "store/get", "last_slot(settled, address, self.logged)", "last_slot(settled, address, "
+          "if crate::lists::holds(waiting, WAITING_FROM, self.waiting, address) { 0 } else { self.logged })"),
+    Fault("a sync with an empty group does not flush", "store/sync", "return self.flushed(settled, waiting);", "return self;", True),
+    Fault("a sync with an empty group flushes where nothing waits", "store/sync", "if self.waiting == 0 {", "if false {", True),
+    Fault("an apply of an empty log flushes what waits", "store/apply", "return self.saved(self);",
+          "return self.saved(self.after(self.queue().flush(settled, waiting), self));", True),
+    Fault("a sync's writes take the places of those that wait", "store/sync", "let a = append(self.queue(),",
+          "let a = append(card::queue::Queue { waiting: 0, power: self.power },", True),
+    Fault("an apply's writes take the places of those that wait", "store/apply", "self.queue(),",
+          "card::queue::Queue { waiting: 0, power: self.power },", True),
+    Fault("an inquiry's peak is without the writes that wait before", "store/cost", "self.waiting + writes)", "writes)", True),
+    Fault("an inquiry's peak in an apply is without the writes that wait before", "store/cost", "larger(self.waiting + self.logged, writes)",
+          "larger(self.logged, writes)", True),
+    Fault("an inquiry of a sync with an empty group has no flush", "store/cost", "return self.cost(1, false, self.waiting);",
+          "return self.cost(0, false, self.waiting);", True),
+    Fault("an open record may have 33 waiting writes", "store/check", "return DIRECT as usize;", "return DIRECT as usize + 1;"),
+    Fault("an open record may have 31 waiting writes", "store/check", "return DIRECT as usize;", "return DIRECT as usize - 1;", True),
+    Fault("a closed record may have a waiting write", "store/check", "return 0;\n        }\n        if self.mode == OPEN_MODE {",
+          "return 1;\n}\nif self.mode == OPEN_MODE {"),
+    Fault("a down record may have 65 waiting writes", "store/check", "        PLACES\n", "        PLACES - 1\n"),
+    Fault("a direct write reads a byte behind its block", "firmware/orders", "let written = decode(rec)",
+          "unsafe { std::ptr::read_volatile(block.as_ptr().add(block.len())) };\nlet written = decode(rec)"),
+    Fault("a direct write writes a const byte with itself", "firmware/orders", "let written = decode(rec)",
+          "unsafe { std::ptr::write_volatile(work.as_ptr() as *mut u8, work[0]) };\nlet written = decode(rec)"),
     Fault("a list reads a byte behind its addresses", "firmware/reads", "let listed = decode(rec)",
           "unsafe { std::ptr::read_volatile(addresses.as_ptr().add(addresses.len())) };\nlet listed = decode(rec)"),
     Fault("a list writes a const byte with itself", "firmware/reads", "let listed = decode(rec)",

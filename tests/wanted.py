@@ -1,6 +1,6 @@
 """A list of gets, W-207: its addresses and the buffer for its blocks by chance, and the list beside the library's own gets. They are given
 as the addresses, how many bytes follow them, the buffer's length, and what fills it before the call."""
-from crash import must
+from crash import BUFFERS, must
 from model import BLOCK, FIRST_DATA, LIST
 
 TOP = 2**32 - 1
@@ -22,7 +22,7 @@ def same_bucket(address, blocks):
 
 
 def pool(chance, blocks, held):
-    """What a list is drawn from: any data blocks, few, what open, group and log have, with others or without, or few buckets."""
+    """What a list is drawn from: any data blocks, few, what open, group, log and queue have, with others or without, or few buckets."""
     every, kind = range(FIRST_DATA, blocks), chance.randrange(6)
     if kind < 2:
         return (every, chance.choice((every[:1], every[:10], every[-2:])))[kind]
@@ -35,7 +35,7 @@ def pool(chance, blocks, held):
 def drawn_addresses(chance, blocks, lists):
     """Up to 32 addresses, now and then more; repeats are allowed. One list in seven has a wrong one, at either end or between."""
     count = chance.choice((0, 1, 2, 3, 6, 12, LIST - 1, LIST)) if chance.random() < 0.94 else chance.choice((33, 33, 34, 64))
-    several = pool(chance, blocks, [address for listed in lists for address in listed])
+    several = pool(chance, blocks, [address for listed in lists for address in listed if FIRST_DATA <= address < blocks])
     if chance.random() < 0.4 and len(several) >= count:
         addresses = chance.sample(several, count)
     else:
@@ -47,7 +47,7 @@ def drawn_addresses(chance, blocks, lists):
 
 
 def drawn(chance, blocks, lists):
-    """A list on a card of so many blocks whose open, group and log have these addresses. Mostly both lengths are right."""
+    """A list on a card of so many blocks whose open, group, log and queue have these addresses. Mostly both lengths are right."""
     addresses = drawn_addresses(chance, blocks, lists)
     right = BLOCK * len(addresses)
     tail = chance.choice((1, 2, 3)) if chance.random() < 0.04 else 0
@@ -69,5 +69,5 @@ def held(library, lent, outcome):
     numbers = {number for number, _, _ in found}
     must(max(numbers, default=answer) == answer and (answer == 6 or numbers <= {answer}), "gets of its addresses answer %s", numbers)
     for i, (_, buffer, offset) in enumerate(found if answer == 0 else []):
-        block = lent["settled" if buffer == 1 else "work"].read(offset, BLOCK)
+        block = lent[BUFFERS[buffer]].read(offset, BLOCK)
         must(blocks.read(BLOCK * i, BLOCK) == block, "block %d is not what a get of its address finds", i)

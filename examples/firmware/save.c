@@ -48,7 +48,7 @@ static int value(const struct card *c)
         uint32_t buffer;
         uint64_t offset;
         must(trapcard_get(CARD(c), addresses[i], &buffer, &offset), "get");
-        const uint8_t *block = trapcard_block(c->settled, c->work, buffer, offset);
+        const uint8_t *block = trapcard_block(c->settled, c->waiting, c->work, buffer, offset);
         for (size_t k = 1; k < TRAPCARD_BLOCK; k++)
             if (block[k] != block[0])
                 return -1;
