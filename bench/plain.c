@@ -1,6 +1,6 @@
-/* The card store in plain C, written from document 01, with W-201, W-204, W-205, W-207 and W-208 of document 02, and not from the Rattle
- * sources: what the bench measures the store against. It makes the same checks (rows 1 to 10, 12 and 13 of the table of causes) and leaves
- * the same bytes. */
+/* The card store in plain C, written from document 01, with W-201, W-204, W-205, W-207, W-208 and W-209 of document 02, and not from the
+ * Rattle sources: what the bench measures the store against. It makes the same checks (rows 1 to 10 and 12 to 14 of the table of causes) and
+ * leaves the same bytes. */
 #include "plain.h"
 
 #include <stdbool.h>
@@ -136,11 +136,13 @@ static bool twice(const uint8_t *list, uint32_t n)
     return false;
 }
 
+/* How many writes may wait: closed, open, down. */
+static const uint32_t most_waiting[] = {0, TRAPCARD_DIRECT, TRAPCARD_PLACES};
+
 static bool wrong_counts(const struct record *r, size_t settled_len)
 {
     return r->mode > TRAPCARD_MODE_DOWN || r->opened > SLOTS || r->grouped > SLOTS || r->logged > SLOTS ||
-           r->waiting > TRAPCARD_PLACES || (r->waiting != 0 && r->mode != TRAPCARD_MODE_DOWN) ||
-           r->blocks != settled_len / BLOCK;
+           r->waiting > most_waiting[r->mode] || r->blocks != settled_len / BLOCK;
 }
 
 static bool wrong_waiting(const struct record *r, const uint8_t *waiting)
@@ -345,8 +347,13 @@ static uint32_t newest(const struct record *r, const struct lent *l, uint32_t ad
         return TRAPCARD_IN_WORK;
     }
     i = find(descriptor(l->settled), 4, r->logged, address);
-    *offset = i >= 0 ? slot_at((uint32_t)i) : (uint64_t)BLOCK * address;
-    return TRAPCARD_IN_SETTLED;
+    if (i >= 0) {
+        *offset = slot_at((uint32_t)i);
+        return TRAPCARD_IN_SETTLED;
+    }
+    i = find(l->waiting, ENTRY, r->waiting, address);
+    *offset = i >= 0 ? ENTRY * (uint64_t)i + 4 : (uint64_t)BLOCK * address;
+    return i >= 0 ? TRAPCARD_IN_WAITING : TRAPCARD_IN_SETTLED;
 }
 
 uint32_t plain_get(const uint8_t *record, size_t record_len, const uint8_t *settled, size_t settled_len,
@@ -386,7 +393,7 @@ uint32_t plain_get_list(const uint8_t *record, size_t record_len, const uint8_t 
     for (size_t i = 0; i < count; i++) {
         uint64_t offset;
         uint32_t buffer = newest(&r, &l, load32(addresses + 4 * i), &offset);
-        memcpy(blocks + BLOCK * i, trapcard_block(settled, work, buffer, offset), BLOCK);
+        memcpy(blocks + BLOCK * i, trapcard_block(settled, waiting, work, buffer, offset), BLOCK);
     }
     *slots = count > 0 ? r.logged : 0;
     return TRAPCARD_DONE;
@@ -536,6 +543,33 @@ static uint32_t saved(uint8_t *record, struct record *r, bool done, uint32_t pow
     return done ? TRAPCARD_DONE : TRAPCARD_ERR_POWER;
 }
 
+/* Row 14: open, group or log has the address. */
+static bool listed(const struct record *r, const struct lent *l, uint32_t address)
+{
+    return find(l->work, ENTRY, r->opened, address) >= 0 || find(group_of(l->work), ENTRY, r->grouped, address) >= 0 ||
+           find(descriptor(l->settled), 4, r->logged, address) >= 0;
+}
+
+uint32_t plain_direct(uint8_t *record, size_t record_len, uint8_t *settled, size_t settled_len, uint8_t *waiting,
+                      size_t waiting_len, const uint8_t *work, size_t work_len, uint32_t address, const uint8_t *block,
+                      size_t block_len, uint32_t *orders)
+{
+    const struct lent l = LENT;
+    *orders = 0;
+    if (record_len != TRAPCARD_RECORD || block_len != BLOCK)
+        return TRAPCARD_ERR_SIZE;
+    struct record r = decode(record);
+    uint32_t number = not_open(&r, &l), power = r.power;
+    if (number != TRAPCARD_DONE)
+        return number;
+    if (!is_data(r.blocks, address))
+        return TRAPCARD_ERR_ADDRESS;
+    if (listed(&r, &l, address))
+        return TRAPCARD_ERR_LISTED;
+    bool room = r.waiting < TRAPCARD_DIRECT || order_flush(&r, settled, waiting);
+    return saved(record, &r, room && order_write(&r, waiting, address, block), power, orders);
+}
+
 uint32_t plain_sync(uint8_t *record, size_t record_len, uint8_t *settled, size_t settled_len, uint8_t *waiting,
                     size_t waiting_len, const uint8_t *work, size_t work_len, uint32_t *orders)
 {
@@ -545,8 +579,10 @@ uint32_t plain_sync(uint8_t *record, size_t record_len, uint8_t *settled, size_t
         return TRAPCARD_ERR_SIZE;
     struct record r = decode(record);
     uint32_t number = not_open(&r, &l), power = r.power;
-    if (number != TRAPCARD_DONE || r.grouped == 0)
+    if (number != TRAPCARD_DONE || r.grouped + r.waiting == 0)
         return number;
+    if (r.grouped == 0)
+        return saved(record, &r, order_flush(&r, settled, waiting), power, orders);
     if (r.save == UINT64_MAX)
         return TRAPCARD_ERR_LAST;
     bool room = r.logged + r.grouped <= SLOTS || checkpoint(&r, settled, waiting);

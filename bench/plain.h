@@ -7,6 +7,7 @@
 extern __typeof__(trapcard_format) plain_format;
 extern __typeof__(trapcard_power) plain_power;
 extern __typeof__(trapcard_put) plain_put;
+extern __typeof__(trapcard_direct) plain_direct;
 extern __typeof__(trapcard_get) plain_get;
 extern __typeof__(trapcard_get_list) plain_get_list;
 extern __typeof__(trapcard_commit) plain_commit;

@@ -76,7 +76,7 @@ static const uint8_t *one(uint32_t i)
     uint32_t buffer;
     uint64_t offset;
     must(trapcard_get(CARD, wanted[i], &buffer, &offset), "get");
-    return trapcard_block(settled, work, buffer, offset);
+    return trapcard_block(settled, waiting, work, buffer, offset);
 }
 
 static void by_gets(void)

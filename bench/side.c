@@ -5,12 +5,12 @@
 #include <stdlib.h>
 #include <string.h>
 
-const struct calls trapcard_calls = {trapcard_format,  trapcard_power,  trapcard_put,     trapcard_get,  trapcard_get_list,
-                                     trapcard_commit,  trapcard_abandon, trapcard_sync,   trapcard_apply,
-                                     trapcard_recover, trapcard_cut,    trapcard_tally,   trapcard_alike};
+const struct calls trapcard_calls = {trapcard_format,   trapcard_power,  trapcard_put,     trapcard_direct, trapcard_get,
+                                     trapcard_get_list, trapcard_commit, trapcard_abandon, trapcard_sync,   trapcard_apply,
+                                     trapcard_recover,  trapcard_cut,    trapcard_tally,   trapcard_alike};
 
-const struct calls plain_calls = {plain_format, plain_power, plain_put,     plain_get, plain_get_list, plain_commit, plain_abandon,
-                                  plain_sync,   plain_apply, plain_recover, plain_cut, plain_tally,    plain_alike};
+const struct calls plain_calls = {plain_format, plain_power, plain_put,   plain_direct,  plain_get, plain_get_list, plain_commit,
+                                  plain_abandon, plain_sync, plain_apply, plain_recover, plain_cut, plain_tally,    plain_alike};
 
 static uint8_t *lend(size_t size)
 {
@@ -56,8 +56,8 @@ static uint32_t draw(uint32_t below)
     return (uint32_t)(state >> 33) % below;
 }
 
-/* The kind of an alike, for which the other card is drawn as well. */
-enum { ALIKE = 17 };
+/* The kind of an alike, for which the other card is drawn as well, and that of a direct write. */
+enum { ALIKE = 17, DIRECT = 21, KINDS = 29 };
 
 /* A call's kind and its arguments, drawn once and given to both. */
 struct drawn {
@@ -91,9 +91,14 @@ static void draw_list(struct drawn *d)
     d->screen_len = TRAPCARD_BLOCK * count - (count > 0 && draw(16) == 0);
 }
 
-static struct drawn draw_call(uint32_t waiting)
+/* Mostly direct writes while a photograph is taken; with 32 waiting often little power for the next. */
+static struct drawn draw_call(uint32_t waiting, bool photograph)
 {
-    struct drawn d = {.kind = draw(27), .address = 33 + draw(SMALL - 32), .power = draw(draw(2) ? 40 : 6)};
+    struct drawn d = {.kind = photograph && draw(8) ? DIRECT : draw(KINDS), .address = 33 + draw(SMALL - 32), .power = draw(draw(2) ? 40 : 6)};
+    if (waiting == TRAPCARD_DIRECT && draw(4) == 0) {
+        d.kind = 0;
+        d.power = draw(3);
+    }
     memset(d.block, (int)draw(256), sizeof d.block);
     size_t writes = draw(8) ? waiting % (TRAPCARD_PLACES + 1) : draw(TRAPCARD_PLACES + 1);
     d.marks_len = TRAPCARD_BLOCK * writes - (writes > 0 && draw(16) == 0);
@@ -117,16 +122,17 @@ static void give(struct side *s, const struct drawn *d)
     case 14: case 15: s->number = c->get(CARD(s), d->address, &s->buffer, &s->offset); break;
     case 16: s->number = c->tally(s->settled, s->settled_len, &s->sum); break;
     case ALIKE: s->number = c->alike(s->settled, s->settled_len, s->other, s->settled_len, &s->yes); break;
+    case DIRECT: case DIRECT + 1: s->number = c->direct(CARD(s), d->address, d->block, sizeof d->block, &s->orders); break;
     case 18: case 19: case 20: s->number = c->get_list(CARD(s), d->list, d->list_len, s->screen, d->screen_len, &s->slots); break;
     default: s->number = c->put(CARD(s), d->address, d->block, sizeof d->block); break;
     }
 }
 
-/* Damages a byte that the checks read: of the record, the header, the descriptor or an entry's address. Or the record gets the
- * largest save number. */
+/* Damages a byte that the checks read: of the record, the header, the descriptor or the address of an entry or a waiting write. Or the
+ * record gets the largest save number. */
 static void damage(struct side *a, struct side *b)
 {
-    uint32_t where = draw(5), at = draw(TRAPCARD_RECORD), i = draw(32);
+    uint32_t where = draw(6), at = draw(TRAPCARD_RECORD), i = draw(32);
     uint8_t value = (uint8_t)draw(48);
     struct side *both[2] = {a, b};
     for (int k = 0; k < 2; k++) {
@@ -135,6 +141,8 @@ static void damage(struct side *a, struct side *b)
             both[k]->work[516 * i] = value;
         else if (where == 4)
             memset(both[k]->record + TRAPCARD_RECORD_SAVE, 255, 8);
+        else if (where == 5)
+            both[k]->waiting[516 * i] = value;
         else
             bytes[at] = value;
     }
@@ -181,11 +189,12 @@ long random_calls(long n)
     struct side a = side_new(&trapcard_calls), b = side_new(&plain_calls);
     a.settled_len = b.settled_len = (size_t)SMALL * TRAPCARD_BLOCK;
     for (long i = 0; i < n; i++) {
+        bool photograph = i / 100 % 4 == 0;
         if (i % 100 == 0)
             format_both(&a, &b);
         if (draw(50) == 0)
             damage(&a, &b);
-        struct drawn d = draw_call(trapcard_record_number(a.record, TRAPCARD_RECORD_WAITING));
+        struct drawn d = draw_call(trapcard_record_number(a.record, TRAPCARD_RECORD_WAITING), photograph);
         if (d.kind == ALIKE)
             draw_other(&a, &b);
         give(&a, &d);

@@ -9,6 +9,7 @@ struct calls {
     __typeof__(trapcard_format) *format;
     __typeof__(trapcard_power) *power;
     __typeof__(trapcard_put) *put;
+    __typeof__(trapcard_direct) *direct;
     __typeof__(trapcard_get) *get;
     __typeof__(trapcard_get_list) *get_list;
     __typeof__(trapcard_commit) *commit;

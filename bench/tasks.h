@@ -6,9 +6,9 @@
 
 struct task {
     const char *name;
-    /* The lists before the call, and how many of the open entries the group has already. */
-    uint32_t opened, grouped, logged, shared;
-    /* Whether the record is closed before the call, or down with all places waiting. */
+    /* The lists before the call, how many of the open entries the group has already, and the direct writes that wait. */
+    uint32_t opened, grouped, logged, shared, waiting;
+    /* Whether the record is closed before the call, or down with the writes of a sync of 32 waiting too. */
     uint32_t mode;
     void (*call)(struct side *s);
     /* What has to be put back after it, for the same call again. */
