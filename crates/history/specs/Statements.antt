@@ -267,15 +267,15 @@ module _ (geo : Geometry) where
   directDone (cut ms) w = false
 
   -- the entry of a direct write, what it has, and what every other call has
-  abbrev pub ofDirect : {A : Type 0} → Call → (Entry → A) → A → A
-  ofDirect (local c) f x = x
-  ofDirect (direct a b) f x = f (record { address = a; block = b })
-  ofDirect (save c) f x = x
-  ofDirect (cut ms) f x = x
+  abbrev pub onDirect : {A : Type 0} → Call → (Entry → A) → A → A
+  onDirect (local c) f x = x
+  onDirect (direct a b) f x = f (record { address = a; block = b })
+  onDirect (save c) f x = x
+  onDirect (cut ms) f x = x
 
   -- those of a list that are done, laid over in turn
   abbrev pub drawnBy : Call → World → Laid → Laid
-  drawnBy c w S = cond (directDone c w) (ofDirect c (λ e. drawn e S) S) S
+  drawnBy c w S = cond (directDone c w) (onDirect c (λ e. drawn e S) S) S
 
   unfoldable pub drawnOver : List Call → World → Laid → Laid
   drawnOver [] w S = S
@@ -284,7 +284,7 @@ module _ (geo : Geometry) where
   -- none of them is to the block x
   unfoldable pub neverDirect : ℕ → List Call → World → Bool
   neverDirect x [] w = true
-  neverDirect x (c ∷ cs) w = not (directDone c w && ofDirect c (λ e. eqb (e .address) x) false) && neverDirect x cs (next geo c w)
+  neverDirect x (c ∷ cs) w = not (directDone c w && onDirect c (λ e. eqb (e .address) x) false) && neverDirect x cs (next geo c w)
 
   -- along a list, those to the block x that wait: "with 32 waiting it flushes first", so that no earlier one waits; and wherever the address
   -- does not wait, none does
@@ -292,7 +292,7 @@ module _ (geo : Geometry) where
   photoBy x c w p =
       let q = cond (directDone c w && eqb (w .store .rec .waiting) (geo .direct)) noPhoto p in
       cond (among x (next geo c w .plain .writes))
-      (cond (directDone c w) (ofDirect c (λ e. cond (eqb (e .address) x) (photographed (e .block) (w .plain .S .disk x) q) q) q) q)
+      (cond (directDone c w) (onDirect c (λ e. cond (eqb (e .address) x) (photographed (e .block) (w .plain .S .disk x) q) q) q) q)
       noPhoto
 
   unfoldable pub photo : ℕ → List Call → World → Photo → Photo

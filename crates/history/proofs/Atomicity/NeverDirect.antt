@@ -24,7 +24,7 @@ use Rattle.history.specs.Plain as Plain
 use Rattle.history.specs.Plain.{Plain, Short, among, Done, cutShort, plainStep, plainDirect, directTakes, written, refusal, served, locally, saving}
 use Rattle.history.specs.Dispatch.{dispatch}
 use Rattle.history.specs.History.{World, next, after, storeNext, fed}
-use Rattle.history.specs.Statements.{Fate, quiet, decided, outcome, directDone, ofDirect, drawnBy, drawnOver, neverDirect}
+use Rattle.history.specs.Statements.{Fate, quiet, decided, outcome, directDone, onDirect, drawnBy, drawnOver, neverDirect}
 use Rattle.history.proofs.Relation.Lists.{among-append}
 use Rattle.history.proofs.Relation.PlainLaws as PlainLaws
 use Rattle.history.proofs.Relation.PlainAnswers.{sync-cases, direct-cases}
@@ -42,12 +42,12 @@ outcome-at (decided G false all) S T x e = e
 module _ (geo : Geometry) where
   -- a call that is no direct write to x that is done
   abbrev Other : ℕ → Call → World → Type 0
-  Other x c w = directDone geo c w && ofDirect geo c (λ e. eqb (e .address) x) false ≡ false
+  Other x c w = directDone geo c w && onDirect geo c (λ e. eqb (e .address) x) false ≡ false
 
   never-here : (x : ℕ) (c : Call) (cs : List Call) (w : World) → neverDirect geo x (c ∷ cs) w ≡ true → Other x c w × (neverDirect geo x cs (next geo c w) ≡ true)
   unfolding neverDirect
   never-here x c cs w h =
-      let p = both (not (directDone geo c w && ofDirect geo c (λ e. eqb (e .address) x) false)) (neverDirect geo x cs (next geo c w)) h in
+      let p = both (not (directDone geo c w && onDirect geo c (λ e. eqb (e .address) x) false)) (neverDirect geo x cs (next geo c w)) h in
       (not-true _ (p .0), p .1)
 
   drawn-other : (x : ℕ) (c : Call) (w : World) (S : Laid) → Other x c w → drawnBy geo c w S .disk x ≡ S .disk x

@@ -590,7 +590,7 @@ module _ (geo : Geometry) (x : ℕ) where
   abbrev photoAt : Call → World → Bool → Bool → Bool → Photo → Photo
   photoAt c w finished full kept p =
       let q = cond (finished && full) noPhoto p in
-      cond kept (cond finished (S.ofDirect geo c (λ e. cond (eqb (e .address) x) (photographed (e .block) (w .plain .S .disk x) q) q) q) q) noPhoto
+      cond kept (cond finished (S.onDirect geo c (λ e. cond (eqb (e .address) x) (photographed (e .block) (w .plain .S .disk x) q) q) q) q) noPhoto
 
   none-taken : (c : Call) (w : World) (p : Photo) → among x (next geo c w .plain .writes) ≡ false → photoBy geo x c w p ≡ noPhoto
   none-taken c w p t = ap (λ (u : Bool). photoAt c w (directDone geo c w) (eqb (w .store .rec .waiting) (geo .direct)) u p) t

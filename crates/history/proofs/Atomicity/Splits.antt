@@ -291,7 +291,7 @@ module _ (geo : Geometry) where
   drawn-groups [] w T = refl
   drawn-groups (c ∷ cs) w T = drawn-groups cs (next geo c w) (S.drawnBy geo c w T) ∙ one (S.directDone geo c w) c
     where
-      one : (t : Bool) (c : Call) → cond t (S.ofDirect geo c (λ e. Plain.drawn e T) T) T .groups ≡ T .groups
+      one : (t : Bool) (c : Call) → cond t (S.onDirect geo c (λ e. Plain.drawn e T) T) T .groups ≡ T .groups
       one false c = refl
       one true (local c) = refl
       one true (direct a b) = refl
