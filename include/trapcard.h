@@ -10,7 +10,8 @@
  *
  * Blocks are saved by transactions: trapcard_put, trapcard_commit, trapcard_sync. A photograph goes straight to its blocks instead,
  * by trapcard_direct. Its writes wait until the next flush, and until then a power loss may tear them; a trapcard_sync of an empty
- * group is a barrier that makes them safe. How a save is found does not depend on them.
+ * group is a barrier that makes them safe. Whether a save is found does not depend on them; a saved block that is written directly
+ * afterwards is a photograph from then on.
  *
  * A buffer is a pointer and a length in bytes, of any alignment. A buffer that is const here is never written. The proofs
  * assume of the caller: pointers that are not null, with true lengths, also where a length is 0; buffers that do not overlap
@@ -115,7 +116,7 @@ extern "C" {
  * Every byte is left.
  *
  * 13 does not protect every card with saves. After trapcard_apply they are in the home blocks, the header's count is 0, and a format
- * wipes them out; likewise a save onto an empty log whose header still waits. A card that is lent with another length than it was
+ * wipes them out; likewise a save onto an empty log whose header still waits, and photographs, which are in no log. A card that is lent with another length than it was
  * formatted with is foreign, as is one of format 1, and a format takes it. Whoever wants to know what a card holds lends it with the
  * length that it was formatted with and recovers it first; TRAPCARD_ERR_FOREIGN does not say that a card is empty.
  *
@@ -187,10 +188,11 @@ uint32_t trapcard_commit(uint8_t *record, size_t record_len, const uint8_t *sett
 uint32_t trapcard_abandon(uint8_t *record, size_t record_len, const uint8_t *settled, size_t settled_len,
                           const uint8_t *waiting, size_t waiting_len, const uint8_t *work, size_t work_len);
 
-/* Saves the group as one: after 0 it is on the card, and every later recovery finds it. Returns 0, 1 to 4 or 12. If power ends in
- * the call, or at any moment before it returns, the next recovery finds all of the group or none of it. Both hold checksum
- * collisions apart. The save number is one more after 0. An empty group saves nothing and leaves the number: such a sync is a
- * barrier, one flush if direct writes wait, and no order if none does. *orders: the orders carried out. */
+/* Saves the group as one: after 0 it is on the card, and every later recovery finds its blocks, until a later save or a direct write
+ * replaces them. Returns 0, 1 to 4 or 12. If power ends in the call, or at any moment before it returns, the next recovery finds all
+ * of the group or none of it. Both hold checksum collisions apart. The save number is one more after 0. An empty group saves nothing
+ * and leaves the number: such a sync is a barrier, one flush if direct writes wait, and no order if none does. *orders: the orders
+ * carried out. */
 uint32_t trapcard_sync(uint8_t *record, size_t record_len, uint8_t *settled, size_t settled_len, uint8_t *waiting,
                        size_t waiting_len, const uint8_t *work, size_t work_len, uint32_t *orders);
 
