@@ -20,16 +20,22 @@ enum { SYNC_WRITES = TRAPCARD_SLOTS + 2, MARKS = SYNC_WRITES * TRAPCARD_BLOCK, A
 static const uint8_t all_kept[ALL_MARKS] = {[0 ... ALL_MARKS - 1] = 1};
 static uint8_t others_torn[MARKS];
 
-/* Lists of 32: from open, group, log, waiting writes, home, and from each in turn. */
-enum { MIXED = 5, LISTS = 6 };
+/* Lists of 32: from open, group, log, home, waiting writes, from each of the first four in turn, and from each of all five. */
+enum { MIXED = 5, MIXED_WAITING = 6, LISTS = 7 };
 static uint8_t lists[LISTS][4 * TRAPCARD_LIST];
+
+/* Where the i-th address of a list is from. */
+static uint32_t origin(uint32_t list, uint32_t i)
+{
+    static const uint32_t from[MIXED] = {OPEN_FROM, GROUP_FROM, LOG_FROM, HOME, WAITING_FROM};
+    return from[list == MIXED ? i % 4 : list == MIXED_WAITING ? i % 5 : list];
+}
 
 static void fill_lists(void)
 {
-    static const uint32_t from[MIXED] = {OPEN_FROM, GROUP_FROM, LOG_FROM, WAITING_FROM, HOME};
     for (uint32_t k = 0; k < LISTS; k++)
         for (uint32_t i = 0; i < TRAPCARD_LIST; i++) {
-            uint32_t address = walk(from[k == MIXED ? i % MIXED : k] + i);
+            uint32_t address = walk(origin(k, i) + i);
             for (uint32_t j = 0; j < 4; j++)
                 lists[k][4 * i + j] = (uint8_t)(address >> (8 * j));
         }
@@ -224,12 +230,12 @@ static void list_log(struct side *s)
     get_list(s, 2, TRAPCARD_LIST);
 }
 
-static void list_waiting(struct side *s)
+static void list_home(struct side *s)
 {
     get_list(s, 3, TRAPCARD_LIST);
 }
 
-static void list_home(struct side *s)
+static void list_waiting(struct side *s)
 {
     get_list(s, 4, TRAPCARD_LIST);
 }
@@ -237,6 +243,11 @@ static void list_home(struct side *s)
 static void list_mixed(struct side *s)
 {
     get_list(s, MIXED, TRAPCARD_LIST);
+}
+
+static void list_mixed_waiting(struct side *s)
+{
+    get_list(s, MIXED_WAITING, TRAPCARD_LIST);
 }
 
 static void list_one(struct side *s)
@@ -331,7 +342,8 @@ const struct task tasks[] = {
     {"list of 32 from log, lists full", 32, 32, 32, 0, 0, OPEN, list_log, NOTHING},
     {"list of 32 from home, lists full", 32, 32, 32, 0, 0, OPEN, list_home, NOTHING},
     {"list of 32 from waiting writes, lists full, 32 wait", 32, 32, 32, 0, 32, OPEN, list_waiting, NOTHING},
-    {"list of 32 from everywhere, lists full, 32 wait", 32, 32, 32, 0, 32, OPEN, list_mixed, NOTHING},
+    {"list of 32 from everywhere, lists full", 32, 32, 32, 0, 0, OPEN, list_mixed, NOTHING},
+    {"list of 32 from everywhere, lists full, 32 wait", 32, 32, 32, 0, 32, OPEN, list_mixed_waiting, NOTHING},
     {"list of 32 from home, lists empty", 0, 0, 0, 0, 0, OPEN, list_home, NOTHING},
     {"commit of 1", 1, 0, 0, 0, 0, OPEN, commit, RECORD},
     {"commit of 32, joining", 32, 0, 0, 0, 0, OPEN, commit, RECORD},

@@ -1,4 +1,6 @@
 """The coverage table of the lockstep: each cause by each call that has it, and the cases that a run must meet. A hole fails."""
+from itertools import zip_longest
+
 from model import COSTS
 
 TWELVE = ("format", "power", "put", "direct", "get", "get_list", "commit", "abandon", "sync", "apply", "recover", "cut")
@@ -202,9 +204,9 @@ def report(seen):
     yield from table(seen, "first of two, asked", FIRST_ASKED, NUMBERS)
     yield "cases"
     half = -(-len(CASES) // 2)
-    for left, right in zip(CASES[:half], CASES[half:] + ("",)):
-        cells = ["%-63s%7d" % (case, seen["cases", case, ""]) for case in (left, right) if case]
-        yield "  " + "   ".join(cells)
+    halves = CASES[:half], CASES[half:]
+    columns = [[case.ljust(max(map(len, cases))) + "%7d" % seen["cases", case, ""] for case in cases] for cases in halves]
+    yield from ("  " + "   ".join(filter(None, cells)) for cells in zip_longest(*columns))
 
 
 def holes(seen):

@@ -39,6 +39,7 @@ def address(chance, blocks):
 
 
 def few_addresses(blocks):
+    """The first data blocks, and the last."""
     return [*range(FIRST_DATA, min(blocks, FIRST_DATA + 40)), blocks - 1]
 
 
