@@ -1,4 +1,6 @@
 // Flat bytes seen as cells of one size, little-endian numbers, entries, and the copier.
+#![tactic(auto)]
+
 pub mod bytes;
 pub mod entry;
 pub mod number;

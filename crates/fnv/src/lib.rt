@@ -1,4 +1,6 @@
 // FNV-1a 64, with a product of its own that wraps.
+#![tactic(auto)]
+
 mod product;
 
 ghost use Rattle.std.specs.Prelude.{◌≡◌, ◌*◌, ◌%◌, ◌^◌};

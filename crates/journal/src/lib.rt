@@ -1,4 +1,6 @@
 // The checksummed write-ahead log on the card.
+#![tactic(auto)]
+
 pub mod append;
 pub mod checkpoint;
 pub mod choice;

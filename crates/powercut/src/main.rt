@@ -10,6 +10,8 @@
 // differ it is `?`.
 //
 // The last line says whether there is a `?`. The file stdout holds the map; docs/powercut.py draws it.
+#![tactic(auto)]
+
 mod buffers;
 mod contents;
 mod loss;

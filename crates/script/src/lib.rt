@@ -1,4 +1,6 @@
 // The script: lines of bytes, the commands that they say, and the lines that answer them.
+#![tactic(auto)]
+
 pub mod command;
 mod field;
 mod number;

@@ -1,4 +1,6 @@
 // Transactions with group commit over the journal.
+#![tactic(auto)]
+
 pub mod abandon;
 pub mod apply;
 mod check;

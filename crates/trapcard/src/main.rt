@@ -1,4 +1,6 @@
 // Reads a script from standard input and prints its transcript.
+#![tactic(auto)]
+
 mod output;
 mod sizes;
 mod turn;

@@ -1,5 +1,7 @@
 // Published test vectors of FNV-1a 64, from Landon Noll's suite. Writes a line for each: the sum in
 // hex and the bytes. The file stdout holds the published sums.
+#![tactic(auto)]
+
 use libc::STDOUT_FILENO;
 
 // The printable bytes: from the space, up to the delete.
