@@ -42,6 +42,7 @@ all-up_to P f zero h = tt
 all-up_to P f (suc n) h = all_append P (up_to f n) (f n ∷ []) (all-up_to P f n (λ i p. h i (omega arith))) (h n (omega arith), tt)
 
 pub up_to-all : {A : Type 0} (P : A → Type 0) (f : ℕ → A) (n : ℕ) → All P (up_to f n) → (i : ℕ) → i < n → P (f i)
+up_to-all {A = A} P f zero p i h = elim h [ ]
 up_to-all P f (suc n) p i h = go (native.Mathlib.Decide.ℕ_discrete i n) (λ q. up_to-all P f n (all_left P (up_to f n) (f n ∷ []) p) i q)
   where
     go : Dec (i ≡ n) → (i < n → P (f i)) → P (f i)

@@ -155,6 +155,7 @@ module _ (geo : Geometry) (N : ℕ) (s : List ℕ) (n h c : ℕ) (G : List Entry
 
 slots_laid : (geo : Geometry) (n : ℕ) (G : List Entry) (d : Disk) (i : ℕ) (x : Entry) → i < length G → overlay (slot_blocks geo n G) d (slot_at geo (n + i)) ≡ (get_or G i x).block
 unfolding slot_blocks overlay
+slots_laid geo n [] d i x h = elim h [ ]
 slots_laid geo n (e ∷ G) d zero x h =
     rw (native.Mathlib.Nat.add-zero)
     (overlay_other (slot_blocks geo (suc n) G) (lay (slot_block geo n e) d) (slot_at geo n) (all_map (λ f. slot_at geo (suc n) ≤ f.address) (λ f. slot_at geo n ≢ f.address) (λ f q z. omega arith) (slot_blocks geo (suc n) G) (slots_from geo (slot_at geo (suc n)) (suc n) G (omega arith)))

@@ -8,6 +8,7 @@ table_from f i zero = []
 table_from f i (suc n) = f i ∷ table_from f (suc i) n
 
 entry : (f : ℕ → ℕ) (i n k : ℕ) → k < n → get_or (table_from f i n) k 0 ≡ f (i + k)
+entry f i zero k l = elim l [ ]
 entry f i (suc n) zero l = ap f (sym (add-zero i))
 entry f i (suc n) (suc k) l = entry f (suc i) n k (omega arith) ∙ ap f (suc-add i k ∙ sym (add-suc i k))
 

@@ -125,6 +125,7 @@ describe_byte old n es j = tailed_byte old n es (replicate block_bytes 0) j
 address-at : (es : List Entry) (i : ℕ) (d : Entry) (rest : List ℕ) → i < length es
     → take 4 (drop (4 * i) (address_bytes es ++ rest)) ≡ le 4 (get_or es i d).address
 unfolding address_bytes
+address-at [] i d rest h = elim h [ ]
 address-at (e ∷ es) zero d rest h =
     rw (append_assoc (le 4 e.address) (address_bytes es) rest) (take_at (le 4 e.address) (address_bytes es ++ rest) 4 (length-le 4 e.address))
 address-at (e ∷ es) (suc i) d rest h =

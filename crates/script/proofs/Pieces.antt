@@ -44,6 +44,7 @@ fields-one (b ∷ s) h = go (eqb b tab) h (λ p. fields-one s p)
 -- a tab: the field before it, and those behind it
 pub fields_more : (s : List ℕ) → to_tab s < length s → fields s ≡ take (to_tab s) s ∷ fields (drop (suc (to_tab s)) s)
 unfolding to_tab fields push
+fields_more [] h = elim h [ ]
 fields_more (b ∷ s) h = go (eqb b tab) h (λ p. fields_more s p)
   where
     go : (t : Bool) → cond t 0 (suc (to_tab s)) < suc (length s)

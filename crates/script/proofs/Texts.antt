@@ -44,6 +44,7 @@ digits_place zero n h l = absurd (omega arith)
 digits_place (suc i) n h l = omega arith
 
 pub digits_fewer : (i n : ℕ) → 0 < i → n < 10 ^ i → n / 10 < 10 ^ (i - 1)
+digits_fewer zero n h l = elim h [ ]
 digits_fewer (suc i) n h l =
     let e : suc i - 1 ≡ i = omega arith in
     let p : n < 10 ^ i * 10 = rw (pow-suc) at l in
@@ -51,6 +52,7 @@ digits_fewer (suc i) n h l =
 
 pub digits_turn : (i n : ℕ) (b : List ℕ) → 0 < i → 0 < n → i ≤ length b
     → digits (i - 1) (n / 10) ++ drop (i - 1) (set b (i - 1) (zero_digit + n % 10)) ≡ digits i n ++ drop i b
+digits_turn zero n b p h l = elim p [ ]
 digits_turn (suc i) n b p h l =
     let e : suc i - 1 ≡ i = omega arith in
     rw e (digits-next i n b h (omega arith))

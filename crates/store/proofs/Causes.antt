@@ -89,6 +89,7 @@ other false b e p = absurd (false≢true p)
 -- no number below n passes
 pub some_none : (f : ℕ → Bool) (n : ℕ) → some f n ≡ false → (i : ℕ) → i < n → f i ≡ false
 unfolding some
+some_none f zero e i h = elim h [ ]
 some_none f (suc n) e i h = go (ℕ_discrete i n) (λ q. some_none f n (neither _ _ e).0 i q)
   where
     go : Dec (i ≡ n) → (i < n → f i ≡ false) → f i ≡ false

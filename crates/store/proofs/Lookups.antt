@@ -28,6 +28,7 @@ find_at work from n a i e = last_at (λ j. (listed work from j).address) a n i e
 -- an address that is there is found
 pub last_some : (g : ℕ → ℕ) (a n i : ℕ) → i < n → g i ≡ a → is_found (last_of g a n) ≡ true
 unfolding last_of
+last_some g a zero i h e = elim h [ ]
 last_some g a (suc n) i h e = go (eqb (g n) a) refl (last_some g a n i)
   where
     go : (t : Bool) → eqb (g n) a ≡ t → (i < n → g i ≡ a → is_found (last_of g a n) ≡ true) → is_found (cond t (At n) (last_of g a n)) ≡ true

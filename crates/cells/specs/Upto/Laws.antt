@@ -12,6 +12,7 @@ length-up_to f zero = refl
 length-up_to f (suc n) = length-append (up_to f n) (f n ∷ []) ∙ ap (λ (k : ℕ). k + 1) (length-up_to f n) ∙ add-one n
 
 pub get_or-up_to : {A : Type 0} (f : ℕ → A) (n i : ℕ) (d : A) → i < n → get_or (up_to f n) i d ≡ f i
+get_or-up_to {A = A} f zero i d h = elim h [ ]
 get_or-up_to {A} f (suc n) i d h = go (ℕ_discrete i n) (λ p. get_or-up_to f n i d p)
   where
     go : Dec (i ≡ n) → (i < n → get_or (up_to f n) i d ≡ f i) → get_or (up_to f n ++ (f n ∷ [])) i d ≡ f i
@@ -57,6 +58,7 @@ length-joined f k (suc n) h = length-append (joined f n) (f n) ∙ ap₂ (λ (x 
 
 -- the i-th of them lies at k * i
 pub joined_part : {A : Type 0} (f : ℕ → List A) (k n i : ℕ) → ((j : ℕ) → j < n → length (f j) ≡ k) → i < n → take k (drop (k * i) (joined f n)) ≡ f i
+joined_part {A = A} f k zero i h less = elim less [ ]
 joined_part {A} f k (suc n) i h less = go (ℕ_discrete i n) (λ p. joined_part f k n i (λ j q. h j (omega arith)) p)
   where
     front : length (joined f n) ≡ k * n
