@@ -346,7 +346,7 @@ module _ (geo : Geometry) where
           }
 
       cuts : Throughout At (queue (card_in st)) plan st.settled 0
-      cuts = behind-front _ y.cuts (λ j k h e. go j k h e (dec_le j (length G + geo.descriptors)))
+      cuts = behind-front At y.cuts (λ j k h e. go j k h e (dec_le j (length G + geo.descriptors)))
         where
           go : (j k : ℕ) → j ≤ length W → k ≡ takes y.front + j → Dec (j ≤ length G + geo.descriptors) → At s (y.q ++ take j W) k
           go j k h e (yes p) = cuts_before j k p e
