@@ -10,14 +10,14 @@ use crate::settled::{settle, settle_kept};
 use cells::{BLOCK, entry};
 
 // How many writes wait, and how many orders still happen.
-#[derive(Drop)]
+#[derive(Clone, Copy)]
 pub struct Queue {
     pub waiting: u32,
     pub power: u32,
 }
 
 // What an order came to: whether it happened, and the queue after it.
-#[derive(Drop)]
+#[derive(Clone, Copy)]
 pub struct Ordered {
     pub happened: bool,
     pub queue: Queue,

@@ -8,7 +8,7 @@ use journal::choice::{Choice, choose};
 use journal::size::wrong_size;
 
 // A card that was read: the refusal, or 0; and where it is 0, N and the count of the list taken.
-#[derive(Drop)]
+#[derive(Clone, Copy)]
 pub struct Reading {
     pub number: u32,
     pub blocks: u32,

@@ -21,7 +21,7 @@ use cells::number::write_u32;
 use cells::{ADDRESS, BLOCK, entry};
 
 // The log as it stands: the card's blocks, how many entries, their sum, and the save number of the header to come.
-#[derive(Drop)]
+#[derive(Clone, Copy)]
 pub struct Log {
     pub blocks: u32,
     pub count: u32,
@@ -39,14 +39,14 @@ impl Log {
 }
 
 // Entries in work memory: count of them, from place `from` on.
-#[derive(Drop)]
+#[derive(Clone, Copy)]
 pub struct Group {
     pub from: u32,
     pub count: u32,
 }
 
 // What an append came to: whether all its orders happened, the queue after it, and the sum of the longer log.
-#[derive(Drop)]
+#[derive(Clone, Copy)]
 pub struct Appended {
     pub done: bool,
     pub queue: Queue,

@@ -18,7 +18,7 @@ pub const FORMAT: u32 = 2;
 // The largest save number.
 pub const LAST_SAVE: u64 = 18446744073709551615;
 
-#[derive(Drop)]
+#[derive(Clone, Copy)]
 pub struct Header {
     pub format: u32,
     pub blocks: u32,

@@ -8,7 +8,7 @@ ghost use Rattle.journal.specs.Lookup.{last_slot};
 use crate::log::slot_address;
 
 // What a lookup finds.
-#[derive(Drop)]
+#[derive(Clone, Copy)]
 pub enum Found {
     At(u32),
     Absent,

@@ -6,7 +6,7 @@ ghost use Rattle.linkage.specs.Step.{save_of, asked_on};
 use firmware::costs::{trapcard_apply_cost, trapcard_recover_cost, trapcard_sync_cost};
 
 // The inquiries, by the C function of each.
-#[derive(Drop)]
+#[derive(Clone, Copy)]
 pub enum Inquiry {
     SyncCost,
     ApplyCost,

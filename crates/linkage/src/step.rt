@@ -10,7 +10,7 @@ use firmware::orders::{trapcard_apply, trapcard_direct, trapcard_recover, trapca
 use firmware::reads::{trapcard_get, trapcard_get_list};
 
 // The calls of a list; the block of a put or a direct write, cut's marks and the two buffers of a list of gets stand beside it.
-#[derive(Drop)]
+#[derive(Clone, Copy)]
 pub enum Code {
     Power(u32),
     Put(u32),

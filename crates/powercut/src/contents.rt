@@ -111,7 +111,7 @@ fn home(s: &mut Settled, w: &mut Waiting, k: &mut Work) -> Record {
 }
 
 // A card with so many saves in its log, and one more in its group.
-#[derive(Drop)]
+#[derive(Clone, Copy)]
 pub(crate) struct Scenario {
     pub rec: Record,
     pub saves: u32,

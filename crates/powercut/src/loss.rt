@@ -15,7 +15,7 @@ use journal::PLACES;
 use store::record::Record;
 
 // The orders that happen before it, and the number of the try of its cut.
-#[derive(Drop)]
+#[derive(Clone, Copy)]
 pub(crate) struct Loss {
     pub orders: u32,
     pub attempt: u32,

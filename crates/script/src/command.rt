@@ -14,7 +14,7 @@ const MOST: u32 = 4294967295;
 const MOST_BYTE: u32 = 255;
 
 // A cut's digits stay in the line, behind its word and a tab. The type is public for proofs above: no public function has it.
-#[derive(Drop)]
+#[derive(Clone, Copy)]
 pub enum Command {
     Format,
     Power(u32),

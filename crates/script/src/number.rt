@@ -8,7 +8,7 @@ use crate::DIGITS;
 const BASE: u64 = 10;
 
 // A field as a number.
-#[derive(Drop)]
+#[derive(Clone, Copy)]
 pub(crate) enum Number {
     Of(u32),
     Not,

@@ -27,7 +27,7 @@ const DIGITS_AT: usize = 4;
 const MARKS: usize = BLOCK * (KEPT - DIGITS_AT);
 
 // The answer, the third number and the record.
-#[derive(Drop)]
+#[derive(Clone, Copy)]
 pub(crate) struct Done {
     pub number: u32,
     pub third: u32,

@@ -16,7 +16,7 @@ use card::queue::Queue;
 use store::record::{CLOSED, Record};
 
 // The record, how many bytes of a line are kept, and how many of the output's buffer are to be printed.
-#[derive(Drop)]
+#[derive(Clone, Copy)]
 pub struct Session {
     pub rec: Record,
     pub len: usize,

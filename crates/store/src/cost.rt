@@ -11,7 +11,7 @@ use journal::choice::{Choice, choose};
 
 // The number that refuses the call, or 0; its orders, whether an apply comes first, the most writes that wait at any moment of it,
 // earlier ones included, and whether the power count reaches.
-#[derive(Drop)]
+#[derive(Clone, Copy)]
 pub struct Cost {
     pub number: u32,
     pub orders: u32,

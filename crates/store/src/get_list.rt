@@ -28,7 +28,7 @@ use journal::wanted::{BUCKETS, chain, count, walk, wanted};
 const MOST_WANTED: usize = 32;
 
 // What a list is answered: the number, and the slots read.
-#[derive(Drop)]
+#[derive(Clone, Copy)]
 pub struct Listed {
     pub number: u32,
     pub slots: u32,

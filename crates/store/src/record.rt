@@ -15,7 +15,7 @@ pub const DOWN: u32 = 2;
 // The power count of a fresh card.
 pub const POWER: u32 = 1000000;
 
-#[derive(Drop)]
+#[derive(Clone, Copy)]
 pub struct Record {
     pub mode: u32,
     pub blocks: u32,
@@ -29,7 +29,7 @@ pub struct Record {
 }
 
 // What a call hands back: its number, 0 for done, and the record.
-#[derive(Drop)]
+#[derive(Clone, Copy)]
 pub struct Answer {
     pub number: u32,
     pub rec: Record,

@@ -6,7 +6,7 @@ use crate::record::{DOWN, Record};
 use card::queue::Ordered;
 
 // The number, the orders carried out, and the record.
-#[derive(Drop)]
+#[derive(Clone, Copy)]
 pub struct Saved {
     pub number: u32,
     pub orders: u32,

@@ -60,7 +60,7 @@ fn close(
 }
 
 // The last turn, and the write of what a last line printed, or of the last turn where the input did not end.
-#[derive(Drop)]
+#[derive(Clone, Copy)]
 struct Ending {
     last: Turn,
     sent: Sent,

@@ -6,7 +6,7 @@ ghost use Rattle.script.specs.Steps.{printed_bytes};
 use script::PRINTED;
 
 // What was handed over: to which descriptor, how many bytes of the output's buffer, and whether all were written.
-#[derive(Drop)]
+#[derive(Clone, Copy)]
 pub(crate) struct Sent {
     pub to: i32,
     pub count: usize,

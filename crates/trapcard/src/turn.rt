@@ -15,7 +15,7 @@ use script::{FED, KEPT, PRINTED};
 pub(crate) const MOST_READS: u64 = u64::MAX;
 
 // What a read from a descriptor answered, how many bytes it put in front of the buffer, and whether a signal interrupted it.
-#[derive(Drop)]
+#[derive(Clone, Copy)]
 pub(crate) struct Received {
     pub from: i32,
     pub got: isize,
@@ -24,7 +24,7 @@ pub(crate) struct Received {
 }
 
 // The session then, the read, the write, whether there is to be another turn, and the reads so far.
-#[derive(Drop)]
+#[derive(Clone, Copy)]
 pub(crate) struct Turn {
     pub session: Session,
     pub received: Received,
