@@ -1,0 +1,81 @@
+-- `journal::append::append` meets its contract.
+use Prim.Native.Nat.{ℕ, ◌+◌}
+use mathlib.Core.Path.{◌≡◌, ap, ap₂, sym, ◌∙◌}
+use mathlib.Core.List.{List, [], ◌∷◌, ◌++◌, map}
+use native.Mathlib.Omega.{arith}
+use borrow.Author.Tests.{not-true, not-false}
+use lib.ListN.{length, length-append}
+use Rattle.cells.specs.Entry.{block_bytes, Entry}
+use Rattle.card.specs.Card.{Order, write, flush, run, block_at, blocks_in}
+use Rattle.card.specs.CodeQueue.{card_of}
+use Rattle.journal.specs.Geometry.{trap}
+use Rattle.journal.specs.Geometry.Laws.{trap-descriptors}
+use Rattle.journal.specs.declared.append.Log.{Log}
+use Rattle.journal.specs.declared.header.Header.{Header}
+use Rattle.journal.specs.Layout.{descriptor_at}
+use Rattle.journal.specs.Header.{header}
+use Rattle.journal.specs.Log.{entries_from, sum_of}
+use Rattle.journal.specs.Orders.{header_write, slot_writes, append_orders}
+use Rattle.journal.proofs.Logs.{length-block_at, length_from, from_whole}
+use Rattle.journal.proofs.Descriptors.{length-describe}
+use Rattle.journal.proofs.OrderLists.{one_descriptor, one-descriptor, length-slot_writes, append_split, list_below}
+use Rattle.journal.proofs.Phases.{stopped, resumed}
+use Rattle.journal.proofs.append.append.Goals as goal
+
+-- the two phases
+abbrev listed : List ℕ → ℕ → List Entry → List Order
+listed s n es = slot_writes trap n es ++ (write (one_descriptor s n es) ∷ [])
+
+abbrev last : Log → List Entry → List Order
+last l es = header_write (header l.blocks l.count l.sum (l.count + length es) (sum_of l.sum es) l.save) ∷ flush ∷ []
+
+split : (l : Log) (s : List ℕ) (es : List Entry) → append_orders trap l.blocks s l.count l.sum l.save es ≡ listed s l.count es ++ last l es
+split l s es =
+    append_split trap l.blocks s l.count l.sum l.save es
+    ∙ ap (λ (ds : List Entry). (slot_writes trap l.count es ++ map write ds) ++ last l es) (one-descriptor s l.count es)
+
+size : (s : List ℕ) (n : ℕ) (es : List Entry) (m : ℕ) → length es ≡ m → length (listed s n es) ≡ m + 1
+size s n es m e = rw (length-append, length-slot_writes trap, e)
+
+pub returns-then-not-w : goal.returns-then-not-w
+returns-then-not-w c =
+    let a = c.args in
+    let es = entries_from a.work.now a.group.from a.group.count in
+    let e = not-true _ c.if-not-w.true in
+    let o = stopped _ (listed a.settled.now a.log.count es) (last a.log es) (split a.log a.settled.now es) (a.group.count + 1) 2 (a.group.count + 3) (size a.settled.now a.log.count es a.group.count (length_from a.work.now a.group.from a.group.count)) (omega arith)
+    (card_of a.settled.now a.waiting.now a.queue) _ (c.write_list-w.ensures.by_index a.settled.now) _ c.write_list-w.ensures.happened_value e in
+    record {
+      done_value = sym e ∙ o.0;
+      queue_after = o.1;
+      sum_value = c.sum_group-sum.ensures;
+    }
+
+pub overflow_add-log : goal.overflow_add-log
+overflow_add-log c = omega (arith, trap.addressed)
+
+pub order-o-requires : goal.order-o-requires
+order-o-requires c =
+    let a = c.args in
+    let es = entries_from a.work.now a.group.from a.group.count in
+    let m : length es ≡ a.group.count = length_from a.work.now a.group.from a.group.count in
+    let old : length (block_at a.settled.now descriptor_at) ≡ block_bytes = length-block_at a.settled.now descriptor_at (omega arith) in record {
+      settled_nonzero = omega arith;
+      waiting_lt_most_places = omega arith;
+      entry_bytes_in_bounds = omega arith;
+      below = list_below trap (blocks_in a.settled.now) a.settled.now a.waiting.now a.queue c.write_list-w.new.waiting c.write_list-w.result.queue a.log.count es (one_descriptor a.settled.now a.log.count es ∷ []) (c.write_list-w.ensures.by_index a.settled.now) (omega arith) (from_whole a.work.now a.group.from a.group.count (omega arith)) (length-describe (block_at a.settled.now descriptor_at) a.log.count es, tt) (omega (arith, trap-descriptors), tt) (omega arith) (omega arith) c.requires.below;
+    }
+
+pub returns : goal.returns
+returns c =
+    let a = c.args in
+    let es = entries_from a.work.now a.group.from a.group.count in
+    let new : c.header-h.result ≡ header a.log.blocks a.log.count a.log.sum (a.log.count + length es) (sum_of a.log.sum es) a.log.save =
+    c.header-h.ensures ∙ ap₂ (λ (k x : ℕ). header a.log.blocks a.log.count a.log.sum (a.log.count + k) x a.log.save) (sym (length_from a.work.now a.group.from a.group.count)) c.sum_group-sum.ensures in
+    let p = resumed _ (listed a.settled.now a.log.count es) (last a.log es) (split a.log a.settled.now es) (a.group.count + 1) 2 (a.group.count + 3) (size a.settled.now a.log.count es a.group.count (length_from a.work.now a.group.from a.group.count)) (omega arith)
+    (card_of a.settled.now a.waiting.now a.queue) _ (c.write_list-w.ensures.by_index a.settled.now) _ c.write_list-w.ensures.happened_value (not-false _ c.if-not-w.false)
+    _ _ (c.order-o.ensures.queue_after ∙ ap (λ (x : Header). run (header_write x ∷ flush ∷ []) (card_of a.settled.now c.write_list-w.new.waiting c.write_list-w.result.queue)) new) c.order-o.ensures.happened_value in
+    record {
+      done_value = p.0;
+      queue_after = p.1;
+      sum_value = c.sum_group-sum.ensures;
+    }
