@@ -1,0 +1,15 @@
+-- `store::lists::find` meets its contract.
+use Prim.Native.Nat.{ℕ, ◌≤◌}
+use mathlib.Core.Path.{◌≡◌, refl, sym, ◌∙◌}
+use mathlib.Core.List.{List}
+use native.Mathlib.Omega.{arith}
+use borrow.Author.Rules.{rules}
+use Rattle.journal.proofs.Lookups.{last_none, last_here, last_below}
+use Rattle.store.specs.Lists.{listed, find}
+use Rattle.store.proofs.lists.find.Given as goal
+
+abbrev pub invariant-loop-i : goal.invariant-loop-i
+invariant-loop-i l = (l.i ≤ l.n) × (find l.work l.from l.i l.a ≡ find l.work l.from l.n l.a)
+
+abbrev pub decreases-loop-i : goal.decreases-loop-i
+decreases-loop-i l = l.i

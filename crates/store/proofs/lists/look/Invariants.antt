@@ -1,0 +1,18 @@
+-- `store::lists::look` meets its contract: the first i were looked at.
+use Prim.Native.Nat.{◌-◌, ◌≤◌}
+use mathlib.Core.Path.{◌≡◌, refl, ◌∙◌}
+use native.Mathlib.Omega.{arith}
+use native.Mathlib.Numerals.{add-one}
+use borrow.Author.Rules.{rules}
+use lib.ListN.{length}
+use Rattle.cells.specs.Upto.Laws.{length-up_to}
+use Rattle.journal.specs.Geometry.{trap}
+use Rattle.journal.specs.CodeWanted.{Met}
+use Rattle.store.specs.Lists.{listed, addresses_of}
+use Rattle.store.proofs.lists.look.Given as goal
+
+abbrev pub invariant-loop-i : goal.invariant-loop-i
+invariant-loop-i l = (l.i ≤ l.n) × (length l.met ≡ length l.initial.met) × Met l.list (addresses_of l.work l.from l.i) l.met
+
+abbrev pub decreases-loop-i : goal.decreases-loop-i
+decreases-loop-i l = l.n - l.i

@@ -1,0 +1,45 @@
+-- `store::record::Record::format` meets its contract.
+use mathlib.Core.Path.{◌≡◌}
+use native.Mathlib.Omega.{arith}
+use lib.ListN.{length, replicate, length-replicate}
+use Rattle.card.specs.Card.{blocks_in}
+use Rattle.journal.specs.Geometry.{trap}
+use Rattle.store.specs.State.{State}
+use Rattle.store.specs.CodeState.{state_of}
+use Rattle.store.specs.Request.{format}
+use Rattle.store.specs.Format.{formatted, format_call}
+use Rattle.store.proofs.Calls.{call_refused, call_done}
+use Rattle.store.proofs.Causes.{SizeFacts, sizes_facts, cause_passes}
+use borrow.Author.Rules.{rules}
+use Rattle.store.proofs.record.Record.format.Goals as goal
+
+pub returns-then-number-ne0 : goal.returns-then-number-ne0
+unfolding format_call
+returns-then-number-ne0 c = rw c.answer.ensures (call_refused _ _ _ _ (c.format_number-number.ensures _) c.if-number-ne0.true)
+
+pub overflow_cast-blocks : goal.overflow_cast-blocks
+overflow_cast-blocks c =
+    let given : State = state_of c.args.self c.args.settled.now c.args.waiting.now c.args.work.now in
+    let sized : SizeFacts trap (given) = let st = given in
+    sizes_facts trap st (cause_passes trap format st c.format_number-number.result (c.format_number-number.ensures _) c.if-number-ne0.false).sizes in
+    let st = given in
+    let told : c.blocks_in-blocks.result ≡ blocks_in st.settled = c.blocks_in-blocks.ensures in
+    let s = sized in
+    omega arith
+
+pub settle_header-requires : goal.settle_header-requires
+settle_header-requires c =
+    let given : State = state_of c.args.self c.args.settled.now c.args.waiting.now c.args.work.now in
+    let sized : SizeFacts trap (given) = let st = given in
+    sizes_facts trap st (cause_passes trap format st c.format_number-number.result (c.format_number-number.ensures _) c.if-number-ne0.false).sizes in
+    let s = sized in
+    let zeros : c.wipe.new.settled ≡ replicate (length c.args.settled.now) 0 = c.wipe.ensures.settled_after in
+    rw (zeros, length-replicate) (omega arith)
+
+pub returns : goal.returns
+unfolding format_call formatted
+returns c =
+    let given : State = state_of c.args.self c.args.settled.now c.args.waiting.now c.args.work.now in
+    let empty : c.wipe.new.waiting ≡ replicate (length (given).waiting) 0 = c.wipe.ensures.waiting_after in
+    rw (c.answer-2.ensures, c.fresh.ensures, c.settle_header.ensures, c.blocks_in-blocks.ensures, c.wipe.ensures.settled_after, empty, c.zero.ensures)
+    (call_done _ _ _ _ (c.format_number-number.ensures _) c.if-number-ne0.false)

@@ -1,0 +1,14 @@
+-- `store::record::Record::get` meets its contract.
+use Rattle.journal.specs.Geometry.{trap}
+use Rattle.store.specs.CodeState.{state_of}
+use Rattle.store.proofs.Places.{get_within}
+use borrow.Author.Rules.{rules}
+use Rattle.store.proofs.record.Record.get.Goals as goal
+
+pub part-requires : goal.part-requires
+part-requires c =
+    let a = c.args in
+    rw c.get_place.ensures (get_within trap a.address (state_of a.self a.settled.now a.waiting.now a.work.now))
+
+pub returns : goal.returns
+returns c = rw (← c.get_place.ensures) c.part.ensures

@@ -1,0 +1,33 @@
+-- `store::record::Record::look_work` meets its contract.
+use native.Mathlib.Omega.{arith}
+use borrow.Author.Rules.{rules}
+use Rattle.journal.specs.Geometry.{trap}
+use Rattle.store.proofs.record.Record.look_work.Goals as goal
+
+pub look-requires : goal.look-requires
+unfolding trap
+look-requires c =
+    record {
+      n_in_bounds = omega arith;
+      n_le_slots = omega arith;
+      last_len = c.requires.1.1.0;
+      list_in_bounds = (omega arith);
+      chained = c.requires.1.1.1.1.0;
+      met = c.requires.1.1.1.1.1.1;
+    }
+
+pub look-requires-2 : goal.look-requires-2
+unfolding trap
+look-requires-2 c =
+    record {
+      n_in_bounds = omega arith;
+      n_le_slots = omega arith;
+      last_len = c.requires.1.1.0;
+      list_in_bounds = (omega arith);
+      chained = c.requires.1.1.1.1.0;
+      met = c.requires.1.1.1.1.1.0;
+    }
+
+pub returns : goal.returns
+unfolding trap
+returns c = (c.look-2.ensures, c.look.ensures)

@@ -1,0 +1,40 @@
+-- `store::record::Record::put` meets its contract.
+use Prim.Native.Nat.{ℕ, ◌<◌}
+use mathlib.Core.Path.{◌≡◌, refl, ap, ◌∙◌}
+use mathlib.Core.Bool.{false, not, ◌&&◌}
+use native.Mathlib.Omega.{arith}
+use borrow.Author.Tests.{eqb-true, leb-false, not-false}
+use lib.Dec.{leb}
+use Rattle.journal.specs.Geometry.{trap}
+use Rattle.journal.specs.declared.lookup.Found.{Found}
+use Rattle.journal.specs.declared.lookup.Found.TheVariants.{Absent}
+use Rattle.store.specs.CodeState.{state_of}
+use Rattle.store.specs.Lists.{open_from, find}
+use Rattle.store.specs.Request.{put}
+use Rattle.store.specs.Causes.{is_found}
+use Rattle.store.specs.Outcomes.{completed}
+use Rattle.store.specs.Put.{put_call}
+use Rattle.store.proofs.Calls.{call_refused, call_done}
+use Rattle.store.proofs.Causes.{cause_passes, passes_sound}
+use borrow.Author.Rules.{rules}
+use Rattle.store.proofs.record.Record.put.Goals as goal
+
+-- a new address has room
+room_put : (f : Found) (n : ℕ) → not (is_found f) && leb trap.slots n ≡ false → f ≡ Absent → n < trap.slots
+room_put f n e absent = leb-false _ _ (rw absent at e)
+
+pub returns-then-number-ne0 : goal.returns-then-number-ne0
+unfolding put_call
+returns-then-number-ne0 c = rw c.answer.ensures (call_refused _ _ _ _ c.put_number-number.ensures c.if-number-ne0.true)
+
+pub put_entry-requires : goal.put_entry-requires
+put_entry-requires c =
+    let a = c.args in
+    let st = state_of a.self a.settled.now a.waiting.now a.work.now in
+    let p = cause_passes trap (put a.address a.block.now) st c.put_number-number.result c.put_number-number.ensures c.if-number-ne0.false in
+    let s = passes_sound trap (put a.address a.block.now) st c.put_number-number.result refl c.put_number-number.ensures c.if-number-ne0.false in
+    (eqb-true _ _ (not-false _ p.block), (omega arith, (omega arith, room_put (find a.work.now open_from a.self.opened a.address) a.self.opened p.own.1.0)))
+
+pub returns : goal.returns
+unfolding put_call
+returns c = rw c.answer-2.ensures (ap completed (c.put_entry.ensures _ _) ∙ call_done _ _ _ _ c.put_number-number.ensures c.if-number-ne0.false)

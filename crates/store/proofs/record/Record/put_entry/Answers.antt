@@ -1,0 +1,47 @@
+-- `store::record::Record::put_entry` meets its contract.
+use Prim.Native.Nat.{◌<◌}
+use mathlib.Core.Path.{◌≡◌, sym, ◌∙◌}
+use native.Mathlib.Omega.{arith}
+use Rattle.journal.specs.Geometry.{trap}
+use Rattle.journal.specs.declared.lookup.Found.{Found}
+use Rattle.journal.specs.declared.lookup.Found.TheVariants.{At, Absent}
+use Rattle.store.specs.Lists.{open_from, find}
+use Rattle.store.proofs.Lookups.{find_at}
+use borrow.Author.Rules.{rules}
+use Rattle.store.proofs.record.Record.put_entry.Goals as goal
+
+pub set-requires : goal.set-requires
+set-requires c =
+    let lookup : Found = find c.args.work.now open_from c.args.self.opened c.args.address in
+    let missing : lookup ≡ Absent = sym c.find.ensures ∙ c.enum_told-1.given.1 in
+    let less : c.args.self.opened < trap.slots = c.requires.1.1.1 (missing) in
+    record {
+      entry_bytes_in_bounds = omega arith;
+      block_len = c.requires.0;
+    }
+
+pub overflow_add-self : goal.overflow_add-self
+unfolding trap
+overflow_add-self c = search rules
+
+pub returns-in_default : goal.returns-in_default
+returns-in_default c =
+    let lookup : Found = find c.args.work.now open_from c.args.self.opened c.args.address in
+    let missing : lookup ≡ Absent = sym c.find.ensures ∙ c.enum_told-1.given.1 in
+    λ s w. rw (c.with_opened.ensures, c.set.ensures, missing)
+
+pub set-requires-2 : goal.set-requires-2
+set-requires-2 c =
+    let lookup : Found = find c.args.work.now open_from c.args.self.opened c.args.address in
+    let found : lookup ≡ At c.i-1.given.0.0 = sym c.find.ensures ∙ c.i-1.given.1 in
+    let inside = find_at c.args.work.now open_from c.args.self.opened c.args.address c.i-1.given.0.0 (found) in
+    record {
+      entry_bytes_in_bounds = omega arith;
+      block_len = c.requires.0;
+    }
+
+pub returns : goal.returns
+returns c =
+    let lookup : Found = find c.args.work.now open_from c.args.self.opened c.args.address in
+    let found : lookup ≡ At c.i-1.given.0.0 = sym c.find.ensures ∙ c.i-1.given.1 in
+    λ s w. rw (c.set-2.ensures, found)

@@ -1,0 +1,44 @@
+-- `store::refusals::newcomers` meets its contract.
+use Prim.Native.Nat.{◌-◌, ◌≤◌}
+use mathlib.Core.Path.{◌≡◌, refl, sym, ◌∙◌}
+use mathlib.Core.Bool.{true, false}
+use mathlib.Core.Logic.{⊎_elim}
+use native.Mathlib.Omega.{arith}
+use borrow.Author.Tests.{not-true, not-false}
+use Rattle.journal.specs.Geometry.{trap}
+use Rattle.store.specs.Lists.{open_from, group_from, listed, find}
+use Rattle.store.specs.Causes.{is_found, newcomers}
+use Rattle.store.proofs.Commits.{newcomers_more}
+use Rattle.store.proofs.refusals.newcomers.Goals as goal
+
+pub loop-i-init : goal.loop-i-init
+unfolding newcomers
+loop-i-init c = (omega arith, refl, omega arith)
+
+pub holds-requires : goal.holds-requires
+unfolding trap
+holds-requires c = omega arith
+
+pub loop-i-preserved : goal.loop-i-preserved
+unfolding trap
+loop-i-preserved c =
+    let told : let a = c.args in
+    is_found (find a.work.now (group_from trap) a.g (listed a.work.now open_from c.loop-i.i).address) ≡ c.holds.result = rw (← c.address.ensures) (sym c.holds.ensures) in
+    let l = c.loop-i in
+    let a = c.args in
+    let more = newcomers_more trap a.work.now a.g l.i in
+    ⊎_elim
+    (λ w.
+    let new : is_found (find a.work.now (group_from trap) a.g (listed a.work.now open_from l.i).address) ≡ false = told ∙ not-true _ w.0.taken in
+    let one = rw new at more in
+    omega (arith, w.1))
+    (λ w.
+    let old : is_found (find a.work.now (group_from trap) a.g (listed a.work.now open_from l.i).address) ≡ true = told ∙ not-false _ w.0.left in
+    let none = rw old at more in
+    omega (arith, w.1))
+    c.if-not-holds.branch
+
+pub returns : goal.returns
+returns c =
+    let all : c.loop-i.i ≡ c.args.n = omega arith in
+    (rw (← all) c.loop-i.invariant.1, omega arith)

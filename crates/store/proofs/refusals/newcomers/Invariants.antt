@@ -1,0 +1,18 @@
+-- `store::refusals::newcomers` meets its contract.
+use Prim.Native.Nat.{◌-◌, ◌≤◌}
+use mathlib.Core.Path.{◌≡◌, refl, sym, ◌∙◌}
+use mathlib.Core.Bool.{true, false}
+use mathlib.Core.Logic.{⊎_elim}
+use native.Mathlib.Omega.{arith}
+use borrow.Author.Tests.{not-true, not-false}
+use Rattle.journal.specs.Geometry.{trap}
+use Rattle.store.specs.Lists.{open_from, group_from, listed, find}
+use Rattle.store.specs.Causes.{is_found, newcomers}
+use Rattle.store.proofs.Commits.{newcomers_more}
+use Rattle.store.proofs.refusals.newcomers.Given as goal
+
+abbrev pub invariant-loop-i : goal.invariant-loop-i
+invariant-loop-i l = (l.i ≤ l.n) × (l.count ≡ newcomers trap l.work l.g l.i) × (l.count ≤ l.i)
+
+abbrev pub decreases-loop-i : goal.decreases-loop-i
+decreases-loop-i l = l.n - l.i
