@@ -18,7 +18,8 @@ find-requires c = search rules
 pub copy_entry-requires : goal.copy_entry-requires
 unfolding trap
 copy_entry-requires c =
-    let missing : lookup c ≡ Absent = rw (← c.address-a.ensures) (sym c.find.ensures ∙ c.enum_told-1.given.1) in
+    let lookup : Found = find c.args.work.now (group_from trap) c.args.g (listed c.args.work.now open_from c.args.i).address in
+    let missing : lookup ≡ Absent = rw (← c.address-a.ensures) (sym c.find.ensures ∙ c.enum_told-1.given.1) in
     let less : c.args.g < trap.slots = c.requires.g_lt_slots (missing) in
     omega arith
 
@@ -28,8 +29,6 @@ overflow_add-result c = search rules
 
 pub returns-in_default : goal.returns-in_default
 unfolding join trap
-
-unfolding trap
 returns-in_default c =
     let lookup : Found = find c.args.work.now (group_from trap) c.args.g (listed c.args.work.now open_from c.args.i).address in
     let missing : lookup ≡ Absent = rw (← c.address-a.ensures) (sym c.find.ensures ∙ c.enum_told-1.given.1) in
@@ -38,15 +37,14 @@ returns-in_default c =
 pub copy_entry-requires-2 : goal.copy_entry-requires-2
 unfolding trap
 copy_entry-requires-2 c =
-    let found : lookup c ≡ At c.j-1.given.0.0 = rw (← c.address-a.ensures) (sym c.find.ensures ∙ c.j-1.given.1) in
+    let lookup : Found = find c.args.work.now (group_from trap) c.args.g (listed c.args.work.now open_from c.args.i).address in
+    let found : lookup ≡ At c.j-1.given.0.0 = rw (← c.address-a.ensures) (sym c.find.ensures ∙ c.j-1.given.1) in
     let a = c.args in
     let inside = find_at a.work.now (group_from trap) a.g (listed a.work.now open_from a.i).address c.j-1.given.0.0 (found) in
     omega arith
 
 pub returns : goal.returns
 unfolding join trap
-
-unfolding trap
 returns c =
     let lookup : Found = find c.args.work.now (group_from trap) c.args.g (listed c.args.work.now open_from c.args.i).address in
     let found : lookup ≡ At c.j-1.given.0.0 = rw (← c.address-a.ensures) (sym c.find.ensures ∙ c.j-1.given.1) in

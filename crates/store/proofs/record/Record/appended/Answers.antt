@@ -18,26 +18,26 @@ use borrow.Author.Rules.{rules}
 use Rattle.store.proofs.record.Record.appended.Goals as goal
 
 pub overflow_add-save : goal.overflow_add-save
-overflow_add-save c = let free = c.requires.1.1.1.1.1.1 in omega arith
+overflow_add-save c = let free = c.requires.save_nonzero in omega arith
 
 pub append-a-requires : goal.append-a-requires
 unfolding trap
 append-a-requires c =
     let same : c.queue.result.waiting ≡ c.args.self.waiting = ap (λ (q : Queue). q.waiting) c.queue.ensures in
-    let few = c.requires.1.1.0 in
+    let few = c.requires.waiting_le_direct in
     record {
-      trap_bound = c.requires.0;
-      count_bound = c.requires.1.0;
+      trap_bound = c.requires.trap_bound;
+      count_bound = c.requires.grouped_bound;
       count_bound_2 = omega arith;
       count_in_bounds = omega arith;
-      below = rw same c.requires.1.1.1.1.0;
+      below = rw same c.requires.below;
       count_in_bounds_2 = omega arith;
     }
 
 pub overflow_add-self : goal.overflow_add-self
 unfolding trap
 overflow_add-self c =
-    let room : c.args.self.logged + c.args.self.grouped ≤ trap.slots = c.requires.1.0 in
+    let room : c.args.self.logged + c.args.self.grouped ≤ trap.slots = c.requires.grouped_bound in
     search rules
 
 pub returns : goal.returns

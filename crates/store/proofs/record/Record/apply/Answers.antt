@@ -31,7 +31,14 @@ emptied-requires c =
     let given : State = state_of c.args.self c.args.settled.now c.args.waiting.now c.args.work.now in
     let checked : Ready trap (given) = ready trap abandon (given) c.not_open-number.result refl refl c.not_open-number.ensures c.if-number-ne0.false in
     let r = checked in
-    (omega arith, (omega arith, (r.homes, (r.waiting, (omega arith, r.below)))))
+    record {
+      trap_bound = omega arith;
+      logged_le_slots = omega arith;
+      by_index = r.homes;
+      waiting_le_direct = r.waiting;
+      trap_in_bounds = omega arith;
+      below = r.below;
+    }
 
 pub saved-requires-2 : goal.saved-requires-2
 saved-requires-2 c =

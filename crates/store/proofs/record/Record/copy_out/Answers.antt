@@ -26,7 +26,7 @@ loop-i-init c = (omega arith, c.count-n.ensures, none_out _ _)
 pub overflow_add-at : goal.overflow_add-at
 overflow_add-at c =
     let fits : length c.args.blocks.now < 9223372036854775808 = omega (arith, c.well-formed.1.1.1.1.1.1.1.1.1.0) in
-    let total : length c.args.blocks.now ≡ 512 * wanted_count c.args.list.now = c.requires.1.1.1.1.1.0 in
+    let total : length c.args.blocks.now ≡ 512 * wanted_count c.args.list.now = c.requires.blocks_len in
     search rules
 
 pub slice_bounds-copy_newest-start : goal.slice_bounds-copy_newest-start
@@ -40,14 +40,14 @@ copy_newest-requires c =
     let a = c.args in
     let l = c.loop-i in
     let here : l.i < wanted_count a.list.now = omega arith in
-    let o = met-le a.list.now a.opened.now (λ j. (listed a.work.now open_from j).address) a.self.opened l.i c.requires.1.1.1.0.0 here in
-    let g = met-le a.list.now a.grouped.now (λ j. (listed a.work.now (group_from trap) j).address) a.self.grouped l.i c.requires.1.1.1.0.1 here in
-    let k = met-le a.list.now a.logged.now (slot_address a.settled.now) a.self.logged l.i c.requires.1.1.1.1.0.0 here in
-    let w = met-le a.list.now a.waited.now (λ j. (listed a.waiting.now waiting_from j).address) a.self.waiting l.i c.requires.1.1.1.1.0.1 here in
-    let below : c.wanted.result < blocks_in a.settled.now = rw c.wanted.ensures (c.requires.1.1.1.1.1.1 l.i here) in
+    let o = met-le a.list.now a.opened.now (λ j. (listed a.work.now open_from j).address) a.self.opened l.i c.requires.met.0 here in
+    let g = met-le a.list.now a.grouped.now (λ j. (listed a.work.now (group_from trap) j).address) a.self.grouped l.i c.requires.met.1 here in
+    let k = met-le a.list.now a.logged.now (slot_address a.settled.now) a.self.logged l.i c.requires.met_2.0 here in
+    let w = met-le a.list.now a.waited.now (λ j. (listed a.waiting.now waiting_from j).address) a.self.waiting l.i c.requires.met_2.1 here in
+    let below : c.wanted.result < blocks_in a.settled.now = rw c.wanted.ensures (c.requires.by_index l.i here) in
     record {
-      trap_bound = c.requires.0.0;
-      trap_in_bounds = c.requires.0.1;
+      trap_bound = c.requires.trap_bound.0;
+      trap_in_bounds = c.requires.trap_bound.1;
       opened_le_slots = omega arith;
       waited_in_bounds = omega arith;
       address_bound = below;
@@ -60,7 +60,7 @@ loop-i-preserved c =
     let l = c.loop-i in
     let f = copied a.settled.now a.waiting.now a.work.now a.list.now a.opened.now a.grouped.now a.logged.now a.waited.now in
     let block : c.copy_newest.new.block ≡ f l.i = rw (← c.wanted.ensures) (c.copy_newest.ensures (found_as (get_or a.opened.now l.i 0)) (found_as (get_or a.grouped.now l.i 0)) (found_as (get_or a.logged.now l.i 0)) (found_as (get_or a.waited.now l.i 0)) (fresh 0) (numbered-found _) (numbered-found _) (numbered-found _) (numbered-found _)) in
-    let total : length a.blocks.now ≡ 512 * wanted_count a.list.now = c.requires.1.1.1.1.1.0 in
+    let total : length a.blocks.now ≡ 512 * wanted_count a.list.now = c.requires.blocks_len in
     let here : l.i < wanted_count a.list.now = omega (arith, c.loop-i-test.true, l.invariant.1) in
     let kept : length c.copy_newest.new.block ≡ length (take (512 * l.i + 512 - 512 * l.i) (drop (512 * l.i) l.blocks)) = c.copy_newest.auto.block in
     let whole : length (take (512 * l.i + 512 - 512 * l.i) (drop (512 * l.i) l.blocks)) ≡ 512 = rw (length-take, length-drop) (omega (arith, l.invariant.2.size)) in
@@ -75,5 +75,5 @@ returns c =
     let a = c.args in
     let l = c.loop-i in
     let over : l.i ≡ wanted_count a.list.now = omega arith in
-    all_out _ a.blocks.now l.blocks _ (rw over at l.invariant.2) c.requires.1.1.1.1.1.0
-    ∙ ext_joined _ _ (wanted_count a.list.now) (λ i h. copied-newest a.self a.settled.now a.waiting.now a.work.now a.list.now a.opened.now a.grouped.now a.logged.now a.waited.now i c.requires.1.1.1.0.0 c.requires.1.1.1.0.1 c.requires.1.1.1.1.0.0 c.requires.1.1.1.1.0.1 h)
+    all_out _ a.blocks.now l.blocks _ (rw over at l.invariant.2) c.requires.blocks_len
+    ∙ ext_joined _ _ (wanted_count a.list.now) (λ i h. copied-newest a.self a.settled.now a.waiting.now a.work.now a.list.now a.opened.now a.grouped.now a.logged.now a.waited.now i c.requires.met.0 c.requires.met.1 c.requires.met_2.0 c.requires.met_2.1 h)

@@ -24,7 +24,12 @@ written-requires c =
     let checked : Ready trap (given) = ready trap (request) (given) c.direct_number-refusal.result refl refl c.direct_number-refusal.ensures c.if-refusal-ne0.false in
     let r = checked in
     let p = cause_passes trap (request) (given) c.direct_number-refusal.result c.direct_number-refusal.ensures c.if-refusal-ne0.false in
-    (r.waiting, (omega arith, (r.below, eqb-true _ _ (not-false _ p.block))))
+    record {
+      waiting_le_direct = r.waiting;
+      trap_in_bounds = omega arith;
+      below = r.below;
+      block_len = eqb-true _ _ (not-false _ p.block);
+    }
 
 pub saved-requires : goal.saved-requires
 saved-requires c =

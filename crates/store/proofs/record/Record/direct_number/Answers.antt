@@ -40,7 +40,11 @@ pub lists-requires : goal.lists-requires
 lists-requires c =
     let given : State = state_of c.args.self c.args.settled.now c.args.waiting.now c.args.work.now in
     let s = passes_sound trap abandon (given) c.not_open-number.result refl c.not_open-number.ensures c.if-number-ne0.false in
-    (omega arith, (omega arith, (s.counts.open_count, s.counts.group_count, s.counts.log_count)))
+    record {
+      trap_bound = omega arith;
+      trap_in_bounds = omega arith;
+      opened_le_slots = (s.counts.open_count, s.counts.group_count, s.counts.log_count);
+    }
 
 pub returns-then-lists : goal.returns-then-lists
 returns-then-lists c =

@@ -19,15 +19,15 @@ pub checkpoint-ordered-requires : goal.checkpoint-ordered-requires
 unfolding trap
 checkpoint-ordered-requires c =
     let same : c.queue.result.waiting ≡ c.args.self.waiting = ap (λ (q : Queue). q.waiting) c.queue.ensures in
-    let few = c.requires.1.1.1.0 in
+    let few = c.requires.waiting_le_direct in
     record {
-      trap_bound = c.requires.0;
-      n_le_slots = c.requires.1.0;
-      by_index = c.requires.1.1.0;
+      trap_bound = c.requires.trap_bound;
+      n_le_slots = c.requires.logged_le_slots;
+      by_index = c.requires.by_index;
       n_bound = omega arith;
       n_in_bounds = omega arith;
       entry_bytes_in_bounds = omega arith;
-      below = rw same c.requires.1.1.1.1.1;
+      below = rw same c.requires.below;
     }
 
 pub returns : goal.returns

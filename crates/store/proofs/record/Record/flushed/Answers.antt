@@ -20,10 +20,10 @@ pub flush-requires : goal.flush-requires
 unfolding trap
 flush-requires c =
     let same : c.queue.result.waiting ≡ c.args.self.waiting = ap (λ (q : Queue). q.waiting) c.queue.ensures in
-    let few = c.requires.0 in
+    let few = c.requires.waiting_le_direct in
     record {
       waiting_in_bounds = omega arith;
-      below = rw same c.requires.1.1;
+      below = rw same c.requires.below;
     }
 
 pub returns : goal.returns

@@ -48,12 +48,17 @@ show-slots-requires c =
     let below : (i : ℕ) → i < wanted_count c.args.list.now → wanted_at c.args.list.now i < blocks_in c.args.settled.now =
     λ i h. rw (← s.counts.blocks) (data_lt trap c.args.self.blocks (wanted_at c.args.list.now i) (f.data-blocks i h)) in
     let waits : c.args.self.waiting ≤ trap.direct = passes_waits trap (get_list c.args.list.now c.args.blocks.now) (given) 0 refl refl (sym (served_zero)) refl in
-    (omega (arith, trap.queued), (omega arith, ((f.few, f.room), below)))
+    record {
+      trap_bound = omega (arith, trap.queued);
+      opened_le_slots = omega arith;
+      list_bound = (f.few, f.room);
+      by_index = below;
+    }
 
 pub returns : goal.returns
 returns c =
     let given : State = state_of c.args.self c.args.settled.now c.args.waiting.now c.args.work.now in
     let many : eqb (wanted_count c.args.list.now) 0 ≡ false = rw (← c.count.ensures) (ne_eqb _ 0 c.if-count-eq0.false) in
     let zero : cause trap (get_list c.args.list.now c.args.blocks.now) (given) ≡ 0 = sym c.list_number-refusal.ensures ∙ c.if-refusal-ne0.false in
-    listing-served trap c.args.list.now c.args.blocks.now (given) _ _ zero (rw (many) c.show-slots.ensures.1)
-    (c.show-slots.ensures.0 ∙ sym (shown-newest trap c.args.list.now c.args.blocks.now (given) zero))
+    listing-served trap c.args.list.now c.args.blocks.now (given) _ _ zero (rw (many) c.show-slots.ensures.value)
+    (c.show-slots.ensures.out_after ∙ sym (shown-newest trap c.args.list.now c.args.blocks.now (given) zero))

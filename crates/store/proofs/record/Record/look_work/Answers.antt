@@ -10,10 +10,10 @@ look-requires c =
     record {
       n_in_bounds = omega arith;
       n_le_slots = omega arith;
-      last_len = c.requires.1.1.0;
+      last_len = c.requires.last_len;
       list_in_bounds = (omega arith);
-      chained = c.requires.1.1.1.1.0;
-      met = c.requires.1.1.1.1.1.1;
+      chained = c.requires.chained;
+      met = c.requires.met.1;
     }
 
 pub look-requires-2 : goal.look-requires-2
@@ -22,12 +22,16 @@ look-requires-2 c =
     record {
       n_in_bounds = omega arith;
       n_le_slots = omega arith;
-      last_len = c.requires.1.1.0;
+      last_len = c.requires.last_len;
       list_in_bounds = (omega arith);
-      chained = c.requires.1.1.1.1.0;
-      met = c.requires.1.1.1.1.1.0;
+      chained = c.requires.chained;
+      met = c.requires.met.0;
     }
 
 pub returns : goal.returns
 unfolding trap
-returns c = (c.look-2.ensures, c.look.ensures)
+returns c =
+    record {
+      met_2 = c.look-2.ensures;
+      met_3 = c.look.ensures;
+    }

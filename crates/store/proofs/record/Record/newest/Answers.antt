@@ -17,13 +17,13 @@ unfolding trap
 find-requires-in_default c = search rules
 
 pub returns-in_default-last_slot : goal.returns-in_default-last_slot
-unfolding newest
-
-unfolding trap
+unfolding newest trap
 returns-in_default-last_slot c =
+    let open_lookup : Found = find c.args.work.now open_from c.args.self.opened c.args.address in
+    let group-lookup : Found = find c.args.work.now (group_from trap) c.args.self.grouped c.args.address in
     let log-lookup : Found = last_slot c.args.settled.now c.args.address c.args.self.logged in
-    let no_open : open_lookup c ≡ Absent = sym c.find.ensures ∙ c.enum_told-1.given.1 in
-    let no_group : group-lookup c ≡ Absent = sym c.find-in_default.ensures ∙ c.enum_told-in_default-find-1.given.1 in
+    let no_open : open_lookup ≡ Absent = sym c.find.ensures ∙ c.enum_told-1.given.1 in
+    let no_group : group-lookup ≡ Absent = sym c.find-in_default.ensures ∙ c.enum_told-in_default-find-1.given.1 in
     let no_log : log-lookup ≡ Absent = sym c.last_slot.ensures ∙ c.enum_told-in_default-last_slot-1.given.1 in
     let a = c.args in
     rw (no_open, no_group, no_log) (c.unlogged.ensures a.settled.now a.work.now)
@@ -31,43 +31,45 @@ returns-in_default-last_slot c =
 pub overflow_add-result : goal.overflow_add-result
 unfolding trap
 overflow_add-result c =
-    let in_log : log-lookup c ≡ At c.k-1.given.0.0 = sym c.last_slot.ensures ∙ c.k-1.given.1 in
+    let log-lookup : Found = last_slot c.args.settled.now c.args.address c.args.self.logged in
+    let in_log : log-lookup ≡ At c.k-1.given.0.0 = sym c.last_slot.ensures ∙ c.k-1.given.1 in
     let a = c.args in
     let inside = last_at (slot_address a.settled.now) a.address a.self.logged c.k-1.given.0.0 (in_log) in
     omega arith
 
 pub returns-in_default-find : goal.returns-in_default-find
 unfolding newest trap
-
-unfolding trap
 returns-in_default-find c =
+    let open_lookup : Found = find c.args.work.now open_from c.args.self.opened c.args.address in
+    let group-lookup : Found = find c.args.work.now (group_from trap) c.args.self.grouped c.args.address in
     let log-lookup : Found = last_slot c.args.settled.now c.args.address c.args.self.logged in
-    let no_open : open_lookup c ≡ Absent = sym c.find.ensures ∙ c.enum_told-1.given.1 in
-    let no_group : group-lookup c ≡ Absent = sym c.find-in_default.ensures ∙ c.enum_told-in_default-find-1.given.1 in
+    let no_open : open_lookup ≡ Absent = sym c.find.ensures ∙ c.enum_told-1.given.1 in
+    let no_group : group-lookup ≡ Absent = sym c.find-in_default.ensures ∙ c.enum_told-in_default-find-1.given.1 in
     let in_log : log-lookup ≡ At c.k-1.given.0.0 = sym c.last_slot.ensures ∙ c.k-1.given.1 in
     rw (no_open, no_group, in_log)
 
 pub place_of-requires : goal.place_of-requires
 unfolding trap
 place_of-requires c =
-    let in_group : group-lookup c ≡ At c.j-1.given.0.0 = sym c.find-in_default.ensures ∙ c.j-1.given.1 in
+    let group-lookup : Found = find c.args.work.now (group_from trap) c.args.self.grouped c.args.address in
+    let in_group : group-lookup ≡ At c.j-1.given.0.0 = sym c.find-in_default.ensures ∙ c.j-1.given.1 in
     let a = c.args in
     let inside = find_at a.work.now (group_from trap) a.self.grouped a.address c.j-1.given.0.0 (in_group) in
     omega arith
 
 pub returns-in_default : goal.returns-in_default
 unfolding newest trap
-
-unfolding trap
 returns-in_default c =
+    let open_lookup : Found = find c.args.work.now open_from c.args.self.opened c.args.address in
     let group-lookup : Found = find c.args.work.now (group_from trap) c.args.self.grouped c.args.address in
-    let no_open : open_lookup c ≡ Absent = sym c.find.ensures ∙ c.enum_told-1.given.1 in
+    let no_open : open_lookup ≡ Absent = sym c.find.ensures ∙ c.enum_told-1.given.1 in
     let in_group : group-lookup ≡ At c.j-1.given.0.0 = sym c.find-in_default.ensures ∙ c.j-1.given.1 in
     rw (no_open, in_group, c.place_of.ensures)
 
 pub place_of-requires-2 : goal.place_of-requires-2
 place_of-requires-2 c =
-    let in_open : open_lookup c ≡ At c.i-1.given.0.0 = sym c.find.ensures ∙ c.i-1.given.1 in
+    let open_lookup : Found = find c.args.work.now open_from c.args.self.opened c.args.address in
+    let in_open : open_lookup ≡ At c.i-1.given.0.0 = sym c.find.ensures ∙ c.i-1.given.1 in
     let a = c.args in
     let inside = find_at a.work.now open_from a.self.opened a.address c.i-1.given.0.0 (in_open) in
     omega arith

@@ -33,7 +33,12 @@ put_entry-requires c =
     let st = state_of a.self a.settled.now a.waiting.now a.work.now in
     let p = cause_passes trap (put a.address a.block.now) st c.put_number-number.result c.put_number-number.ensures c.if-number-ne0.false in
     let s = passes_sound trap (put a.address a.block.now) st c.put_number-number.result refl c.put_number-number.ensures c.if-number-ne0.false in
-    (eqb-true _ _ (not-false _ p.block), (omega arith, (omega arith, room_put (find a.work.now open_from a.self.opened a.address) a.self.opened p.own.1.0)))
+    record {
+      block_len = eqb-true _ _ (not-false _ p.block);
+      slots_in_bounds = omega arith;
+      opened_le_slots = omega arith;
+      opened_lt_slots = room_put (find a.work.now open_from a.self.opened a.address) a.self.opened p.own.1.0;
+    }
 
 pub returns : goal.returns
 unfolding put_call

@@ -14,10 +14,10 @@ pub set-requires : goal.set-requires
 set-requires c =
     let lookup : Found = find c.args.work.now open_from c.args.self.opened c.args.address in
     let missing : lookup ≡ Absent = sym c.find.ensures ∙ c.enum_told-1.given.1 in
-    let less : c.args.self.opened < trap.slots = c.requires.1.1.1 (missing) in
+    let less : c.args.self.opened < trap.slots = c.requires.opened_lt_slots (missing) in
     record {
       entry_bytes_in_bounds = omega arith;
-      block_len = c.requires.0;
+      block_len = c.requires.block_len;
     }
 
 pub overflow_add-self : goal.overflow_add-self
@@ -37,7 +37,7 @@ set-requires-2 c =
     let inside = find_at c.args.work.now open_from c.args.self.opened c.args.address c.i-1.given.0.0 (found) in
     record {
       entry_bytes_in_bounds = omega arith;
-      block_len = c.requires.0;
+      block_len = c.requires.block_len;
     }
 
 pub returns : goal.returns

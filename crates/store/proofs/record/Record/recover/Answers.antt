@@ -32,7 +32,11 @@ recovered-requires c =
     let checked : Unopened trap (given) = unopened trap (given) c.not_closed-number.result c.not_closed-number.ensures c.if-number-ne0.false in
     let u = checked in
     let s = u.sound in
-    (omega arith, (u.waiting, omega arith))
+    record {
+      trap_bound = omega arith;
+      waiting_value = u.waiting;
+      trap_in_bounds = omega arith;
+    }
 
 pub returns : goal.returns
 returns c =

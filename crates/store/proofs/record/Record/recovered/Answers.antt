@@ -32,7 +32,7 @@ saved-requires c =
 pub fallback-ordered-requires : goal.fallback-ordered-requires
 unfolding trap
 fallback-ordered-requires c =
-    let none : c.queue.result.waiting ≡ 0 = ap (λ (q : Queue). q.waiting) c.queue.ensures ∙ c.requires.1.0 in
+    let none : c.queue.result.waiting ≡ 0 = ap (λ (q : Queue). q.waiting) c.queue.ensures ∙ c.requires.waiting_value in
     record {
       settled_nonzero = omega arith;
       waiting_lt_most_places = omega arith;

@@ -10,9 +10,9 @@ use Rattle.store.proofs.record.Record.show.Goals as goal
 
 pub walk-slots-requires : goal.walk-slots-requires
 walk-slots-requires c =
-    let few : wanted_count c.args.list.now ≤ 32 = c.requires.1.1.0.0 in
+    let few : wanted_count c.args.list.now ≤ 32 = c.requires.list_bound.0 in
     record {
-      trap_bound = c.requires.0.0;
+      trap_bound = c.requires.trap_bound.0;
       n_le_slots = omega arith;
       last_len = c.chain.auto.last;
       list_in_bounds = (omega (arith, c.chain.auto.before), few);
@@ -23,10 +23,10 @@ walk-slots-requires c =
 pub look-requires : goal.look-requires
 unfolding trap
 look-requires c =
-    let few : wanted_count c.args.list.now ≤ 32 = c.requires.1.1.0.0 in
+    let few : wanted_count c.args.list.now ≤ 32 = c.requires.list_bound.0 in
     record {
-      n_in_bounds = omega (arith, c.requires.0.2);
-      n_le_slots = omega (arith, c.requires.1.0.3);
+      n_in_bounds = omega (arith, c.requires.trap_bound.2);
+      n_le_slots = omega (arith, c.requires.opened_le_slots.3);
       last_len = c.chain.auto.last;
       list_in_bounds = (omega (arith, c.chain.auto.before), few);
       chained = c.chain.ensures;
@@ -35,15 +35,30 @@ look-requires c =
 
 pub look_work-requires : goal.look_work-requires
 look_work-requires c =
-    let few : wanted_count c.args.list.now ≤ 32 = c.requires.1.1.0.0 in
+    let few : wanted_count c.args.list.now ≤ 32 = c.requires.list_bound.0 in
     let none = met_none c.args.list.now 32 few in
-    (c.requires.0.1, ((c.requires.1.0.0, c.requires.1.0.1), (c.chain.auto.last, ((omega (arith, c.chain.auto.before), few, few), (c.chain.ensures, (none, none))))))
+    record {
+      trap_in_bounds = c.requires.trap_bound.1;
+      opened_le_slots = (c.requires.opened_le_slots.0, c.requires.opened_le_slots.1);
+      last_len = c.chain.auto.last;
+      list_in_bounds = (omega (arith, c.chain.auto.before), few, few);
+      chained = c.chain.ensures;
+      met = (none, none);
+    }
 
 pub copy_out-requires : goal.copy_out-requires
 copy_out-requires c =
-    let few : wanted_count c.args.list.now ≤ 32 = c.requires.1.1.0.0 in
+    let few : wanted_count c.args.list.now ≤ 32 = c.requires.list_bound.0 in
     let o : wanted_count c.args.list.now ≤ length c.look_work.new.opened = omega (arith, c.look_work.auto.opened) in
     let g : wanted_count c.args.list.now ≤ length c.look_work.new.grouped = omega (arith, c.look_work.auto.grouped) in
     let l : wanted_count c.args.list.now ≤ length c.walk-slots.new.met = omega (arith, c.walk-slots.auto.met) in
     let v : wanted_count c.args.list.now ≤ length c.look.new.met = omega (arith, c.look.auto.met) in
-    (c.requires.0, (c.requires.1.0, ((o, g, l, v), ((c.look_work.ensures.0, c.look_work.ensures.1), ((c.walk-slots.ensures.met_2, c.look.ensures), (c.requires.1.1.0.1, c.requires.1.1.1))))))
+    record {
+      trap_bound = c.requires.trap_bound;
+      opened_le_slots = c.requires.opened_le_slots;
+      list_in_bounds = (o, g, l, v);
+      met = (c.look_work.ensures.met_2, c.look_work.ensures.met_3);
+      met_2 = (c.walk-slots.ensures.met_2, c.look.ensures);
+      blocks_len = c.requires.list_bound.1;
+      by_index = c.requires.by_index;
+    }

@@ -20,7 +20,15 @@ synced-requires c =
     let given : State = state_of c.args.self c.args.settled.now c.args.waiting.now c.args.work.now in
     let checked : Ready trap (given) = ready trap sync (given) c.sync_number-number.result refl refl c.sync_number-number.ensures c.if-number-ne0.false in
     let r = checked in
-    (omega arith, ((r.mode, r.waiting), (r.below, (omega arith, (r.homes, (omega arith, next_save trap (given) c.sync_number-number.result c.sync_number-number.ensures c.if-number-ne0.false))))))
+    record {
+      trap_bound = omega arith;
+      mode_value = (r.mode, r.waiting);
+      below = r.below;
+      grouped_le_slots = omega arith;
+      by_index = r.homes;
+      trap_in_bounds = omega arith;
+      save_nonzero = next_save trap (given) c.sync_number-number.result c.sync_number-number.ensures c.if-number-ne0.false;
+    }
 
 pub saved-requires : goal.saved-requires
 saved-requires c =

@@ -17,14 +17,22 @@ returns-then-self-eq0 c =
     c.flushed.ensures c.args.work.now ∙ sync_none trap (given) c.if-self-eq0.true
 
 pub fits-requires : goal.fits-requires
-fits-requires c = c.requires.1.1.1.0
+fits-requires c = c.requires.grouped_le_slots
 
 pub appended-requires : goal.appended-requires
 unfolding trap
 appended-requires c =
     let room : let a = c.args in a.self.logged + a.self.grouped ≤ trap.slots = leb-true _ _ (sym c.fits.ensures ∙ c.if-fits.true) in
-    let free = c.requires.1.1.1.1.1.1 c.if-self-eq0.false in
-    (omega arith, (room, (c.requires.1.0.1, (omega arith, (c.requires.1.1.0, (omega arith, free))))))
+    let free = c.requires.save_nonzero c.if-self-eq0.false in
+    record {
+      trap_bound = omega arith;
+      grouped_bound = room;
+      waiting_le_direct = c.requires.mode_value.1;
+      trap_in_bounds = omega arith;
+      below = c.requires.below;
+      trap_in_bounds_2 = omega arith;
+      save_nonzero = free;
+    }
 
 pub returns-then-fits : goal.returns-then-fits
 unfolding trap
@@ -34,13 +42,21 @@ returns-then-fits c =
     c.appended.ensures ∙ ap (λ (o : Outcome). o.state) (sync_room trap (state_of a.self a.settled.now a.waiting.now a.work.now) c.if-self-eq0.false (room))
 
 pub emptied-emptied-requires : goal.emptied-emptied-requires
-emptied-emptied-requires c = (c.requires.0, (omega arith, (c.requires.1.1.1.1.0, (c.requires.1.0.1, (omega arith, c.requires.1.1.0)))))
+emptied-emptied-requires c =
+    record {
+      trap_bound = c.requires.trap_bound;
+      logged_le_slots = omega arith;
+      by_index = c.requires.by_index;
+      waiting_le_direct = c.requires.mode_value.1;
+      trap_in_bounds = omega arith;
+      below = c.requires.below;
+    }
 
 pub returns-then-emptied-eq-DOWN : goal.returns-then-emptied-eq-DOWN
 unfolding trap
 returns-then-emptied-eq-DOWN c =
     let given : State = state_of c.args.self c.args.settled.now c.args.waiting.now c.args.work.now in
-    let live : c.args.self.mode ≢ down = λ e. eqb-false open_mode down refl (sym c.requires.1.0.0 ∙ e) in
+    let live : c.args.self.mode ≢ down = λ e. eqb-false open_mode down refl (sym c.requires.mode_value.0 ∙ e) in
     let over : let a = c.args in trap.slots < a.self.logged + a.self.grouped = leb-false _ _ (sym c.fits.ensures ∙ c.if-fits.false) in
     let left : State = state_of c.emptied-emptied.result c.emptied-emptied.new.settled c.emptied-emptied.new.waiting c.args.work.now in
     sync_dead trap (given) c.if-self-eq0.false (over) (live) (left) (c.emptied-emptied.ensures _) c.if-emptied-eq-DOWN.true
@@ -49,18 +65,26 @@ pub appended-requires-2 : goal.appended-requires-2
 unfolding trap
 appended-requires-2 c =
     let given : State = state_of c.args.self c.args.settled.now c.args.waiting.now c.args.work.now in
-    let live : c.args.self.mode ≢ down = λ e. eqb-false open_mode down refl (sym c.requires.1.0.0 ∙ e) in
+    let live : c.args.self.mode ≢ down = λ e. eqb-false open_mode down refl (sym c.requires.mode_value.0 ∙ e) in
     let over : let a = c.args in trap.slots < a.self.logged + a.self.grouped = leb-false _ _ (sym c.fits.ensures ∙ c.if-fits.false) in
     let left : State = state_of c.emptied-emptied.result c.emptied-emptied.new.settled c.emptied-emptied.new.waiting c.args.work.now in
     let x = sync_on trap (given) c.if-self-eq0.false (over) (live) (left) (c.emptied-emptied.ensures _) c.if-emptied-eq-DOWN.false in
-    let free = c.requires.1.1.1.1.1.1 c.if-self-eq0.false in
-    (omega arith, (omega arith, (omega arith, (omega arith, (λ i h. absurd (omega arith), (omega arith, λ e. free (sym x.2 ∙ e)))))))
+    let free = c.requires.save_nonzero c.if-self-eq0.false in
+    record {
+      trap_bound = omega arith;
+      grouped_bound = omega arith;
+      waiting_le_direct = omega arith;
+      trap_in_bounds = omega arith;
+      below = λ i h. absurd (omega arith);
+      trap_in_bounds_2 = omega arith;
+      save_nonzero = λ e. free (sym x.2 ∙ e);
+    }
 
 pub returns : goal.returns
 unfolding trap
 returns c =
     let given : State = state_of c.args.self c.args.settled.now c.args.waiting.now c.args.work.now in
-    let live : c.args.self.mode ≢ down = λ e. eqb-false open_mode down refl (sym c.requires.1.0.0 ∙ e) in
+    let live : c.args.self.mode ≢ down = λ e. eqb-false open_mode down refl (sym c.requires.mode_value.0 ∙ e) in
     let over : let a = c.args in trap.slots < a.self.logged + a.self.grouped = leb-false _ _ (sym c.fits.ensures ∙ c.if-fits.false) in
     let left : State = state_of c.emptied-emptied.result c.emptied-emptied.new.settled c.emptied-emptied.new.waiting c.args.work.now in
     sync_live trap (given) c.if-self-eq0.false (over) (live) (left) (c.emptied-emptied.ensures _) c.if-emptied-eq-DOWN.false _ c.appended-2.ensures

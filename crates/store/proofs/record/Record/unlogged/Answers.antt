@@ -20,7 +20,8 @@ returns-in_default c =
 pub place_of-requires : goal.place_of-requires
 unfolding trap
 place_of-requires c =
-    let in_waiting : lookup c ≡ At c.i-1.given.0.0 = sym c.find.ensures ∙ c.i-1.given.1 in
+    let lookup : Found = find_waiting (state_of c.args.self [] c.args.waiting.now []) c.args.address in
+    let in_waiting : lookup ≡ At c.i-1.given.0.0 = sym c.find.ensures ∙ c.i-1.given.1 in
     let a = c.args in
     let inside = find_at a.waiting.now waiting_from a.self.waiting a.address c.i-1.given.0.0 (in_waiting) in
     omega arith

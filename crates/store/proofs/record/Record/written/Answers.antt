@@ -20,11 +20,11 @@ pub write-requires : goal.write-requires
 unfolding trap
 write-requires c =
     let same : c.queue.result.waiting ≡ c.args.self.waiting = ap (λ (q : Queue). q.waiting) c.queue.ensures in
-    let few = c.requires.0 in
+    let few = c.requires.waiting_le_direct in
     record {
       entry_bytes_in_bounds = omega arith;
       waiting_lt_most_places = omega arith;
-      block_len = c.requires.1.1.1;
+      block_len = c.requires.block_len;
     }
 
 pub returns-then-self-lt-DIRECT : goal.returns-then-self-lt-DIRECT
@@ -40,10 +40,10 @@ pub flush-f-requires : goal.flush-f-requires
 unfolding trap
 flush-f-requires c =
     let same : c.queue-2.result.waiting ≡ c.args.self.waiting = ap (λ (q : Queue). q.waiting) c.queue-2.ensures in
-    let few = c.requires.0 in
+    let few = c.requires.waiting_le_direct in
     record {
       waiting_in_bounds = omega arith;
-      below = rw same c.requires.1.1.0;
+      below = rw same c.requires.below;
     }
 
 pub returns-then-not-f : goal.returns-then-not-f
@@ -55,18 +55,18 @@ returns-then-not-f c =
     let end = stopped (flush ∷ direct_write a.address a.block.now ∷ []) (flush ∷ []) (direct_write a.address a.block.now ∷ []) refl 1 1 2 refl refl _ _ c.flush-f.ensures.queue_after c.flush-f.result.happened c.flush-f.ensures.happened_value (not-true _ c.if-not-f.true) in
     λ work. given (flush ∷ direct_write a.address a.block.now ∷ []) 2 a.self a.self (before_it work) _ _ _ c.flush-f.result _ _ refl
     c.queue-2.ensures end.0 end.1 refl c.after-then-not-f.ensures
-    ∙ direct_full trap a.address a.block.now (before_it work) c.requires.0 (full)
+    ∙ direct_full trap a.address a.block.now (before_it work) c.requires.waiting_le_direct (full)
 
 pub write-requires-2 : goal.write-requires-2
 unfolding trap
 write-requires-2 c =
     let same : c.queue-2.result.waiting ≡ c.args.self.waiting = ap (λ (q : Queue). q.waiting) c.queue-2.ensures in
-    let few = c.requires.0 in
+    let few = c.requires.waiting_le_direct in
     let left = c.flush-f.ensures.waiting_le_waiting in
     record {
       entry_bytes_in_bounds = omega arith;
       waiting_lt_most_places = omega arith;
-      block_len = c.requires.1.1.1;
+      block_len = c.requires.block_len;
     }
 
 pub returns : goal.returns
@@ -79,4 +79,4 @@ returns c =
     _ _ (c.write-2.ensures.by_index _) c.write-2.ensures.happened_value in
     λ work. given (flush ∷ direct_write a.address a.block.now ∷ []) 2 a.self a.self (before_it work) _ _ _ c.write-2.result _ _ refl
     c.queue-2.ensures end.0 end.1 refl c.after-2.ensures
-    ∙ direct_full trap a.address a.block.now (before_it work) c.requires.0 (full)
+    ∙ direct_full trap a.address a.block.now (before_it work) c.requires.waiting_le_direct (full)
