@@ -1,8 +1,6 @@
 -- `inspect::alike::alike` meets its contract.
 use mathlib.Core.Logic.{⊎_elim}
 use native.Mathlib.Omega.{arith}
-use borrow.Author.Rules.{rules}
-use borrow.Author.Tests.{not-true, not-false, eqb-true, eqb-false}
 use Rattle.journal.specs.Geometry.{trap}
 use Rattle.inspect.proofs.Readings.{TakenList, read_taken}
 use Rattle.inspect.proofs.Comparisons.{alike_first, alike_second, alike_blocks, alike_counts, alike_contents}

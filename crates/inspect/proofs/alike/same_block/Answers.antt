@@ -1,12 +1,8 @@
 -- `inspect::alike::same_block` meets its contract.
 use mathlib.Core.Path.{◌≡◌, ap₂, sym, ◌∙◌}
-use borrow.Author.Rules.{rules}
 use Rattle.cells.specs.Same.{same}
 use Rattle.card.specs.Card.{block_at}
 use Rattle.journal.specs.Geometry.{trap}
-use Rattle.journal.specs.declared.lookup.Found.{Found}
-use Rattle.journal.specs.declared.lookup.Found.TheVariants.{Absent}
-use Rattle.journal.specs.Lookup.{last_slot}
 use Rattle.journal.proofs.Logs.{block_read}
 use Rattle.inspect.proofs.Comparisons.{home_same, logged_same, home_unlike}
 use Rattle.inspect.proofs.alike.same_block.Goals as goal

@@ -1,7 +1,6 @@
 -- `inspect::alike::same_contents` meets its contract.
 use mathlib.Core.Path.{sym, ◌∙◌}
 use native.Mathlib.Omega.{arith}
-use borrow.Author.Tests.{not-true, not-false}
 use Rattle.journal.specs.Geometry.{trap}
 use Rattle.journal.specs.Geometry.Laws.{trap-slots}
 use Rattle.inspect.proofs.Comparisons.{slots_unlike, slots_same}

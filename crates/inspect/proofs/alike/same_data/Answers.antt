@@ -1,15 +1,10 @@
 -- `inspect::alike::same_data` meets its contract. The invariant: the data blocks below x are equal.
-use Prim.Native.Nat.{◌-◌, ◌≤◌}
 use mathlib.Core.Path.{◌≡◌, sym, ◌∙◌}
-use mathlib.Core.Bool.{true}
 use native.Mathlib.Omega.{arith}
-use borrow.Author.Tests.{not-true, not-false}
 use Rattle.cells.specs.Same.{same}
 use Rattle.journal.specs.Geometry.{trap}
 use Rattle.journal.specs.Geometry.Laws.{trap_data}
-use Rattle.journal.specs.Layout.{first_data}
 use Rattle.inspect.specs.Reading.{data_blocks, laid}
-use Rattle.inspect.specs.Alike.{same_data}
 use Rattle.inspect.proofs.Comparisons.{data_none, data_next, data_unlike}
 use Rattle.inspect.proofs.alike.same_data.Goals as goal
 

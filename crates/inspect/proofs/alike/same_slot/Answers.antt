@@ -1,5 +1,4 @@
 -- `inspect::alike::same_slot` meets its contract.
-use borrow.Author.Rules.{rules}
 use Rattle.journal.specs.Geometry.{trap}
 use Rattle.journal.proofs.Logs.{block_read}
 use Rattle.inspect.proofs.Comparisons.{slot_read}

@@ -1,12 +1,8 @@
 -- `inspect::alike::same_slots` meets its contract. The invariant: the slots below i are the same.
-use Prim.Native.Nat.{◌-◌, ◌≤◌}
 use mathlib.Core.Path.{◌≡◌, sym, ◌∙◌}
-use mathlib.Core.Bool.{true}
 use native.Mathlib.Omega.{arith}
-use borrow.Author.Rules.{rules}
-use borrow.Author.Tests.{not-true, not-false}
 use Rattle.journal.specs.Geometry.{trap}
-use Rattle.inspect.specs.Alike.{same_slot, same_slots}
+use Rattle.inspect.specs.Alike.{same_slot}
 use Rattle.inspect.proofs.Comparisons.{each_slot, each_next, each_unlike}
 use Rattle.inspect.proofs.alike.same_slots.Goals as goal
 

@@ -1,7 +1,6 @@
 -- `inspect::tally::corrected` meets its contract.
 use mathlib.Core.Path.{◌≡◌, ap, ◌∙◌}
 use native.Mathlib.Omega.{arith}
-use borrow.Author.Rules.{rules}
 use lib.ListN.{length}
 use Rattle.card.specs.Card.{block_at}
 use Rattle.journal.specs.Geometry.{trap}

@@ -1,8 +1,6 @@
 -- `inspect::tally::decides` meets its contract.
-use mathlib.Core.Path.{◌≡◌, sym, ◌∙◌}
-use borrow.Author.Rules.{rules}
+use mathlib.Core.Path.{sym, ◌∙◌}
 use Rattle.journal.specs.Geometry.{trap}
-use Rattle.journal.specs.Lookup.{last_slot}
 use Rattle.inspect.proofs.Corrections.{absent_decides, found_decides}
 use Rattle.inspect.proofs.tally.decides.Goals as goal
 

@@ -1,10 +1,9 @@
 -- `inspect::tally::sum_bytes` meets its contract. The invariant: the sum so far is that of the first i chunks, 255 at most for each byte.
-use Prim.Native.Nat.{◌+◌, ◌*◌, ◌-◌, ◌≤◌}
-use mathlib.Core.Path.{◌≡◌, sym}
+use Prim.Native.Nat.{◌+◌, ◌*◌, ◌-◌}
+use mathlib.Core.Path.{sym}
 use native.Mathlib.Omega.{arith}
-use lib.ListN.{take, length-take, length-drop}
+use lib.ListN.{length-take, length-drop}
 use lib.Seq.{take_all}
-use Rattle.inspect.specs.Tally.{sum_bytes}
 use Rattle.inspect.proofs.Sums.{bytes_none, chunk_next}
 use Rattle.inspect.proofs.tally.sum_bytes.Goals as goal
 

@@ -1,11 +1,8 @@
 -- `inspect::tally::sum_bytes` meets its contract. The invariant: the sum so far is that of the first i chunks, 255 at most for each byte.
-use Prim.Native.Nat.{◌+◌, ◌*◌, ◌-◌, ◌≤◌}
-use mathlib.Core.Path.{◌≡◌, sym}
-use native.Mathlib.Omega.{arith}
-use lib.ListN.{take, length-take, length-drop}
-use lib.Seq.{take_all}
+use Prim.Native.Nat.{◌*◌, ◌-◌, ◌≤◌}
+use mathlib.Core.Path.{◌≡◌}
+use lib.ListN.{take}
 use Rattle.inspect.specs.Tally.{sum_bytes}
-use Rattle.inspect.proofs.Sums.{bytes_none, chunk_next}
 use Rattle.inspect.proofs.tally.sum_bytes.Given as goal
 
 abbrev pub invariant-loop-i : goal.invariant-loop-i

@@ -1,10 +1,7 @@
 -- `inspect::tally::sum_chunk` meets its contract. The invariant: the sum so far is that of the first i bytes, 255 at most for each.
-use Prim.Native.Nat.{◌*◌, ◌-◌, ◌≤◌}
-use mathlib.Core.Path.{◌≡◌, sym}
+use mathlib.Core.Path.{sym}
 use native.Mathlib.Omega.{arith}
-use lib.ListN.{take}
 use lib.Seq.{take_all}
-use Rattle.inspect.specs.Tally.{sum_bytes}
 use Rattle.inspect.proofs.Sums.{bytes_none, bytes_next}
 use Rattle.inspect.proofs.tally.sum_chunk.Goals as goal
 

@@ -1,11 +1,8 @@
 -- `inspect::tally::sum_chunk` meets its contract. The invariant: the sum so far is that of the first i bytes, 255 at most for each.
 use Prim.Native.Nat.{◌*◌, ◌-◌, ◌≤◌}
-use mathlib.Core.Path.{◌≡◌, sym}
-use native.Mathlib.Omega.{arith}
+use mathlib.Core.Path.{◌≡◌}
 use lib.ListN.{take}
-use lib.Seq.{take_all}
 use Rattle.inspect.specs.Tally.{sum_bytes}
-use Rattle.inspect.proofs.Sums.{bytes_none, bytes_next}
 use Rattle.inspect.proofs.tally.sum_chunk.Given as goal
 
 abbrev pub invariant-loop-i : goal.invariant-loop-i

@@ -1,17 +1,12 @@
 -- `inspect::tally::sum_data` meets its contract. The invariant: the sum is that of the home blocks with each slot below i laid over
 -- that is the last with its address, and at most a block's bytes have come on top for each.
-use Prim.Native.Nat.{◌+◌, ◌*◌, ◌-◌, ◌≤◌}
 use mathlib.Core.Path.{◌≡◌, sym, ◌∙◌}
 use mathlib.Core.Bool.{true≢false}
-use mathlib.Core.Logic.{⊎_elim}
 use native.Mathlib.Omega.{arith}
-use borrow.Author.Rules.{rules}
-use Rattle.cells.specs.Entry.{block_bytes}
 use Rattle.journal.specs.Geometry.{trap}
 use Rattle.journal.specs.Log.{slot_address}
 use Rattle.journal.proofs.Logs.{data_bounds}
-use Rattle.inspect.specs.Reading.{data_blocks}
-use Rattle.inspect.proofs.Corrections.{Decides, sum_below, sum_none, sum-all, home_counted, slot_corrected, slot_passed}
+use Rattle.inspect.proofs.Corrections.{Decides, sum_none, sum-all, home_counted, slot_corrected, slot_passed}
 use Rattle.inspect.proofs.tally.sum_data.Goals.{then-decides, else-decides}
 use Rattle.inspect.proofs.tally.sum_data.Goals as goal
 

@@ -1,18 +1,13 @@
 -- `inspect::tally::sum_homes` meets its contract. The invariant: the sum so far is that of the data blocks below a, and is bounded by
 -- their bytes.
 use Prim.Native.Nat.{◌*◌, ◌-◌, ◌≤◌}
-use mathlib.Core.Path.{◌≡◌, ap, sym, ◌∙◌}
-use native.Mathlib.Omega.{arith}
-use lib.ListN.{length}
+use mathlib.Core.Path.{◌≡◌}
 use Rattle.cells.specs.Entry.{block_bytes}
 use Rattle.card.specs.Card.{block_at}
 use Rattle.journal.specs.Geometry.{trap}
-use Rattle.journal.specs.Geometry.Laws.{trap_data}
 use Rattle.journal.specs.Layout.{first_data}
-use Rattle.journal.proofs.Logs.{length-block_at, block_read}
 use Rattle.inspect.specs.Reading.{data_blocks}
-use Rattle.inspect.specs.Tally.{sum_bytes, sum_data}
-use Rattle.inspect.proofs.Sums.{data_none, data_next}
+use Rattle.inspect.specs.Tally.{sum_data}
 use Rattle.inspect.proofs.tally.sum_homes.Given as goal
 
 abbrev pub invariant-loop-a : goal.invariant-loop-a

@@ -1,6 +1,5 @@
 -- `inspect::tally::tally` meets its contract.
 use native.Mathlib.Omega.{arith}
-use borrow.Author.Rules.{rules}
 use Rattle.journal.specs.Geometry.{trap}
 use Rattle.inspect.proofs.Readings.{TakenList, read_taken}
 use Rattle.inspect.proofs.Sums.{tally_refused, tally_done}
