@@ -56,7 +56,7 @@ saved-requires-in-Fallback c =
 pub returns-in-Whole : goal.returns-in-Whole
 returns-in-Whole c =
     let given : List ℕ → State = λ k. state_of c.args.self c.args.settled.now c.args.waiting.now k in
-    let a = c.in-Whole in let ?? = ? in
+    let a = c.in-Whole in let q : a = ? in
     λ k.
     let st = given k in
     rw c.saved.ensures
