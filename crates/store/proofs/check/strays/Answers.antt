@@ -23,7 +23,7 @@ returns-then-not-is_data c =
     let l = c.loop-i in
     let a = c.args in
     climb_hit (stray a.work.now a.blocks a.from) l.i a.n (omega arith)
-    (rw (← c.address.ensures, ← c.is_data.ensures) c.if-not-is_data.true)
+    (rw (← c.address.ensures, ← c.is_data.ensures, c.if-not-is_data.true))
 
 pub loop-i-preserved : goal.loop-i-preserved
 loop-i-preserved c =
@@ -31,7 +31,7 @@ loop-i-preserved c =
     let a = c.args in (
       omega arith,
       climb_on (stray a.work.now a.blocks a.from) l.i l.invariant.1
-          (rw (← c.address.ensures, ← c.is_data.ensures) c.if-not-is_data.false),
+          (rw (← c.address.ensures, ← c.is_data.ensures, c.if-not-is_data.false)),
     )
 
 pub returns : goal.returns

@@ -22,14 +22,14 @@ returns-then-not-is_data c =
     let a = c.args in
     let next : c.wanted.result ≡ wanted_at a.list.now l.i = c.wanted.ensures in
     climb_hit (wrong a.list.now a.size) l.i (wanted_count a.list.now) (omega arith)
-    (rw (← next, ← c.is_data.ensures) c.if-not-is_data.true)
+    (rw (← next, ← c.is_data.ensures, c.if-not-is_data.true))
 
 pub loop-i-preserved : goal.loop-i-preserved
 loop-i-preserved c =
     let l = c.loop-i in
     let a = c.args in
     let next : c.wanted.result ≡ wanted_at a.list.now l.i = c.wanted.ensures in
-    (omega arith, l.invariant.1, climb_on (wrong a.list.now a.size) l.i l.invariant.2 (rw (← next, ← c.is_data.ensures) c.if-not-is_data.false))
+    (omega arith, l.invariant.1, climb_on (wrong a.list.now a.size) l.i l.invariant.2 (rw (← next, ← c.is_data.ensures, c.if-not-is_data.false)))
 
 pub returns : goal.returns
 returns c =
