@@ -2,9 +2,7 @@
 use Prim.Native.Nat.{◌-◌, ◌≤◌}
 use mathlib.Core.Path.{◌≡◌, refl, sym, ◌∙◌}
 use mathlib.Core.Bool.{true, false}
-use mathlib.Core.Logic.{⊎_elim}
 use native.Mathlib.Omega.{arith}
-use borrow.Author.Tests.{not-true, not-false}
 use Rattle.journal.specs.Geometry.{trap}
 use Rattle.store.specs.Lists.{open_from, group_from, listed, find}
 use Rattle.store.specs.Causes.{is_found, newcomers}
@@ -32,11 +30,11 @@ loop-i-preserved c =
       then-not-holds w ↦
     let new : is_found (find a.work.now (group_from trap) a.g (listed a.work.now open_from l.i).address) ≡ false = told ∙ w.if-not-holds.true in
     let one = rw new at more in
-    ?
+    omega arith
     | else-not-holds w ↦
     let old : is_found (find a.work.now (group_from trap) a.g (listed a.work.now open_from l.i).address) ≡ true = told ∙ w.if-not-holds.false in
     let none = rw old at more in
-    ?
+    omega arith
     ]
 
 pub returns : goal.returns
