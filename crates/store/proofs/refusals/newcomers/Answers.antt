@@ -27,14 +27,14 @@ loop-i-preserved c =
     let a = c.args in
     let more = newcomers_more trap a.work.now a.g l.i in
     elim c.if-not-holds.branch [
-      then-not-holds w ↦
-    let new : is_found (find a.work.now (group_from trap) a.g (listed a.work.now open_from l.i).address) ≡ false = told ∙ w.if-not-holds.true in
-    let one = rw new at more in
-    omega arith
-    | else-not-holds w ↦
-    let old : is_found (find a.work.now (group_from trap) a.g (listed a.work.now open_from l.i).address) ≡ true = told ∙ w.if-not-holds.false in
-    let none = rw old at more in
-    omega arith
+      | then-not-holds w ↦
+          let new : is_found (find a.work.now (group_from trap) a.g (listed a.work.now open_from l.i).address) ≡ false = told ∙ w.if-not-holds.true in
+          let one = rw new at more in
+          omega arith
+      | else-not-holds w ↦
+          let old : is_found (find a.work.now (group_from trap) a.g (listed a.work.now open_from l.i).address) ≡ true = told ∙ w.if-not-holds.false in
+          let none = rw old at more in
+          omega arith
     ]
 
 pub returns : goal.returns
