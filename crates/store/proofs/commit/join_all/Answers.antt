@@ -31,7 +31,7 @@ join-count-requires c =
     record {
       trap_in_bounds = omega arith;
       g_le_slots = (omega (arith, j.most), few);
-      g_lt_slots = λ absent. free trap a.work.now (λ k. (c.slice_known-1.given k).fits) c.requires.trap_in_bounds a.g c.loop-i.i few _ j room (rw (j.same_open c.loop-i.i few) c absent);
+      g_lt_slots = λ absent. free trap a.work.now (λ k. (c.slice_known-1.given k).fits) c.requires.trap_in_bounds a.g c.loop-i.i few _ j room (rw (j.same_open c.loop-i.i few) at absent);
     }
 
 pub loop-i-preserved : goal.loop-i-preserved

@@ -12,7 +12,7 @@ use Rattle.store.proofs.Commits.{newcomers_mono, joined_more, Joining, free, joi
 use Rattle.store.proofs.commit.join_all.Given as goal
 
 abbrev pub invariant-loop-i : goal.invariant-loop-i
-invariant-loop-i l = (l.i ≤ l.n) × (◌≡◌ {A = Group} (record { l.work = l.work; l.count = l.count }) (joined trap l.i (record { l.work = l.initial.work; l.count = l.g })))
+invariant-loop-i l = (l.i ≤ l.n) × (◌≡◌ {A = Group} (record { work = l.work; count = l.count }) (joined trap l.i (record { work = l.initial.work; count = l.g })))
 
 abbrev pub decreases-loop-i : goal.decreases-loop-i
 decreases-loop-i l = l.n - l.i
