@@ -1,5 +1,5 @@
 -- `store::commit::join_all` meets its contract.
-use Prim.Native.Nat.{suc, ◌+◌, ◌-◌, ◌≤◌, ◌<◌}
+use Prim.Native.Nat.{suc, ◌+◌, ◌≤◌, ◌<◌}
 use mathlib.Core.Path.{◌≡◌, refl, ap, sym, ◌∙◌}
 use native.Mathlib.Omega.{arith}
 use lib.ListN.{length}
@@ -7,7 +7,7 @@ use Rattle.cells.specs.Entry.{Entry}
 use Rattle.journal.specs.Geometry.{trap}
 use Rattle.store.specs.Lists.{open_from, listed}
 use Rattle.store.specs.Causes.{newcomers}
-use Rattle.store.specs.Commit.{Group, join, joined}
+use Rattle.store.specs.Commit.{join, joined}
 use Rattle.store.proofs.Commits.{newcomers_mono, joined_more, Joining, free, joining}
 use Rattle.store.proofs.commit.join_all.Goals as goal
 

@@ -1,14 +1,8 @@
 -- `store::commit::join_all` meets its contract.
-use Prim.Native.Nat.{suc, ◌+◌, ◌-◌, ◌≤◌, ◌<◌}
-use mathlib.Core.Path.{◌≡◌, refl, ap, sym, ◌∙◌}
-use native.Mathlib.Omega.{arith}
-use lib.ListN.{length}
-use Rattle.cells.specs.Entry.{Entry}
+use Prim.Native.Nat.{◌-◌, ◌≤◌}
+use mathlib.Core.Path.{◌≡◌}
 use Rattle.journal.specs.Geometry.{trap}
-use Rattle.store.specs.Lists.{open_from, listed}
-use Rattle.store.specs.Causes.{newcomers}
-use Rattle.store.specs.Commit.{Group, join, joined}
-use Rattle.store.proofs.Commits.{newcomers_mono, joined_more, Joining, free, joining}
+use Rattle.store.specs.Commit.{Group, joined}
 use Rattle.store.proofs.commit.join_all.Given as goal
 
 abbrev pub invariant-loop-i : goal.invariant-loop-i

@@ -4,7 +4,6 @@ use mathlib.Core.Path.{◌≡◌, ◌∙◌}
 use native.Mathlib.Omega.{arith}
 use Rattle.store.specs.declared.place.Place.TheVariants.{Settled, Waiting, Work}
 use Rattle.store.specs.CodeState.{HoldsBlock}
-use borrow.Author.Rules.{rules}
 use Rattle.store.proofs.get.part.Goals as goal
 
 pub overflow_cast-at : goal.overflow_cast-at

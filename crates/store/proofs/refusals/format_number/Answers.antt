@@ -3,11 +3,9 @@ use Prim.Native.Nat.{ℕ}
 use mathlib.Core.Path.{◌≡◌, ap, sym, ◌∙◌}
 use mathlib.Core.Bool.{true, false}
 use native.Mathlib.Omega.{arith}
-use borrow.Author.Rules.{rules}
 use Rattle.card.specs.Card.{blocks_in}
 use Rattle.journal.specs.Geometry.{trap}
 use Rattle.journal.specs.Choice.{in_use}
-use Rattle.store.specs.declared.record.Record.{Record}
 use Rattle.store.specs.State.{State}
 use Rattle.store.specs.CodeState.{state_of, fresh}
 use Rattle.store.specs.Causes.{wrong_sizes}

@@ -1,8 +1,7 @@
 -- `store::record::Record::copy_out` meets its contract: i blocks are copied out.
-use Prim.Native.Nat.{◌+◌, ◌*◌, ◌-◌, ◌≤◌, ◌<◌}
+use Prim.Native.Nat.{◌+◌, ◌*◌, ◌-◌, ◌<◌}
 use mathlib.Core.Path.{◌≡◌, ◌∙◌}
 use native.Mathlib.Omega.{arith}
-use borrow.Author.Rules.{rules}
 use lib.ListN.{length, get_or, take, drop, length-take, length-drop}
 use Rattle.cells.specs.Upto.Laws.{ext_joined}
 use Rattle.journal.specs.Geometry.{trap}
@@ -13,7 +12,7 @@ use Rattle.journal.proofs.Chains.{found_as, numbered-found}
 use Rattle.store.specs.CodeState.{fresh}
 use Rattle.store.specs.Lists.{open_from, group_from, listed}
 use Rattle.store.specs.Get.{waiting_from}
-use Rattle.store.proofs.Listings.{copied, met-le, copied-newest, CopiedOut, none_out, one_out, all_out}
+use Rattle.store.proofs.Listings.{copied, met-le, copied-newest, none_out, one_out, all_out}
 use Rattle.store.proofs.record.Record.copy_out.Goals as goal
 
 pub loop-i-init : goal.loop-i-init

@@ -12,7 +12,6 @@ use Rattle.store.specs.CodeState.{state_of}
 use Rattle.store.specs.Request.{power, cut}
 use Rattle.store.specs.Causes.{first, cause}
 use Rattle.store.proofs.Causes.{any_waits, own_rows, cause_2, passes_sound}
-use borrow.Author.Rules.{rules}
 use Rattle.store.proofs.record.Record.cut_number.Goals as goal
 
 pub returns-then-number-ne0 : goal.returns-then-number-ne0

@@ -10,7 +10,6 @@ use Rattle.store.specs.Save as Save
 use Rattle.store.specs.Cost.{cost_of}
 use Rattle.store.proofs.Saves.{Unopened, unopened, recover_barred, recover-cause}
 use Rattle.store.proofs.Costs.{cost_refused, cost_by, recover-cost}
-use borrow.Author.Rules.{rules}
 use Rattle.store.proofs.record.Record.recover_cost.Goals as goal
 
 pub returns-then-number-ne0 : goal.returns-then-number-ne0

@@ -17,7 +17,6 @@ use Rattle.store.specs.Outcomes.{unless}
 use Rattle.store.specs.Saves.{carried, reopened, recovering}
 use Rattle.store.proofs.Saves as Saves
 use Rattle.store.proofs.Saves.{carried-power, carried_ends, carried_none}
-use borrow.Author.Rules.{rules}
 use Rattle.store.proofs.record.Record.recovered.Goals as goal
 
 -- what it promises of a choice
