@@ -5,7 +5,7 @@ mod output;
 mod sizes;
 mod turn;
 
-ghost use Rattle.std.specs.Prelude.{◌≡◌, true, List, ℕ, take, is_ok, OnOk, OnErr};
+ghost use Rattle.std.specs.Prelude.{◌≡◌, true, List, ℕ, take, is_ok, IsOk, IsErrOf, IfErr, OnOk};
 ghost use Rattle.script.specs.Steps.{fresh, fed, finish};
 ghost use Rattle.script.specs.CodeSession.{session_of};
 ghost use Rattle.trapcard.specs.Turns.{output, goes_on, at_end, has_read, Stops};
@@ -110,18 +110,23 @@ fn run(
     Ending { last, sent }
 }
 
-// The error of the write that failed, or of the read.
-fn report(ending: Ending) -> io::Result<()>
-    ensures written { OnErr ending.sent.said (result ≡ ending.sent.said) }
-    ensures read { OnOk ending.sent.said (result ≡ ending.last.received.said) }
-{
-    if ending.sent.said.is_err() {
-        return ending.sent.said;
-    }
-    ending.last.received.said
+// What ended the run before the end of its input: a write or a read that failed.
+#[derive(Debug, Drop)]
+enum Failure {
+    StandardOutput(io::Error),
+    StandardInput(io::Error),
 }
 
-fn main(rt: HostRuntime) -> io::Result<()> {
+fn report(ending: Ending) -> Result<(), Failure>
+    ensures written { IfErr ending.sent.said (λ e. IsErrOf result (Failure.StandardOutput e)) }
+    ensures read { OnOk ending.sent.said (IfErr ending.last.received.said (λ e. IsErrOf result (Failure.StandardInput e))) }
+    ensures none { OnOk ending.sent.said (OnOk ending.last.received.said (IsOk result)) }
+{
+    ending.sent.said.map_err(Failure::StandardOutput)?;
+    ending.last.received.said.map_err(Failure::StandardInput)
+}
+
+fn main(rt: HostRuntime) -> Result<(), Failure> {
     let mut bytes = [0u8; FED];
     let mut line = [0u8; KEPT];
     let mut settled = [0u8; SETTLED];
