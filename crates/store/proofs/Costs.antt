@@ -26,7 +26,6 @@ use Rattle.journal.proofs.OrderLists.{header_entry, append_writes, append-writes
 use Rattle.journal.proofs.Peaks.{peak-append, peak-checkpoint, peak_fallback}
 use Rattle.store.specs.declared.cost.Cost.{Cost}
 use Rattle.store.specs.State.{State, card_in}
-use Rattle.store.specs.Save as Save
 use Rattle.store.specs.Save.{Save}
 use Rattle.store.specs.Request.{save, recover}
 use Rattle.store.specs.Causes.{cause}

@@ -1,8 +1,6 @@
 -- A call with its own arguments, as the table of causes tells them apart: format, a local call, a direct write (W-209), a save, or a cut.
 use Rattle.std.specs.Prelude.{ℕ, List}
-use Rattle.store.specs.Local as Local
 use Rattle.store.specs.Local.{Local}
-use Rattle.store.specs.Save as Save
 use Rattle.store.specs.Save.{Save}
 
 pub data Request : Type 0 where

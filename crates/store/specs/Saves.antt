@@ -11,7 +11,6 @@ use Rattle.journal.specs.Choice.{choose, taken_count, taken_sum, taken_save, rec
 use Rattle.store.specs.declared.record.Record.{Record}
 use Rattle.store.specs.State.{State, Outcome, open_mode, down, with_mode, with_opened, with_grouped, with_log, with_save, with_record, card_in, with_card}
 use Rattle.store.specs.Lists.{group_from, list_of}
-use Rattle.store.specs.Save as Save
 use Rattle.store.specs.Save.{Save}
 use Rattle.store.specs.Request.{sync, apply, recover}
 use Rattle.store.specs.Causes.{cause}

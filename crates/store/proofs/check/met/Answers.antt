@@ -1,5 +1,4 @@
 -- `store::check::met` meets its contract.
-use borrow.Author.Rules.{rules}
 use borrow.Author.Tests.{eq-eqb, ne_eqb}
 use Rattle.store.proofs.check.met.Goals as goal
 

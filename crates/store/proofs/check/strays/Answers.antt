@@ -1,14 +1,12 @@
 -- `store::check::strays` meets its contract. The invariant: none of the first i strays.
-use Prim.Native.Nat.{ℕ, ◌-◌, ◌≤◌}
+use Prim.Native.Nat.{ℕ}
 use mathlib.Core.Path.{◌≡◌, sym}
-use mathlib.Core.Bool.{Bool, false, not}
+use mathlib.Core.Bool.{Bool, not}
 use mathlib.Core.List.{List}
 use native.Mathlib.Omega.{arith}
-use borrow.Author.Rules.{rules}
 use Rattle.journal.specs.Geometry.{trap}
 use Rattle.journal.specs.Layout.{is_data}
 use Rattle.store.specs.Lists.{listed}
-use Rattle.store.specs.Causes.{strays}
 use Rattle.store.proofs.Causes.{climb_none, climb_hit, climb_on}
 use Rattle.store.proofs.check.strays.Goals as goal
 
@@ -23,7 +21,7 @@ returns-then-not-is_data c =
     let l = c.loop-i in
     let a = c.args in
     climb_hit (stray a.work.now a.blocks a.from) l.i a.n (omega arith)
-    (rw (← c.address.ensures, ← c.is_data.ensures) c.if-not-is_data.true)
+    (rw (← c.address.ensures, ← c.is_data.ensures, c.if-not-is_data.true))
 
 pub loop-i-preserved : goal.loop-i-preserved
 loop-i-preserved c =
@@ -31,7 +29,7 @@ loop-i-preserved c =
     let a = c.args in (
       omega arith,
       climb_on (stray a.work.now a.blocks a.from) l.i l.invariant.1
-          (rw (← c.address.ensures, ← c.is_data.ensures) c.if-not-is_data.false),
+          (rw (← c.address.ensures, ← c.is_data.ensures, c.if-not-is_data.false)),
     )
 
 pub returns : goal.returns

@@ -1,17 +1,12 @@
 -- `store::check::twice` meets its contract. The invariant: none of the first i is there twice, and each has marked its bucket.
-use Prim.Native.Nat.{ℕ, zero, suc, ◌-◌, ◌%◌, ◌≤◌, ◌<◌}
-use mathlib.Core.Path.{◌≡◌, refl, ap, sym, ◌∙◌}
-use mathlib.Core.Bool.{Bool, false, cond}
+use Prim.Native.Nat.{ℕ, ◌-◌, ◌≤◌}
+use mathlib.Core.Path.{◌≡◌}
+use mathlib.Core.Bool.{false}
 use mathlib.Core.List.{List}
-use native.Mathlib.Omega.{arith}
-use borrow.Author.Rules.{rules}
-use lib.Dec.{eqb}
-use lib.ListN.{length, get_or, length-set}
-use Rattle.journal.specs.Lookup.{last_of}
-use Rattle.journal.proofs.Lookups.{Marked, mark_more}
-use Rattle.store.proofs.Causes.{climb_none, climb_hit, climb_on, met-found}
-use Rattle.store.specs.Lists.{listed, find}
-use Rattle.store.specs.Causes.{is_found, some, twice}
+use lib.ListN.{length}
+use Rattle.journal.proofs.Lookups.{Marked}
+use Rattle.store.specs.Lists.{listed}
+use Rattle.store.specs.Causes.{twice}
 use Rattle.store.proofs.check.twice.Given as goal
 
 abbrev pub addresses : List ℕ → ℕ → ℕ → ℕ

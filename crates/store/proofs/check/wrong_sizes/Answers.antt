@@ -2,7 +2,6 @@
 use borrow.Author.Tests.{eq-eqb, ne_eqb}
 use Rattle.journal.specs.Geometry.{trap}
 use Rattle.store.specs.Causes.{wrong_sizes}
-use borrow.Author.Rules.{rules}
 use Rattle.store.proofs.check.wrong_sizes.Goals as goal
 
 pub returns-then-wrong_size : goal.returns-then-wrong_size

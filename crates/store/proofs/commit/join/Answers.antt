@@ -19,7 +19,7 @@ pub copy_entry-requires : goal.copy_entry-requires
 unfolding trap
 copy_entry-requires c =
     let lookup : Found = find c.args.work.now (group_from trap) c.args.g (listed c.args.work.now open_from c.args.i).address in
-    let missing : lookup ≡ Absent = rw (← c.address-a.ensures) (sym c.find.ensures ∙ c.enum_told-1.given.1) in
+    let missing : lookup ≡ Absent = rw (← c.address-a.ensures) (sym c.find.ensures ∙ c.in_default.is) in
     let less : c.args.g < trap.slots = c.requires.g_lt_slots (missing) in
     omega arith
 
@@ -31,21 +31,21 @@ pub returns-in_default : goal.returns-in_default
 unfolding join trap
 returns-in_default c =
     let lookup : Found = find c.args.work.now (group_from trap) c.args.g (listed c.args.work.now open_from c.args.i).address in
-    let missing : lookup ≡ Absent = rw (← c.address-a.ensures) (sym c.find.ensures ∙ c.enum_told-1.given.1) in
+    let missing : lookup ≡ Absent = rw (← c.address-a.ensures) (sym c.find.ensures ∙ c.in_default.is) in
     rw (c.copy_entry.ensures, missing)
 
 pub copy_entry-requires-2 : goal.copy_entry-requires-2
 unfolding trap
 copy_entry-requires-2 c =
     let lookup : Found = find c.args.work.now (group_from trap) c.args.g (listed c.args.work.now open_from c.args.i).address in
-    let found : lookup ≡ At c.j-1.given.0.0 = rw (← c.address-a.ensures) (sym c.find.ensures ∙ c.j-1.given.1) in
+    let found : lookup ≡ At c.in-At.j = rw (← c.address-a.ensures) (sym c.find.ensures ∙ c.in-At.is) in
     let a = c.args in
-    let inside = find_at a.work.now (group_from trap) a.g (listed a.work.now open_from a.i).address c.j-1.given.0.0 (found) in
+    let inside = find_at a.work.now (group_from trap) a.g (listed a.work.now open_from a.i).address c.in-At.j (found) in
     omega arith
 
 pub returns : goal.returns
 unfolding join trap
 returns c =
     let lookup : Found = find c.args.work.now (group_from trap) c.args.g (listed c.args.work.now open_from c.args.i).address in
-    let found : lookup ≡ At c.j-1.given.0.0 = rw (← c.address-a.ensures) (sym c.find.ensures ∙ c.j-1.given.1) in
+    let found : lookup ≡ At c.in-At.j = rw (← c.address-a.ensures) (sym c.find.ensures ∙ c.in-At.is) in
     rw (c.copy_entry-2.ensures, found)

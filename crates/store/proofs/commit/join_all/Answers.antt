@@ -1,5 +1,5 @@
 -- `store::commit::join_all` meets its contract.
-use Prim.Native.Nat.{suc, ◌+◌, ◌-◌, ◌≤◌, ◌<◌}
+use Prim.Native.Nat.{suc, ◌+◌, ◌≤◌, ◌<◌}
 use mathlib.Core.Path.{◌≡◌, refl, ap, sym, ◌∙◌}
 use native.Mathlib.Omega.{arith}
 use lib.ListN.{length}
@@ -7,7 +7,7 @@ use Rattle.cells.specs.Entry.{Entry}
 use Rattle.journal.specs.Geometry.{trap}
 use Rattle.store.specs.Lists.{open_from, listed}
 use Rattle.store.specs.Causes.{newcomers}
-use Rattle.store.specs.Commit.{Group, join, joined}
+use Rattle.store.specs.Commit.{join, joined}
 use Rattle.store.proofs.Commits.{newcomers_mono, joined_more, Joining, free, joining}
 use Rattle.store.proofs.commit.join_all.Goals as goal
 
@@ -31,7 +31,7 @@ join-count-requires c =
     record {
       trap_in_bounds = omega arith;
       g_le_slots = (omega (arith, j.most), few);
-      g_lt_slots = λ absent. free trap a.work.now (λ k. (c.slice_known-1.given k).fits) c.requires.trap_in_bounds a.g c.loop-i.i few _ j room (rw (j.same_open c.loop-i.i few) c absent);
+      g_lt_slots = λ absent. free trap a.work.now (λ k. (c.slice_known-1.given k).fits) c.requires.trap_in_bounds a.g c.loop-i.i few _ j room (rw (j.same_open c.loop-i.i few) at absent);
     }
 
 pub loop-i-preserved : goal.loop-i-preserved

@@ -1,7 +1,6 @@
 -- `store::format::settle_header` meets its contract.
 use mathlib.Core.Path.{◌≡◌, ap, ◌∙◌}
 use Rattle.journal.specs.Header.{encode, empty_header}
-use borrow.Author.Rules.{rules}
 use Rattle.store.proofs.format.settle_header.Goals as goal
 
 pub returns : goal.returns

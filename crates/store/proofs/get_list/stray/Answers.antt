@@ -1,14 +1,7 @@
 -- `store::get_list::stray` meets its contract. The invariant: none of the first i strays.
-use Prim.Native.Nat.{ℕ, ◌-◌, ◌≤◌}
 use mathlib.Core.Path.{◌≡◌, sym}
-use mathlib.Core.Bool.{Bool, false, not}
-use mathlib.Core.List.{List}
 use native.Mathlib.Omega.{arith}
-use borrow.Author.Rules.{rules}
-use Rattle.journal.specs.Geometry.{trap}
-use Rattle.journal.specs.Layout.{is_data}
 use Rattle.journal.specs.Wanted.{wanted_count, wanted_at}
-use Rattle.store.specs.Causes.{some}
 use Rattle.store.proofs.Causes.{climb_none, climb_hit, climb_on}
 use Rattle.store.proofs.get_list.stray.Invariants.{wrong}
 use Rattle.store.proofs.get_list.stray.Goals as goal
@@ -22,14 +15,14 @@ returns-then-not-is_data c =
     let a = c.args in
     let next : c.wanted.result ≡ wanted_at a.list.now l.i = c.wanted.ensures in
     climb_hit (wrong a.list.now a.size) l.i (wanted_count a.list.now) (omega arith)
-    (rw (← next, ← c.is_data.ensures) c.if-not-is_data.true)
+    (rw (← next, ← c.is_data.ensures, c.if-not-is_data.true))
 
 pub loop-i-preserved : goal.loop-i-preserved
 loop-i-preserved c =
     let l = c.loop-i in
     let a = c.args in
     let next : c.wanted.result ≡ wanted_at a.list.now l.i = c.wanted.ensures in
-    (omega arith, l.invariant.1, climb_on (wrong a.list.now a.size) l.i l.invariant.2 (rw (← next, ← c.is_data.ensures) c.if-not-is_data.false))
+    (omega arith, l.invariant.1, climb_on (wrong a.list.now a.size) l.i l.invariant.2 (rw (← next, ← c.is_data.ensures, c.if-not-is_data.false)))
 
 pub returns : goal.returns
 returns c =

@@ -1,15 +1,12 @@
 -- `store::get_list::stray` meets its contract. The invariant: none of the first i strays.
 use Prim.Native.Nat.{ℕ, ◌-◌, ◌≤◌}
-use mathlib.Core.Path.{◌≡◌, sym}
+use mathlib.Core.Path.{◌≡◌}
 use mathlib.Core.Bool.{Bool, false, not}
 use mathlib.Core.List.{List}
-use native.Mathlib.Omega.{arith}
-use borrow.Author.Rules.{rules}
 use Rattle.journal.specs.Geometry.{trap}
 use Rattle.journal.specs.Layout.{is_data}
 use Rattle.journal.specs.Wanted.{wanted_count, wanted_at}
 use Rattle.store.specs.Causes.{some}
-use Rattle.store.proofs.Causes.{climb_none, climb_hit, climb_on}
 use Rattle.store.proofs.get_list.stray.Given as goal
 
 abbrev pub wrong : List ℕ → ℕ → ℕ → Bool

@@ -4,7 +4,6 @@ use lib.ListN.{length}
 use Rattle.cells.specs.Entry.{entry_at}
 use Rattle.cells.specs.Entry.Laws.{length_block, block_part}
 use Rattle.cells.specs.Part.{View}
-use borrow.Author.Rules.{rules}
 use Rattle.store.proofs.lists.copy_entry.Goals as goal
 
 pub copy-requires : goal.copy-requires

@@ -1,11 +1,10 @@
 -- `store::lists::find` meets its contract.
-use Prim.Native.Nat.{ℕ, ◌≤◌}
+use Prim.Native.Nat.{ℕ}
 use mathlib.Core.Path.{◌≡◌, refl, sym, ◌∙◌}
 use mathlib.Core.List.{List}
 use native.Mathlib.Omega.{arith}
-use borrow.Author.Rules.{rules}
 use Rattle.journal.proofs.Lookups.{last_none, last_here, last_below}
-use Rattle.store.specs.Lists.{listed, find}
+use Rattle.store.specs.Lists.{listed}
 use Rattle.store.proofs.lists.find.Goals as goal
 
 abbrev addresses : List ℕ → ℕ → ℕ → ℕ

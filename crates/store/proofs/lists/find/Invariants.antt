@@ -1,11 +1,7 @@
 -- `store::lists::find` meets its contract.
-use Prim.Native.Nat.{ℕ, ◌≤◌}
-use mathlib.Core.Path.{◌≡◌, refl, sym, ◌∙◌}
-use mathlib.Core.List.{List}
-use native.Mathlib.Omega.{arith}
-use borrow.Author.Rules.{rules}
-use Rattle.journal.proofs.Lookups.{last_none, last_here, last_below}
-use Rattle.store.specs.Lists.{listed, find}
+use Prim.Native.Nat.{◌≤◌}
+use mathlib.Core.Path.{◌≡◌}
+use Rattle.store.specs.Lists.{find}
 use Rattle.store.proofs.lists.find.Given as goal
 
 abbrev pub invariant-loop-i : goal.invariant-loop-i

@@ -1,5 +1,4 @@
 -- `store::lists::look` meets its contract: the first i were looked at.
-use Prim.Native.Nat.{◌-◌, ◌≤◌}
 use mathlib.Core.Path.{◌≡◌, refl, ◌∙◌}
 use native.Mathlib.Omega.{arith}
 use native.Mathlib.Numerals.{add-one}
@@ -7,7 +6,6 @@ use borrow.Author.Rules.{rules}
 use lib.ListN.{length}
 use Rattle.cells.specs.Upto.Laws.{length-up_to}
 use Rattle.journal.specs.Geometry.{trap}
-use Rattle.journal.specs.CodeWanted.{Met}
 use Rattle.store.specs.Lists.{listed, addresses_of}
 use Rattle.store.proofs.lists.look.Goals as goal
 

@@ -1,14 +1,9 @@
 -- `store::lists::look` meets its contract: the first i were looked at.
 use Prim.Native.Nat.{◌-◌, ◌≤◌}
-use mathlib.Core.Path.{◌≡◌, refl, ◌∙◌}
-use native.Mathlib.Omega.{arith}
-use native.Mathlib.Numerals.{add-one}
-use borrow.Author.Rules.{rules}
+use mathlib.Core.Path.{◌≡◌}
 use lib.ListN.{length}
-use Rattle.cells.specs.Upto.Laws.{length-up_to}
-use Rattle.journal.specs.Geometry.{trap}
 use Rattle.journal.specs.CodeWanted.{Met}
-use Rattle.store.specs.Lists.{listed, addresses_of}
+use Rattle.store.specs.Lists.{addresses_of}
 use Rattle.store.proofs.lists.look.Given as goal
 
 abbrev pub invariant-loop-i : goal.invariant-loop-i

@@ -1,6 +1,5 @@
 -- `store::lists::place_of` meets its contract.
 use native.Mathlib.Omega.{arith}
-use borrow.Author.Rules.{rules}
 use Rattle.journal.specs.Geometry.{trap}
 use Rattle.store.proofs.lists.place_of.Goals as goal
 

@@ -1,15 +1,13 @@
 -- `store::refusals::newcomers` meets its contract.
-use Prim.Native.Nat.{◌-◌, ◌≤◌}
 use mathlib.Core.Path.{◌≡◌, refl, sym, ◌∙◌}
 use mathlib.Core.Bool.{true, false}
-use mathlib.Core.Logic.{⊎_elim}
 use native.Mathlib.Omega.{arith}
-use borrow.Author.Tests.{not-true, not-false}
 use Rattle.journal.specs.Geometry.{trap}
 use Rattle.store.specs.Lists.{open_from, group_from, listed, find}
 use Rattle.store.specs.Causes.{is_found, newcomers}
 use Rattle.store.proofs.Commits.{newcomers_more}
 use Rattle.store.proofs.refusals.newcomers.Goals as goal
+use Rattle.store.proofs.refusals.newcomers.Goals.{then-not-holds, else-not-holds}
 
 pub loop-i-init : goal.loop-i-init
 unfolding newcomers
@@ -27,16 +25,16 @@ loop-i-preserved c =
     let l = c.loop-i in
     let a = c.args in
     let more = newcomers_more trap a.work.now a.g l.i in
-    ⊎_elim
-    (λ w.
-    let new : is_found (find a.work.now (group_from trap) a.g (listed a.work.now open_from l.i).address) ≡ false = told ∙ not-true _ w.0.taken in
-    let one = rw new at more in
-    omega (arith, w.1))
-    (λ w.
-    let old : is_found (find a.work.now (group_from trap) a.g (listed a.work.now open_from l.i).address) ≡ true = told ∙ not-false _ w.0.left in
-    let none = rw old at more in
-    omega (arith, w.1))
-    c.if-not-holds.branch
+    elim c.if-not-holds.branch [
+      | then-not-holds w ↦
+          let new : is_found (find a.work.now (group_from trap) a.g (listed a.work.now open_from l.i).address) ≡ false = told ∙ w.if-not-holds.true in
+          let one = rw new at more in
+          omega arith
+      | else-not-holds w ↦
+          let old : is_found (find a.work.now (group_from trap) a.g (listed a.work.now open_from l.i).address) ≡ true = told ∙ w.if-not-holds.false in
+          let none = rw old at more in
+          omega arith
+    ]
 
 pub returns : goal.returns
 returns c =

@@ -1,14 +1,8 @@
 -- `store::refusals::newcomers` meets its contract.
 use Prim.Native.Nat.{◌-◌, ◌≤◌}
-use mathlib.Core.Path.{◌≡◌, refl, sym, ◌∙◌}
-use mathlib.Core.Bool.{true, false}
-use mathlib.Core.Logic.{⊎_elim}
-use native.Mathlib.Omega.{arith}
-use borrow.Author.Tests.{not-true, not-false}
+use mathlib.Core.Path.{◌≡◌}
 use Rattle.journal.specs.Geometry.{trap}
-use Rattle.store.specs.Lists.{open_from, group_from, listed, find}
-use Rattle.store.specs.Causes.{is_found, newcomers}
-use Rattle.store.proofs.Commits.{newcomers_more}
+use Rattle.store.specs.Causes.{newcomers}
 use Rattle.store.proofs.refusals.newcomers.Given as goal
 
 abbrev pub invariant-loop-i : goal.invariant-loop-i

@@ -1,5 +1,4 @@
 -- `store::record::Record::after` meets its contract.
-use borrow.Author.Rules.{rules}
 use Rattle.store.proofs.record.Record.after.Goals as goal
 
 pub returns-then-ordered : goal.returns-then-ordered

@@ -9,7 +9,6 @@ use Rattle.store.specs.Request.{abandon}
 use Rattle.store.specs.Saves.{apply_call}
 use Rattle.store.proofs.Calls.{call_refused, call_done}
 use Rattle.store.proofs.Saves.{Ready, ready, carried-power, carried_ends, carried_none, apply_none, apply_some}
-use borrow.Author.Rules.{rules}
 use Rattle.store.proofs.record.Record.apply.Goals as goal
 
 pub returns-then-number-ne0 : goal.returns-then-number-ne0

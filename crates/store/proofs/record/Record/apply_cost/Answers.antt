@@ -8,7 +8,6 @@ use Rattle.store.specs.Save as Save
 use Rattle.store.specs.Request.{abandon}
 use Rattle.store.proofs.Saves.{Ready, ready}
 use Rattle.store.proofs.Costs.{apply_cost_none, apply_cost_some, cost_refused, cost_served}
-use borrow.Author.Rules.{rules}
 use Rattle.store.proofs.record.Record.apply_cost.Goals as goal
 
 pub returns-then-number-ne0 : goal.returns-then-number-ne0

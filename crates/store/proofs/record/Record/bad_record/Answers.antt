@@ -8,7 +8,6 @@ use Rattle.store.specs.State.{State}
 use Rattle.store.specs.CodeState.{state_of}
 use Rattle.store.specs.Causes.{wrong_sizes, wrong_counts, wrong_waiting}
 use Rattle.store.proofs.Causes.{sizes_facts, any_waits, counts_facts}
-use borrow.Author.Rules.{rules}
 use Rattle.store.proofs.record.Record.bad_record.Goals as goal
 
 pub returns-then-wrong_sizes : goal.returns-then-wrong_sizes

@@ -11,7 +11,6 @@ use Rattle.store.specs.Outcomes.{completed}
 use Rattle.store.specs.Commit.{Group, commit_call}
 use Rattle.store.proofs.Calls.{call_refused, call_done}
 use Rattle.store.proofs.Causes.{cause_passes, passes_sound}
-use borrow.Author.Rules.{rules}
 use Rattle.store.proofs.record.Record.commit.Goals as goal
 
 pub returns-then-number-ne0 : goal.returns-then-number-ne0

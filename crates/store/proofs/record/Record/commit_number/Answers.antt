@@ -10,7 +10,6 @@ use Rattle.store.specs.CodeState.{state_of}
 use Rattle.store.specs.Request.{commit, abandon}
 use Rattle.store.specs.Causes.{newcomers, first, cause}
 use Rattle.store.proofs.Causes.{Checked, own_rows, cause_4, passes_sound}
-use borrow.Author.Rules.{rules}
 use Rattle.store.proofs.record.Record.commit_number.Goals as goal
 
 pub returns-then-number-ne0 : goal.returns-then-number-ne0

@@ -1,8 +1,7 @@
 -- `store::record::Record::copy_out` meets its contract: i blocks are copied out.
-use Prim.Native.Nat.{◌+◌, ◌*◌, ◌-◌, ◌≤◌, ◌<◌}
+use Prim.Native.Nat.{◌+◌, ◌*◌, ◌-◌, ◌<◌}
 use mathlib.Core.Path.{◌≡◌, ◌∙◌}
 use native.Mathlib.Omega.{arith}
-use borrow.Author.Rules.{rules}
 use lib.ListN.{length, get_or, take, drop, length-take, length-drop}
 use Rattle.cells.specs.Upto.Laws.{ext_joined}
 use Rattle.journal.specs.Geometry.{trap}
@@ -13,21 +12,11 @@ use Rattle.journal.proofs.Chains.{found_as, numbered-found}
 use Rattle.store.specs.CodeState.{fresh}
 use Rattle.store.specs.Lists.{open_from, group_from, listed}
 use Rattle.store.specs.Get.{waiting_from}
-use Rattle.store.proofs.Listings.{copied, met-le, copied-newest, CopiedOut, none_out, one_out, all_out}
+use Rattle.store.proofs.Listings.{copied, met-le, copied-newest, none_out, one_out, all_out}
 use Rattle.store.proofs.record.Record.copy_out.Goals as goal
-
-abbrev invariant_loop : tie.invariant_loop
-invariant_loop settled waiting work list opened grouped logged waited blocks₀ n i₀ blocks i =
-    (i ≤ n) × (n ≡ wanted_count list) × CopiedOut (copied settled waiting work list opened grouped logged waited) blocks₀ blocks i
 
 pub loop-i-init : goal.loop-i-init
 loop-i-init c = (omega arith, c.count-n.ensures, none_out _ _)
-
-pub overflow_add-at : goal.overflow_add-at
-overflow_add-at c =
-    let fits : length c.args.blocks.now < 9223372036854775808 = omega (arith, c.well-formed.1.1.1.1.1.1.1.1.1.0) in
-    let total : length c.args.blocks.now ≡ 512 * wanted_count c.args.list.now = c.requires.blocks_len in
-    search rules
 
 pub slice_bounds-copy_newest-start : goal.slice_bounds-copy_newest-start
 slice_bounds-copy_newest-start c = omega (arith, c.loop-i.invariant.2.size)

@@ -18,7 +18,6 @@ use Rattle.card.proofs.MarkLaws.{fits_length}
 use Rattle.journal.specs.Geometry.{trap}
 use Rattle.store.proofs.Causes.{any_waits, cause_passes, passes_sound}
 use Rattle.store.proofs.Saves.{cut_state}
-use borrow.Author.Rules.{rules}
 use Rattle.store.proofs.record.Record.cut.Goals as goal
 
 pub returns-then-number-ne0 : goal.returns-then-number-ne0

@@ -12,7 +12,6 @@ use Rattle.store.specs.CodeState.{state_of}
 use Rattle.store.specs.Request.{power, cut}
 use Rattle.store.specs.Causes.{first, cause}
 use Rattle.store.proofs.Causes.{any_waits, own_rows, cause_2, passes_sound}
-use borrow.Author.Rules.{rules}
 use Rattle.store.proofs.record.Record.cut_number.Goals as goal
 
 pub returns-then-number-ne0 : goal.returns-then-number-ne0
@@ -33,7 +32,7 @@ unfolding queue
 returns-then-not-fit c =
     let given : State = state_of c.args.self c.args.settled.now c.args.waiting.now c.args.work.now in
     let table_of : cause trap (cut c.args.marks.now) (given) ≡ cond (eqb c.bad_record-number.result 0) (first (own_rows trap (cut c.args.marks.now)) (given)) c.bad_record-number.result = cause_2 trap (given) c.bad_record-number.result (own_rows trap (cut c.args.marks.now)) c.bad_record-number.ensures in
-    let unfit : not (marks_fit c.args.marks.now (queue (card_in (given)))) ≡ true = ap not (sym c.fit.ensures) ∙ c.if-not-fit.true in
+    let unfit : not (marks_fit c.args.marks.now (queue (card_in (given)))) ≡ true = ap not (sym c.fit.ensures ∙ c.if-not-fit.true) in
     rw (table_of, eq-eqb _ _ c.if-number-ne0.false, unfit)
 
 pub returns : goal.returns
@@ -41,5 +40,5 @@ unfolding queue
 returns c =
     let given : State = state_of c.args.self c.args.settled.now c.args.waiting.now c.args.work.now in
     let table_of : cause trap (cut c.args.marks.now) (given) ≡ cond (eqb c.bad_record-number.result 0) (first (own_rows trap (cut c.args.marks.now)) (given)) c.bad_record-number.result = cause_2 trap (given) c.bad_record-number.result (own_rows trap (cut c.args.marks.now)) c.bad_record-number.ensures in
-    let fits : not (marks_fit c.args.marks.now (queue (card_in (given)))) ≡ false = ap not (sym c.fit.ensures) ∙ c.if-not-fit.false in
+    let fits : not (marks_fit c.args.marks.now (queue (card_in (given)))) ≡ false = ap not (sym c.fit.ensures ∙ c.if-not-fit.false) in
     rw (table_of, eq-eqb _ _ c.if-number-ne0.false, fits)

@@ -10,7 +10,6 @@ use Rattle.store.specs.Direct.{direct_call}
 use Rattle.store.proofs.Calls.{call_refused, call_done}
 use Rattle.store.proofs.Causes.{cause_passes}
 use Rattle.store.proofs.Saves.{Ready, ready, carried-power, carried_ends}
-use borrow.Author.Rules.{rules}
 use Rattle.store.proofs.record.Record.direct.Goals as goal
 
 pub returns-then-refusal-ne0 : goal.returns-then-refusal-ne0

@@ -11,7 +11,6 @@ use Rattle.store.specs.Request.{Request, direct, abandon}
 use Rattle.store.specs.Causes.{listed_row, first, cause}
 use Rattle.store.proofs.Causes.{own_rows, cause_block, cause_4, passes_sound}
 use Rattle.store.proofs.Directs.{listed-row}
-use borrow.Author.Rules.{rules}
 use Rattle.store.proofs.record.Record.direct_number.Goals as goal
 
 pub returns-then-block-ne-BLOCK : goal.returns-then-block-ne-BLOCK

@@ -12,7 +12,6 @@ use Rattle.journal.proofs.OrderLists.{length-checkpoint}
 use Rattle.store.specs.State.{with_log}
 use Rattle.store.specs.CodeState.{state_of}
 use Rattle.store.proofs.Saves.{given}
-use borrow.Author.Rules.{rules}
 use Rattle.store.proofs.record.Record.emptied.Goals as goal
 
 pub checkpoint-ordered-requires : goal.checkpoint-ordered-requires

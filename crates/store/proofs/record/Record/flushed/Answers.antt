@@ -8,7 +8,6 @@ use Rattle.journal.specs.Geometry.{trap}
 use Rattle.store.specs.CodeState.{state_of}
 use Rattle.store.specs.Saves.{carried}
 use Rattle.store.proofs.Saves.{given, barrier-some, flush_none}
-use borrow.Author.Rules.{rules}
 use Rattle.store.proofs.record.Record.flushed.Goals as goal
 
 pub returns-then-self-eq0 : goal.returns-then-self-eq0

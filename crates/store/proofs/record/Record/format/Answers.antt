@@ -10,7 +10,6 @@ use Rattle.store.specs.Request.{format}
 use Rattle.store.specs.Format.{formatted, format_call}
 use Rattle.store.proofs.Calls.{call_refused, call_done}
 use Rattle.store.proofs.Causes.{SizeFacts, sizes_facts, cause_passes}
-use borrow.Author.Rules.{rules}
 use Rattle.store.proofs.record.Record.format.Goals as goal
 
 pub returns-then-number-ne0 : goal.returns-then-number-ne0

@@ -2,7 +2,6 @@
 use Rattle.journal.specs.Geometry.{trap}
 use Rattle.store.specs.CodeState.{state_of}
 use Rattle.store.proofs.Places.{get_within}
-use borrow.Author.Rules.{rules}
 use Rattle.store.proofs.record.Record.get.Goals as goal
 
 pub part-requires : goal.part-requires

@@ -9,7 +9,6 @@ use Rattle.store.specs.CodeState.{state_of}
 use Rattle.store.specs.Request.{get}
 use Rattle.store.specs.Causes.{first, cause}
 use Rattle.store.proofs.Causes.{own_rows, cause_4}
-use borrow.Author.Rules.{rules}
 use Rattle.store.proofs.record.Record.get_number.Goals as goal
 
 pub returns-then-number-ne0 : goal.returns-then-number-ne0

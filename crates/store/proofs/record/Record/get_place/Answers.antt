@@ -7,7 +7,6 @@ use Rattle.store.specs.CodeState.{state_of}
 use Rattle.store.specs.Request.{get}
 use Rattle.store.specs.Get.{get_place}
 use Rattle.store.proofs.Causes.{passes_sound, passes_waits}
-use borrow.Author.Rules.{rules}
 use Rattle.store.proofs.record.Record.get_place.Goals as goal
 
 pub returns-then-get_number-ne0 : goal.returns-then-get_number-ne0

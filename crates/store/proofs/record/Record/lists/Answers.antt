@@ -33,12 +33,12 @@ returns-in_default c =
     let in_log : Bool = is_found (last_slot c.args.settled.now c.args.address c.args.self.logged) in
     let no_open : in_open ≡ false = sym c.holds.ensures ∙ c.if-holds.false in
     let no_group : in_group ≡ false = sym c.holds-2.ensures ∙ c.if-holds-2.false in
-    let no_log : in_log ≡ false = ap is_found (sym c.last_slot.ensures ∙ c.enum_told-in_default-1.given.1) in
+    let no_log : in_log ≡ false = ap is_found (sym c.last_slot.ensures ∙ c.in_default.is) in
     rw (no_open, no_group, no_log)
 
 pub returns : goal.returns
 unfolding trap
 returns c =
     let in_log : Bool = is_found (last_slot c.args.settled.now c.args.address c.args.self.logged) in
-    let found : in_log ≡ true = ap is_found (sym c.last_slot.ensures ∙ c.enum_told-1.given.1) in
+    let found : in_log ≡ true = ap is_found (sym c.last_slot.ensures ∙ c.in-At.is) in
     rw (found, or-true)

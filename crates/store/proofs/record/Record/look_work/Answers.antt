@@ -1,6 +1,5 @@
 -- `store::record::Record::look_work` meets its contract.
 use native.Mathlib.Omega.{arith}
-use borrow.Author.Rules.{rules}
 use Rattle.journal.specs.Geometry.{trap}
 use Rattle.store.proofs.record.Record.look_work.Goals as goal
 

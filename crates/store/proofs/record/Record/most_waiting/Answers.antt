@@ -5,7 +5,6 @@ use borrow.Author.Tests.{eq-eqb, ne_eqb}
 use lib.Dec.{eqb}
 use Rattle.journal.specs.Geometry.{trap}
 use Rattle.store.specs.State.{closed, open_mode}
-use borrow.Author.Rules.{rules}
 use Rattle.store.proofs.record.Record.most_waiting.Goals as goal
 
 pub returns-then-self-eq-CLOSED : goal.returns-then-self-eq-CLOSED

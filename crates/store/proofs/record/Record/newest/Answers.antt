@@ -22,9 +22,9 @@ returns-in_default-last_slot c =
     let open_lookup : Found = find c.args.work.now open_from c.args.self.opened c.args.address in
     let group-lookup : Found = find c.args.work.now (group_from trap) c.args.self.grouped c.args.address in
     let log-lookup : Found = last_slot c.args.settled.now c.args.address c.args.self.logged in
-    let no_open : open_lookup ≡ Absent = sym c.find.ensures ∙ c.enum_told-1.given.1 in
-    let no_group : group-lookup ≡ Absent = sym c.find-in_default.ensures ∙ c.enum_told-in_default-find-1.given.1 in
-    let no_log : log-lookup ≡ Absent = sym c.last_slot.ensures ∙ c.enum_told-in_default-last_slot-1.given.1 in
+    let no_open : open_lookup ≡ Absent = sym c.find.ensures ∙ c.in_default.is in
+    let no_group : group-lookup ≡ Absent = sym c.find-in_default.ensures ∙ c.in_default-find.is in
+    let no_log : log-lookup ≡ Absent = sym c.last_slot.ensures ∙ c.in_default-last_slot.is in
     let a = c.args in
     rw (no_open, no_group, no_log) (c.unlogged.ensures a.settled.now a.work.now)
 
@@ -32,9 +32,9 @@ pub overflow_add-result : goal.overflow_add-result
 unfolding trap
 overflow_add-result c =
     let log-lookup : Found = last_slot c.args.settled.now c.args.address c.args.self.logged in
-    let in_log : log-lookup ≡ At c.k-1.given.0.0 = sym c.last_slot.ensures ∙ c.k-1.given.1 in
+    let in_log : log-lookup ≡ At c.in-At-last_slot.k = sym c.last_slot.ensures ∙ c.in-At-last_slot.is in
     let a = c.args in
-    let inside = last_at (slot_address a.settled.now) a.address a.self.logged c.k-1.given.0.0 (in_log) in
+    let inside = last_at (slot_address a.settled.now) a.address a.self.logged c.in-At-last_slot.k (in_log) in
     omega arith
 
 pub returns-in_default-find : goal.returns-in_default-find
@@ -43,18 +43,18 @@ returns-in_default-find c =
     let open_lookup : Found = find c.args.work.now open_from c.args.self.opened c.args.address in
     let group-lookup : Found = find c.args.work.now (group_from trap) c.args.self.grouped c.args.address in
     let log-lookup : Found = last_slot c.args.settled.now c.args.address c.args.self.logged in
-    let no_open : open_lookup ≡ Absent = sym c.find.ensures ∙ c.enum_told-1.given.1 in
-    let no_group : group-lookup ≡ Absent = sym c.find-in_default.ensures ∙ c.enum_told-in_default-find-1.given.1 in
-    let in_log : log-lookup ≡ At c.k-1.given.0.0 = sym c.last_slot.ensures ∙ c.k-1.given.1 in
+    let no_open : open_lookup ≡ Absent = sym c.find.ensures ∙ c.in_default.is in
+    let no_group : group-lookup ≡ Absent = sym c.find-in_default.ensures ∙ c.in_default-find.is in
+    let in_log : log-lookup ≡ At c.in-At-last_slot.k = sym c.last_slot.ensures ∙ c.in-At-last_slot.is in
     rw (no_open, no_group, in_log)
 
 pub place_of-requires : goal.place_of-requires
 unfolding trap
 place_of-requires c =
     let group-lookup : Found = find c.args.work.now (group_from trap) c.args.self.grouped c.args.address in
-    let in_group : group-lookup ≡ At c.j-1.given.0.0 = sym c.find-in_default.ensures ∙ c.j-1.given.1 in
+    let in_group : group-lookup ≡ At c.in-At-find.j = sym c.find-in_default.ensures ∙ c.in-At-find.is in
     let a = c.args in
-    let inside = find_at a.work.now (group_from trap) a.self.grouped a.address c.j-1.given.0.0 (in_group) in
+    let inside = find_at a.work.now (group_from trap) a.self.grouped a.address c.in-At-find.j (in_group) in
     omega arith
 
 pub returns-in_default : goal.returns-in_default
@@ -62,21 +62,21 @@ unfolding newest trap
 returns-in_default c =
     let open_lookup : Found = find c.args.work.now open_from c.args.self.opened c.args.address in
     let group-lookup : Found = find c.args.work.now (group_from trap) c.args.self.grouped c.args.address in
-    let no_open : open_lookup ≡ Absent = sym c.find.ensures ∙ c.enum_told-1.given.1 in
-    let in_group : group-lookup ≡ At c.j-1.given.0.0 = sym c.find-in_default.ensures ∙ c.j-1.given.1 in
+    let no_open : open_lookup ≡ Absent = sym c.find.ensures ∙ c.in_default.is in
+    let in_group : group-lookup ≡ At c.in-At-find.j = sym c.find-in_default.ensures ∙ c.in-At-find.is in
     rw (no_open, in_group, c.place_of.ensures)
 
 pub place_of-requires-2 : goal.place_of-requires-2
 place_of-requires-2 c =
     let open_lookup : Found = find c.args.work.now open_from c.args.self.opened c.args.address in
-    let in_open : open_lookup ≡ At c.i-1.given.0.0 = sym c.find.ensures ∙ c.i-1.given.1 in
+    let in_open : open_lookup ≡ At c.in-At.i = sym c.find.ensures ∙ c.in-At.is in
     let a = c.args in
-    let inside = find_at a.work.now open_from a.self.opened a.address c.i-1.given.0.0 (in_open) in
+    let inside = find_at a.work.now open_from a.self.opened a.address c.in-At.i (in_open) in
     omega arith
 
 pub returns : goal.returns
 unfolding newest
 returns c =
     let open_lookup : Found = find c.args.work.now open_from c.args.self.opened c.args.address in
-    let in_open : open_lookup ≡ At c.i-1.given.0.0 = sym c.find.ensures ∙ c.i-1.given.1 in
+    let in_open : open_lookup ≡ At c.in-At.i = sym c.find.ensures ∙ c.in-At.is in
     rw (in_open, c.place_of-2.ensures)

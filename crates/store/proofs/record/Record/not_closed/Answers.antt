@@ -9,7 +9,6 @@ use Rattle.store.specs.State.{State, down}
 use Rattle.store.specs.CodeState.{state_of}
 use Rattle.store.specs.Causes.{Row, down_row, open_row, of_record, first, cause_by}
 use Rattle.store.proofs.Causes.{cause_2}
-use borrow.Author.Rules.{rules}
 use Rattle.store.proofs.record.Record.not_closed.Goals as goal
 
 abbrev modes : List Row

@@ -10,7 +10,6 @@ use Rattle.store.specs.CodeState.{state_of}
 use Rattle.store.specs.Request.{abandon}
 use Rattle.store.specs.Causes.{Row, closed_row, down_row, first, cause}
 use Rattle.store.proofs.Causes.{cause_2}
-use borrow.Author.Rules.{rules}
 use Rattle.store.proofs.record.Record.not_open.Goals as goal
 
 abbrev modes : List Row

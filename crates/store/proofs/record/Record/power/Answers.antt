@@ -1,7 +1,6 @@
 -- `store::record::Record::power` meets its contract.
 use Rattle.store.specs.Power.{power_call}
 use Rattle.store.proofs.Calls.{call_refused, call_done}
-use borrow.Author.Rules.{rules}
 use Rattle.store.proofs.record.Record.power.Goals as goal
 
 pub returns-then-number-ne0 : goal.returns-then-number-ne0

@@ -16,7 +16,6 @@ use Rattle.store.specs.Outcomes.{completed}
 use Rattle.store.specs.Put.{put_call}
 use Rattle.store.proofs.Calls.{call_refused, call_done}
 use Rattle.store.proofs.Causes.{cause_passes, passes_sound}
-use borrow.Author.Rules.{rules}
 use Rattle.store.proofs.record.Record.put.Goals as goal
 
 -- a new address has room

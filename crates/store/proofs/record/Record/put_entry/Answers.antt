@@ -13,7 +13,7 @@ use Rattle.store.proofs.record.Record.put_entry.Goals as goal
 pub set-requires : goal.set-requires
 set-requires c =
     let lookup : Found = find c.args.work.now open_from c.args.self.opened c.args.address in
-    let missing : lookup ≡ Absent = sym c.find.ensures ∙ c.enum_told-1.given.1 in
+    let missing : lookup ≡ Absent = sym c.find.ensures ∙ c.in_default.is in
     let less : c.args.self.opened < trap.slots = c.requires.opened_lt_slots (missing) in
     record {
       entry_bytes_in_bounds = omega arith;
@@ -27,14 +27,14 @@ overflow_add-self c = search rules
 pub returns-in_default : goal.returns-in_default
 returns-in_default c =
     let lookup : Found = find c.args.work.now open_from c.args.self.opened c.args.address in
-    let missing : lookup ≡ Absent = sym c.find.ensures ∙ c.enum_told-1.given.1 in
+    let missing : lookup ≡ Absent = sym c.find.ensures ∙ c.in_default.is in
     λ s w. rw (c.with_opened.ensures, c.set.ensures, missing)
 
 pub set-requires-2 : goal.set-requires-2
 set-requires-2 c =
     let lookup : Found = find c.args.work.now open_from c.args.self.opened c.args.address in
-    let found : lookup ≡ At c.i-1.given.0.0 = sym c.find.ensures ∙ c.i-1.given.1 in
-    let inside = find_at c.args.work.now open_from c.args.self.opened c.args.address c.i-1.given.0.0 (found) in
+    let found : lookup ≡ At c.in-At.i = sym c.find.ensures ∙ c.in-At.is in
+    let inside = find_at c.args.work.now open_from c.args.self.opened c.args.address c.in-At.i (found) in
     record {
       entry_bytes_in_bounds = omega arith;
       block_len = c.requires.block_len;
@@ -43,5 +43,5 @@ set-requires-2 c =
 pub returns : goal.returns
 returns c =
     let lookup : Found = find c.args.work.now open_from c.args.self.opened c.args.address in
-    let found : lookup ≡ At c.i-1.given.0.0 = sym c.find.ensures ∙ c.i-1.given.1 in
+    let found : lookup ≡ At c.in-At.i = sym c.find.ensures ∙ c.in-At.is in
     λ s w. rw (c.set-2.ensures, found)

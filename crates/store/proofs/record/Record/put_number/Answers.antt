@@ -10,7 +10,6 @@ use Rattle.store.specs.CodeState.{state_of}
 use Rattle.store.specs.Request.{Request, put, abandon}
 use Rattle.store.specs.Causes.{first, cause}
 use Rattle.store.proofs.Causes.{own_rows, cause_block, cause_4, passes_sound}
-use borrow.Author.Rules.{rules}
 use Rattle.store.proofs.record.Record.put_number.Goals as goal
 
 pub returns-then-block-ne-BLOCK : goal.returns-then-block-ne-BLOCK

@@ -10,7 +10,6 @@ use Rattle.store.specs.Outcomes.{unless}
 use Rattle.store.specs.Saves.{recovering, recover_call}
 use Rattle.store.proofs.Calls.{call_refused}
 use Rattle.store.proofs.Saves.{Unopened, unopened, recover_barred, recover-call}
-use borrow.Author.Rules.{rules}
 use Rattle.store.proofs.record.Record.recover.Goals as goal
 
 pub returns-then-number-ne0 : goal.returns-then-number-ne0

@@ -10,7 +10,6 @@ use Rattle.store.specs.Save as Save
 use Rattle.store.specs.Cost.{cost_of}
 use Rattle.store.proofs.Saves.{Unopened, unopened, recover_barred, recover-cause}
 use Rattle.store.proofs.Costs.{cost_refused, cost_by, recover-cost}
-use borrow.Author.Rules.{rules}
 use Rattle.store.proofs.record.Record.recover_cost.Goals as goal
 
 pub returns-then-number-ne0 : goal.returns-then-number-ne0
@@ -37,7 +36,7 @@ returns-in-Whole c =
     let chosen : (x : Choice) → c.choose.result ≡ x → cost_by x (given) ≡ cost_of trap Save.recover (given) = λ x e. let st = given in
     let taken : choose trap st.rec.blocks st.settled ≡ x = sym c.choose.ensures ∙ e in
     recover-cost trap st x taken (recover-cause trap st c.not_closed-number.result c.not_closed-number.ensures c.if-number-ne0.false ∙ mathlib.Core.Path.ap choice_number taken) in
-    c.cost.ensures ∙ chosen _ c.enum_told-1.given.1
+    c.cost.ensures ∙ chosen _ c.in-Whole.is
 
 pub returns-in-Fallback : goal.returns-in-Fallback
 returns-in-Fallback c =
@@ -45,7 +44,7 @@ returns-in-Fallback c =
     let chosen : (x : Choice) → c.choose.result ≡ x → cost_by x (given) ≡ cost_of trap Save.recover (given) = λ x e. let st = given in
     let taken : choose trap st.rec.blocks st.settled ≡ x = sym c.choose.ensures ∙ e in
     recover-cost trap st x taken (recover-cause trap st c.not_closed-number.result c.not_closed-number.ensures c.if-number-ne0.false ∙ mathlib.Core.Path.ap choice_number taken) in
-    c.cost-in-Fallback.ensures ∙ chosen _ c.enum_told-in-Fallback-1.given.1
+    c.cost-in-Fallback.ensures ∙ chosen _ c.in-Fallback.is
 
 pub returns-in-Foreign : goal.returns-in-Foreign
 returns-in-Foreign c =
@@ -53,7 +52,7 @@ returns-in-Foreign c =
     let chosen : (x : Choice) → c.choose.result ≡ x → cost_by x (given) ≡ cost_of trap Save.recover (given) = λ x e. let st = given in
     let taken : choose trap st.rec.blocks st.settled ≡ x = sym c.choose.ensures ∙ e in
     recover-cost trap st x taken (recover-cause trap st c.not_closed-number.result c.not_closed-number.ensures c.if-number-ne0.false ∙ mathlib.Core.Path.ap choice_number taken) in
-    c.refusal-in-Foreign.ensures ∙ chosen _ c.enum_told-in-Foreign-1.given.1
+    c.refusal-in-Foreign.ensures ∙ chosen _ c.in-Foreign.is
 
 pub returns-in-Neither : goal.returns-in-Neither
 returns-in-Neither c =
@@ -61,4 +60,4 @@ returns-in-Neither c =
     let chosen : (x : Choice) → c.choose.result ≡ x → cost_by x (given) ≡ cost_of trap Save.recover (given) = λ x e. let st = given in
     let taken : choose trap st.rec.blocks st.settled ≡ x = sym c.choose.ensures ∙ e in
     recover-cost trap st x taken (recover-cause trap st c.not_closed-number.result c.not_closed-number.ensures c.if-number-ne0.false ∙ mathlib.Core.Path.ap choice_number taken) in
-    c.refusal-in-Neither.ensures ∙ chosen _ c.enum_told-in-Neither-1.given.1
+    c.refusal-in-Neither.ensures ∙ chosen _ c.in-Neither.is

@@ -17,7 +17,6 @@ use Rattle.store.specs.Outcomes.{unless}
 use Rattle.store.specs.Saves.{carried, reopened, recovering}
 use Rattle.store.proofs.Saves as Saves
 use Rattle.store.proofs.Saves.{carried-power, carried_ends, carried_none}
-use borrow.Author.Rules.{rules}
 use Rattle.store.proofs.record.Record.recovered.Goals as goal
 
 -- what it promises of a choice
@@ -43,12 +42,12 @@ fallback-ordered-requires c =
 pub saved-requires-in-Fallback : goal.saved-requires-in-Fallback
 saved-requires-in-Fallback c =
     let given : List ℕ → State = λ k. state_of c.args.self c.args.settled.now c.args.waiting.now k in
-    let fell : (k : List ℕ) → let x = c.choice-in-Fallback-1.given.0 in let a = c.args in
+    let fell : (k : List ℕ) → let x = c.in-Fallback in let a = c.args in
     state_of c.after.result c.fallback-ordered.new.settled c.fallback-ordered.new.waiting k
-    ≡ (carried (fallback_orders a.self.blocks x.0 x.1.0 x.1.1.0) (reopened x.0 x.1.0 x.1.1.0 a.self) a.self (given k)).state = λ k. let x = c.choice-in-Fallback-1.given.0 in
+    ≡ (carried (fallback_orders a.self.blocks x.p x.sum x.save) (reopened x.p x.sum x.save a.self) a.self (given k)).state = λ k. let x = c.in-Fallback in
     let a = c.args in
-    Saves.given (fallback_orders a.self.blocks x.0 x.1.0 x.1.1.0) 2 (reopened x.0 x.1.0 x.1.1.0 a.self) a.self (given k)
-    _ _ _ c.fallback-ordered.result _ _ (length_fallback a.self.blocks x.0 x.1.0 x.1.1.0) c.queue.ensures
+    Saves.given (fallback_orders a.self.blocks x.p x.sum x.save) 2 (reopened x.p x.sum x.save a.self) a.self (given k)
+    _ _ _ c.fallback-ordered.result _ _ (length_fallback a.self.blocks x.p x.sum x.save) c.queue.ensures
     c.fallback-ordered.ensures.happened_value c.fallback-ordered.ensures.queue_after c.reopened-in-Fallback.ensures c.after.ensures in
     let left = carried-power _ _ _ (given []) _ _ _ _ (fell []) in
     omega arith
@@ -56,35 +55,35 @@ saved-requires-in-Fallback c =
 pub returns-in-Whole : goal.returns-in-Whole
 returns-in-Whole c =
     let given : List ℕ → State = λ k. state_of c.args.self c.args.settled.now c.args.waiting.now k in
-    let a = c.choice-1.given in
+    let a = c.in-Whole in
     λ k.
     let st = given k in
     rw c.saved.ensures
-    (carried_ends [] (reopened a.0.0 a.0.1.0 a.0.1.1.0 st.rec) st.rec st (eqb-false open_mode down refl) _ _ _ _
-    (ap (λ (r : Record). state_of r st.settled st.waiting k) c.reopened.ensures ∙ sym (ap (λ (o : Outcome). o.state) (carried_none (reopened a.0.0 a.0.1.0 a.0.1.1.0 st.rec) st.rec st)))
-    ∙ ap (by st) (sym a.1))
+    (carried_ends [] (reopened a.n a.sum a.save st.rec) st.rec st (eqb-false open_mode down refl) _ _ _ _
+    (ap (λ (r : Record). state_of r st.settled st.waiting k) c.reopened.ensures ∙ sym (ap (λ (o : Outcome). o.state) (carried_none (reopened a.n a.sum a.save st.rec) st.rec st)))
+    ∙ ap (by st) (sym a.is))
 
 pub returns-in-Fallback : goal.returns-in-Fallback
 returns-in-Fallback c =
     let given : List ℕ → State = λ k. state_of c.args.self c.args.settled.now c.args.waiting.now k in
-    let fell : (k : List ℕ) → let x = c.choice-in-Fallback-1.given.0 in let a = c.args in
+    let fell : (k : List ℕ) → let x = c.in-Fallback in let a = c.args in
     state_of c.after.result c.fallback-ordered.new.settled c.fallback-ordered.new.waiting k
-    ≡ (carried (fallback_orders a.self.blocks x.0 x.1.0 x.1.1.0) (reopened x.0 x.1.0 x.1.1.0 a.self) a.self (given k)).state = λ k. let x = c.choice-in-Fallback-1.given.0 in
+    ≡ (carried (fallback_orders a.self.blocks x.p x.sum x.save) (reopened x.p x.sum x.save a.self) a.self (given k)).state = λ k. let x = c.in-Fallback in
     let a = c.args in
-    Saves.given (fallback_orders a.self.blocks x.0 x.1.0 x.1.1.0) 2 (reopened x.0 x.1.0 x.1.1.0 a.self) a.self (given k)
-    _ _ _ c.fallback-ordered.result _ _ (length_fallback a.self.blocks x.0 x.1.0 x.1.1.0) c.queue.ensures
+    Saves.given (fallback_orders a.self.blocks x.p x.sum x.save) 2 (reopened x.p x.sum x.save a.self) a.self (given k)
+    _ _ _ c.fallback-ordered.result _ _ (length_fallback a.self.blocks x.p x.sum x.save) c.queue.ensures
     c.fallback-ordered.ensures.happened_value c.fallback-ordered.ensures.queue_after c.reopened-in-Fallback.ensures c.after.ensures in
     λ k.
     rw c.saved-in-Fallback.ensures
     (carried_ends _ _ _ (given k) (eqb-false open_mode down refl) _ _ _ _ (fell k)
-    ∙ ap (by (given k)) (sym c.choice-in-Fallback-1.given.1))
+    ∙ ap (by (given k)) (sym c.in-Fallback.is))
 
 pub returns-in-Foreign : goal.returns-in-Foreign
 returns-in-Foreign c =
     let given : List ℕ → State = λ k. state_of c.args.self c.args.settled.now c.args.waiting.now k in
-    λ k. rw c.refused.ensures (ap (by (given k)) (sym c.enum_told-1.given.1))
+    λ k. rw c.refused.ensures (ap (by (given k)) (sym c.in-Foreign.is))
 
 pub returns-in-Neither : goal.returns-in-Neither
 returns-in-Neither c =
     let given : List ℕ → State = λ k. state_of c.args.self c.args.settled.now c.args.waiting.now k in
-    λ k. rw c.refused-in-Neither.ensures (ap (by (given k)) (sym c.enum_told-in-Neither-1.given.1))
+    λ k. rw c.refused-in-Neither.ensures (ap (by (given k)) (sym c.in-Neither.is))

@@ -1,5 +1,4 @@
 -- `store::record::Record::reopened` meets its contract.
-use borrow.Author.Rules.{rules}
 use Rattle.store.proofs.record.Record.reopened.Goals as goal
 
 pub returns : goal.returns

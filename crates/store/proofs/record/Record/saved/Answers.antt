@@ -4,7 +4,6 @@ use mathlib.Core.Bool.{true, false}
 use lib.Dec.{eqb}
 use Rattle.store.specs.State.{down}
 use borrow.Author.Tests.{eq-eqb, ne_eqb}
-use borrow.Author.Rules.{rules}
 use Rattle.store.proofs.record.Record.saved.Goals as goal
 
 pub returns-then-last-eq-DOWN : goal.returns-then-last-eq-DOWN

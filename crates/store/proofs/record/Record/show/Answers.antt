@@ -2,7 +2,6 @@
 use Prim.Native.Nat.{◌≤◌}
 use lib.ListN.{length}
 use native.Mathlib.Omega.{arith}
-use borrow.Author.Rules.{rules}
 use Rattle.journal.specs.Geometry.{trap}
 use Rattle.journal.specs.Wanted.{wanted_count}
 use Rattle.journal.proofs.Chains.{met_none}

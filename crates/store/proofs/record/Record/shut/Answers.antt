@@ -1,5 +1,4 @@
 -- `store::record::Record::shut` meets its contract.
-use borrow.Author.Rules.{rules}
 use Rattle.store.proofs.record.Record.shut.Goals as goal
 
 pub returns : goal.returns

@@ -8,7 +8,6 @@ use Rattle.store.specs.Request.{sync}
 use Rattle.store.specs.Saves.{sync_call}
 use Rattle.store.proofs.Calls.{call_refused, call_done}
 use Rattle.store.proofs.Saves.{Ready, ready, next_save, carried-power, sync_ends}
-use borrow.Author.Rules.{rules}
 use Rattle.store.proofs.record.Record.sync.Goals as goal
 
 pub returns-then-number-ne0 : goal.returns-then-number-ne0

@@ -11,7 +11,6 @@ use Rattle.store.specs.Save as Save
 use Rattle.store.specs.Request.{sync}
 use Rattle.store.proofs.Saves.{Ready, ready}
 use Rattle.store.proofs.Costs.{served, sync_cost_none, sync_cost_flush, sync_cost_room, sync_cost_full, cost_refused, cost_served}
-use borrow.Author.Rules.{rules}
 use Rattle.store.proofs.record.Record.sync_cost.Goals as goal
 
 -- figures that it has computed in the same way

@@ -10,7 +10,6 @@ use Rattle.store.specs.CodeState.{state_of}
 use Rattle.store.specs.Request.{sync}
 use Rattle.store.specs.Causes.{first, cause}
 use Rattle.store.proofs.Causes.{own_rows, cause_4}
-use borrow.Author.Rules.{rules}
 use Rattle.store.proofs.record.Record.sync_number.Goals as goal
 
 pub returns-then-earlier-ne0 : goal.returns-then-earlier-ne0

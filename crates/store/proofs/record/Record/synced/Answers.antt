@@ -8,7 +8,6 @@ use Rattle.journal.specs.Geometry.{trap}
 use Rattle.store.specs.State.{State, Outcome, open_mode, down}
 use Rattle.store.specs.CodeState.{state_of}
 use Rattle.store.proofs.Saves.{sync_none, sync_room, sync_dead, sync_on, sync_live}
-use borrow.Author.Rules.{rules}
 use Rattle.store.proofs.record.Record.synced.Goals as goal
 
 pub returns-then-self-eq0 : goal.returns-then-self-eq0

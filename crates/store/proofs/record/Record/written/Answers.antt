@@ -13,7 +13,6 @@ use Rattle.store.specs.CodeState.{state_of}
 use Rattle.store.specs.Direct.{direct_write}
 use Rattle.store.proofs.Saves.{given}
 use Rattle.store.proofs.Directs.{direct_room, direct_full}
-use borrow.Author.Rules.{rules}
 use Rattle.store.proofs.record.Record.written.Goals as goal
 
 pub write-requires : goal.write-requires

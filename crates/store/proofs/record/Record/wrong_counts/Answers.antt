@@ -5,7 +5,6 @@ use borrow.Author.Tests.{lt-ltb, le-ltb}
 use lib.Dec.{ltb}
 use Rattle.journal.specs.Geometry.{trap}
 use Rattle.store.specs.Causes.{most_waiting, wrong_counts}
-use borrow.Author.Rules.{rules}
 use Rattle.store.proofs.record.Record.wrong_counts.Goals as goal
 
 pub returns-then-self-gt-DOWN : goal.returns-then-self-gt-DOWN

@@ -1,14 +1,10 @@
 -- `store::record::Record::wrong_waiting` meets its contract. The invariant: each of the first i addresses is below N.
-use Prim.Native.Nat.{ℕ, ◌-◌, ◌≤◌}
+use Prim.Native.Nat.{◌≤◌}
 use mathlib.Core.Path.{◌≡◌, refl, sym}
-use mathlib.Core.Bool.{Bool, false, not}
-use mathlib.Core.List.{List}
 use native.Mathlib.Omega.{arith}
-use borrow.Author.Rules.{rules}
 use borrow.Author.Tests.{lt-ltb, le-ltb}
-use lib.Dec.{ltb}
 use Rattle.cells.specs.Entry.{entry_at}
-use Rattle.store.specs.Causes.{some, wrong_waiting}
+use Rattle.store.specs.Causes.{wrong_waiting}
 use Rattle.store.proofs.Causes.{climb_none, climb_hit, climb_on}
 use Rattle.store.proofs.record.Record.wrong_waiting.Invariants.{foreign}
 use Rattle.store.proofs.record.Record.wrong_waiting.Goals as goal

@@ -1,15 +1,11 @@
 -- `store::record::Record::wrong_waiting` meets its contract. The invariant: each of the first i addresses is below N.
 use Prim.Native.Nat.{ℕ, ◌-◌, ◌≤◌}
-use mathlib.Core.Path.{◌≡◌, refl, sym}
+use mathlib.Core.Path.{◌≡◌}
 use mathlib.Core.Bool.{Bool, false, not}
 use mathlib.Core.List.{List}
-use native.Mathlib.Omega.{arith}
-use borrow.Author.Rules.{rules}
-use borrow.Author.Tests.{lt-ltb, le-ltb}
 use lib.Dec.{ltb}
 use Rattle.cells.specs.Entry.{entry_at}
-use Rattle.store.specs.Causes.{some, wrong_waiting}
-use Rattle.store.proofs.Causes.{climb_none, climb_hit, climb_on}
+use Rattle.store.specs.Causes.{some}
 use Rattle.store.proofs.record.Record.wrong_waiting.Given as goal
 
 abbrev pub foreign : List ℕ → ℕ → ℕ → Bool
