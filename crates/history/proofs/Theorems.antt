@@ -8,7 +8,7 @@ use native.Mathlib.Omega.{arith}
 use native.Mathlib.Decide.{ℕ_discrete}
 use lib.Dec.{eqb}
 use Rattle.store.specs.Request as Request
-use Rattle.store.specs.State.{State, Outcome, open_mode, card_in}
+use Rattle.store.specs.State.{State, Outcome, open_mode}
 use Rattle.store.specs.Causes.{is_found, cause}
 use Rattle.store.specs.Outcomes.{refused}
 use Rattle.store.specs.Format.{format_call}

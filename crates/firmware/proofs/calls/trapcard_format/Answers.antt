@@ -1,0 +1,9 @@
+-- `firmware::calls::trapcard_format` meets its contract.
+use Rattle.firmware.proofs.Faces.{faced-length, faced-done}
+use Rattle.firmware.proofs.calls.trapcard_format.Goals as goal
+
+pub returns-then-rec-ne-RECORD : goal.returns-then-rec-ne-RECORD
+returns-then-rec-ne-RECORD c = faced-length _ _ _ _ _ c.if-rec-ne-RECORD.true
+
+pub returns : goal.returns
+returns c = faced-done _ _ _ _ _ _ _ _ _ _ _ _ _ c.if-rec-ne-RECORD.false c.decode.ensures c.format-formatted.ensures c.encode.ensures

@@ -1,0 +1,9 @@
+-- `firmware::orders::trapcard_direct` meets its contract.
+use Rattle.firmware.proofs.Faces.{faced-length, faced-done}
+use Rattle.firmware.proofs.orders.trapcard_direct.Goals as goal
+
+pub returns-then-rec-ne-RECORD : goal.returns-then-rec-ne-RECORD
+returns-then-rec-ne-RECORD c = faced-length _ _ _ _ _ c.if-rec-ne-RECORD.true
+
+pub returns : goal.returns
+returns c = faced-done _ _ _ _ _ _ _ _ _ _ _ _ _ c.if-rec-ne-RECORD.false c.decode.ensures c.direct-written.ensures c.encode.ensures

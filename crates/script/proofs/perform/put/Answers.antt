@@ -1,0 +1,7 @@
+-- `script::perform::put` meets its contract.
+use mathlib.Core.Path.{ap}
+use Rattle.script.specs.Replies.{called}
+use Rattle.script.proofs.perform.put.Goals as goal
+
+pub returns : goal.returns
+returns c = rw c.called.ensures (ap called c.put.ensures)

@@ -1,0 +1,13 @@
+-- `script::text::append` meets its contract.
+use Prim.Native.Nat.{◌+◌, ◌-◌}
+use mathlib.Core.Path.{◌≡◌, refl}
+use native.Mathlib.Omega.{arith}
+use lib.ListN.{length}
+use Rattle.cells.specs.Cell.Laws.{put-sets}
+use Rattle.script.proofs.text.append.Goals as goal
+
+pub returns : goal.returns
+returns c =
+    let a = c.args in
+    let e : c.copy.new.dst ≡ a.bytes.now = c.copy.ensures in
+    (refl, rw e (put-sets a.at (a.at + length a.bytes.now - a.at) a.out.now a.bytes.now (omega arith) (omega arith)))
