@@ -1,5 +1,5 @@
 -- The theorems about histories. Their types stand in specs/Statements.antt, specs/Refusals.antt, specs/Cuts.antt, specs/Formats.antt, specs/Costs.antt,
--- specs/Get_lists.antt, specs/Directs.antt, specs/Alike_cards.antt, specs/Dispatch.antt, specs/Linked.antt and specs/Scripts.antt.
+-- specs/GetLists.antt, specs/Directs.antt, specs/AlikeCards.antt, specs/Dispatch.antt, specs/Linked.antt and specs/Scripts.antt.
 use Prim.Native.Nat.{ℕ, ◌<◌}
 use mathlib.Core.Path.{◌≡◌, refl, ap, sym, ◌∙◌}
 use mathlib.Core.Logic.{◌≢◌, ◌⊎◌}
