@@ -22,15 +22,16 @@ mod tries;
 
 use crate::buffers::SETTLED;
 use crate::map::map;
-use libc::STDOUT_FILENO;
+use std::io;
 use store::{WAITING, WORK};
 
-fn main() {
+fn main(rt: HostRuntime) -> io::Result<()> {
     let mut start = [0u8; SETTLED];
     let mut settled = [0u8; SETTLED];
     let mut waiting = [0u8; WAITING];
     let mut work = [0u8; WORK];
     let append = map(
+        &rt,
         b"append",
         1,
         6,
@@ -38,8 +39,9 @@ fn main() {
         &mut settled,
         &mut waiting,
         &mut work,
-    );
+    )?;
     let apply = map(
+        &rt,
         b"apply",
         10,
         39,
@@ -47,14 +49,14 @@ fn main() {
         &mut settled,
         &mut waiting,
         &mut work,
-    );
-    say(append && apply);
+    )?;
+    say(&rt, append && apply)
 }
 
-fn say(whole: bool) {
+fn say(rt: &impl Print, whole: bool) -> io::Result<()> {
     if whole {
-        io::write_all(STDOUT_FILENO, b"every save is whole\n");
+        rt.write_all(b"every save is whole\n")
     } else {
-        io::write_all(STDOUT_FILENO, b"a save is not whole\n");
+        rt.write_all(b"a save is not whole\n")
     }
 }

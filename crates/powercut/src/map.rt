@@ -10,7 +10,7 @@ use crate::loss::{ENOUGH, Loss, recovered, recovered_again, saved};
 use crate::{tears, tries};
 use cells::bytes::copy;
 use journal::PLACES;
-use libc::STDOUT_FILENO;
+use std::io;
 use store::record::Record;
 
 // How many tries there are of a record's cut. One that can't be cut is tried once, and then found as `?`.
@@ -74,13 +74,14 @@ fn found(c: Scenario, start: &Settled, s: &mut Settled, w: &mut Waiting, k: &Wor
 
 // The characters of a line, and whether there is no `?`.
 fn characters(
+    rt: &impl Print,
     c: Scenario,
     start: &Settled,
     s: &mut Settled,
     w: &mut Waiting,
     k: &Work,
     orders: u32,
-) -> bool
+) -> io::Result<bool>
     requires { c.saves ≤ 10 }
 {
     let stopped = saved(c.rec, start, s, w, k, orders);
@@ -89,14 +90,15 @@ fn characters(
     let mut attempt = 0;
     while attempt < n {
         let found = found(c, start, s, w, k, Loss { orders, attempt });
-        io::write_all(STDOUT_FILENO, &[found]);
+        rt.write_all(&[found])?;
         whole = whole && found != b'?';
         attempt += 1;
     }
-    whole
+    Ok(whole)
 }
 
 fn line(
+    rt: &impl Print,
     name: &[u8],
     c: Scenario,
     start: &Settled,
@@ -104,20 +106,19 @@ fn line(
     w: &mut Waiting,
     k: &Work,
     orders: u32,
-) -> bool
+) -> io::Result<bool>
     requires { c.saves ≤ 10 }
 {
-    io::write_all(STDOUT_FILENO, name);
-    io::write_all(STDOUT_FILENO, b" ");
-    io::print_decimal(STDOUT_FILENO, orders as u64);
-    io::write_all(STDOUT_FILENO, b" ");
-    let whole = characters(c, start, s, w, k, orders);
-    io::write_all(STDOUT_FILENO, b"\n");
-    whole
+    rt.write_all(name)?;
+    print!(rt; " {orders} ")?;
+    let whole = characters(rt, c, start, s, w, k, orders)?;
+    rt.write_all(b"\n")?;
+    Ok(whole)
 }
 
 // A scenario: its name, the saves in its log, the orders of its save. Whether there is no `?`.
 pub(crate) fn map(
+    rt: &impl Print,
     name: &[u8],
     saves: u32,
     most: u32,
@@ -125,7 +126,7 @@ pub(crate) fn map(
     s: &mut Settled,
     w: &mut Waiting,
     k: &mut Work,
-) -> bool
+) -> io::Result<bool>
     requires { (saves ≤ 10) × (most ≤ 39) }
 {
     let c = ready(s, w, k, saves);
@@ -133,9 +134,9 @@ pub(crate) fn map(
     let mut whole = true;
     let mut orders = 0;
     while orders <= most {
-        let more = line(name, c, start, s, w, k, orders);
+        let more = line(rt, name, c, start, s, w, k, orders)?;
         whole = whole && more;
         orders += 1;
     }
-    whole
+    Ok(whole)
 }

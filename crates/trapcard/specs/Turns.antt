@@ -27,3 +27,8 @@ most_reads = 18446744073709551615
 abbrev pub Stops : Bool → ℕ → Type 0
 Stops false reads = Unit {0}
 Stops true reads = reads ≡ most_reads
+
+-- a read that did not fail
+abbrev pub has_read : ℤ → Bool
+has_read (pos n) = true
+has_read (negsuc n) = false

@@ -1,23 +1,43 @@
-// Output. The contract of C's write says nothing of the descriptor or of the bytes: `send` is the one place where they are
+// Output. The contracts of std's calls say nothing of the descriptor or of the bytes: `send` is the one place where they are
 // handed over, and says by its result which.
-ghost use Rattle.std.specs.Prelude.{◌≡◌, ◌≤◌};
+ghost use Rattle.std.specs.Prelude.{◌≡◌, ◌≤◌, is_ok};
 ghost use Rattle.script.specs.Steps.{printed_bytes};
 
 use script::PRINTED;
+use std::io;
 
-// What was handed over: to which descriptor, how many bytes of the output's buffer, and whether all were written.
+// The descriptor of standard output.
+pub(crate) const STDOUT_FILENO: i32 = 1;
+
+// What was handed over: to which descriptor, how many bytes of the output's buffer, whether all were written, and the error if not.
 #[derive(Clone, Copy)]
 pub(crate) struct Sent {
     pub to: i32,
     pub count: usize,
     pub whole: bool,
+    pub said: io::Result<()>,
 }
 
-pub(crate) fn send(to: i32, printed: &[u8; PRINTED], count: usize) -> Sent
+pub(crate) fn send(rt: &impl Print, to: i32, printed: &[u8; PRINTED], count: usize) -> Sent
     requires { count ≤ printed_bytes }
-    ensures { (result.to ≡ to) × (result.count ≡ count) }
+    ensures handed { (result.to ≡ to) × (result.count ≡ count) }
+    ensures told { result.whole ≡ is_ok result.said }
 {
     let all: &[u8] = printed;
-    let whole = io::write_all(to, &all[..count]);
-    Sent { to, count, whole }
+    let said = write_all(rt, to, &all[..count]);
+    let whole = said.is_ok();
+    Sent {
+        to,
+        count,
+        whole,
+        said,
+    }
+}
+
+// The runtime writes to standard output alone: at another descriptor nothing is written, and that is an error.
+fn write_all(rt: &impl Print, to: i32, bytes: &[u8]) -> io::Result<()> {
+    if to != STDOUT_FILENO {
+        return Err(io::Error::from(io::ErrorKind::Unsupported));
+    }
+    rt.write_all(bytes)
 }

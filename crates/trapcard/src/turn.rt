@@ -1,26 +1,34 @@
 // A turn: one read, the bytes fed, and one write of what they print.
-ghost use Rattle.std.specs.Prelude.{◌≡◌, ◌+◌, ◌<◌, take};
+ghost use Rattle.std.specs.Prelude.{◌≡◌, ◌+◌, ◌<◌, ◌↔◌, take, is_ok, IfErr, IsTrue};
+ghost use Rattle.std.specs.Io.{ReadsAtMost};
+ghost use Rattle.std.specs.IoError.{error_kind};
 ghost use Rattle.io.specs.Counts.{clamp_len};
 ghost use Rattle.script.specs.Steps.{fed_bytes, fed};
 ghost use Rattle.script.specs.CodeSession.{session_of, step_of};
-ghost use Rattle.trapcard.specs.Turns.{input, output, goes_on, most_reads};
+ghost use Rattle.trapcard.specs.Turns.{input, output, goes_on, has_read, most_reads};
 
-use crate::output::{Sent, send};
+use crate::output::{STDOUT_FILENO, Sent, send};
 use crate::sizes::{SETTLED, WAITING, WORK};
-use libc::{STDIN_FILENO, STDOUT_FILENO};
 use script::session::Session;
 use script::{FED, KEPT, PRINTED};
+use std::io;
+use std::io::{ErrorKind, Read};
+
+// The descriptor of standard input.
+const STDIN_FILENO: i32 = 0;
 
 // The reads of a run, at the most: a run has to end, and nothing says that its input does.
 pub(crate) const MOST_READS: u64 = u64::MAX;
 
-// What a read from a descriptor answered, how many bytes it put in front of the buffer, and whether a signal interrupted it.
+// What a read from a descriptor answered, below 0 if it failed, how many bytes it put in front of the buffer, whether a signal
+// interrupted it, and the error if it failed.
 #[derive(Clone, Copy)]
 pub(crate) struct Received {
     pub from: i32,
     pub got: isize,
     pub count: usize,
     pub interrupted: bool,
+    pub said: io::Result<()>,
 }
 
 // The session then, the read, the write, whether there is to be another turn, and the reads so far.
@@ -33,19 +41,39 @@ pub(crate) struct Turn {
     pub reads: u64,
 }
 
-// The one read of the program. C's errno is read right behind it.
-fn receive(from: i32, bytes: &mut [u8; FED]) -> Received
-    ensures { (result.from ≡ from) × (result.count ≡ clamp_len result.got fed_bytes) }
+// The one read of the program.
+fn receive(rt: &impl Input, from: i32, bytes: &mut [u8; FED]) -> Received
+    ensures received { (result.from ≡ from) × (result.count ≡ clamp_len result.got fed_bytes) }
+    ensures told { is_ok result.said ≡ has_read result.got }
+    ensures signal { IfErr result.said (λ e. IsTrue result.interrupted ↔ (error_kind e ≡ ErrorKind.Interrupted)) }
 {
-    let got = libc::read(from, bytes);
-    let interrupted = os::errno() == libc::EINTR;
-    let count = io::count(got, bytes);
-    Received {
-        from,
-        got,
-        count,
-        interrupted,
+    match read(rt, from, bytes) {
+        Ok(n) => Received {
+            from,
+            got: n as isize,
+            count: n,
+            interrupted: false,
+            said: Ok(()),
+        },
+        Err(e) => Received {
+            from,
+            got: -1,
+            count: 0,
+            interrupted: e.kind() == ErrorKind::Interrupted,
+            said: Err(e),
+        },
     }
+}
+
+// The runtime reads standard input alone: from another descriptor nothing is read, and that is an error.
+fn read(rt: &impl Input, from: i32, bytes: &mut [u8]) -> io::Result<usize>
+    ensures { ReadsAtMost result bytes.new }
+{
+    if from != STDIN_FILENO {
+        return Err(io::Error::from(ErrorKind::Unsupported));
+    }
+    let mut reader = rt.reader();
+    reader.read(bytes)
 }
 
 // Whether there is to be another turn.
@@ -62,6 +90,7 @@ fn goes_on(sent: Sent, received: Received) -> bool
 }
 
 pub(crate) fn take_turn(
+    rt: &(impl Input + Print),
     session: Session,
     reads: u64,
     bytes: &mut [u8; FED],
@@ -72,11 +101,12 @@ pub(crate) fn take_turn(
     printed: &mut [u8; PRINTED],
 ) -> Turn
     requires { reads < most_reads }
-    ensures { (result.reads ≡ reads + 1) × (result.more ≡ goes_on result.sent.whole result.received.got result.received.interrupted) × (result.received.from ≡ input) × (result.sent.to ≡ output) × (step_of result.sent.count printed.new (session_of result.session.len line.new result.session.rec settled.new waiting.new work.new) ≡ fed (take (clamp_len result.received.got fed_bytes) bytes.new) (session_of session.len line.old session.rec settled.old waiting.old work.old)) }
+    ensures turn { (result.reads ≡ reads + 1) × (result.more ≡ goes_on result.sent.whole result.received.got result.received.interrupted) × (result.received.from ≡ input) × (result.sent.to ≡ output) × (step_of result.sent.count printed.new (session_of result.session.len line.new result.session.rec settled.new waiting.new work.new) ≡ fed (take (clamp_len result.received.got fed_bytes) bytes.new) (session_of session.len line.old session.rec settled.old waiting.old work.old)) }
+    ensures told { (result.sent.whole ≡ is_ok result.sent.said) × (is_ok result.received.said ≡ has_read result.received.got) }
 {
-    let received = receive(STDIN_FILENO, bytes);
+    let received = receive(rt, STDIN_FILENO, bytes);
     let next = session.feed(bytes, received.count, line, settled, waiting, work, printed);
-    let sent = send(STDOUT_FILENO, printed, next.print);
+    let sent = send(rt, STDOUT_FILENO, printed, next.print);
     let more = goes_on(sent, received);
     Turn {
         session: next,

@@ -1,0 +1,15 @@
+-- `powercut::contents::old_age` meets its contract.
+use native.Mathlib.Omega.{arith}
+use borrow.Author.Tests.{lt-ltb, le-ltb}
+use Rattle.journal.specs.Geometry.{trap}
+use Rattle.powercut.specs.Contents.{old_age}
+use borrow.Author.Rules.{rules}
+use Rattle.powercut.proofs.contents.old_age.Goals as goal
+
+pub returns-then-address-saves : goal.returns-then-address-saves
+unfolding old_age trap
+returns-then-address-saves c = (rw (lt-ltb _ _ c.if-address-saves.true), omega arith)
+
+pub returns : goal.returns
+unfolding old_age trap
+returns c = (rw (le-ltb _ _ c.if-address-saves.false), omega arith)
