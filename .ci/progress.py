@@ -1,18 +1,20 @@
-"""Copies what `rt` prints, a line as soon as it comes, and says in front of rt's own lines how far it is: crates proved of how
-many, must-fail edits tried of how many. What the prover says of a crate is left out if the crate is proved; target/log has it.
+"""Copies what `rt` prints, a line as soon as it comes, and says in front of rt's own lines how far it is: crates proved of how many. What
+the prover says of a crate is left out if the crate is proved.
 
-usage: rt check NAME... | progress.py NAME...
-       rt ci | progress.py --verdict FILE       the last line, `N passed, M failed`, goes to FILE
+usage: rt ci 2>&1 | progress.py
+       rt run 2>&1 >/dev/null | progress.py NAME     in the folder of the crate NAME; of what it stands on, what rt proves anew
 """
 import pathlib
 import re
 import sys
 
+LIST = pathlib.Path(__file__).resolve().parent.parent / "crates.txt"
+
 
 def uses():
     """crates.txt: what each crate uses."""
-    lines = [line.split("#")[0] for line in open("crates.txt")]
-    return {name.strip(): rest.split() for name, _, rest in (line.partition(":") for line in lines if line.strip())}
+    lines = [line.partition("#")[0].partition(":") for line in LIST.read_text().splitlines()]
+    return {head.split()[0]: rest.split() for head, _, rest in lines if head.strip()}
 
 
 def reached(names, graph):
@@ -30,31 +32,22 @@ def say(text):
     print(text, end="", flush=True)
 
 
-def main(words):
-    verdict = words[1] if words[0] == "--verdict" else None
+def main(names):
     graph = uses()
-    crates = len(reached(graph if verdict else words, graph))
-    edits = len(list(pathlib.Path("crates").glob("*/must-fail/*.edit")))
-    say(f"{crates} crates to prove" + (f", {edits} must-fail edits to try\n" if verdict else "\n"))
-    proved = tried = 0
-    held = ""
+    crates, proved, held, name = len(reached(names or graph, graph)), 0, "", ""
     for line in sys.stdin:
-        if verdict and re.fullmatch(r"\d+ passed, \d+ failed\n", line):
-            pathlib.Path(verdict).write_text(line)
-        elif re.match(r"rt: \w+ proved \(", line):
+        if found := re.match(r"rt: chose --jobs \d+ for (\w+)$", line):
+            name = found[1]
+        if re.match(r"rt: \w+ (proved$|is kept: )", line) or names and line.startswith("logic=proved "):
             proved += 1
-            say(f"[{proved} of {crates} crates] {line}")
+            say(f"[{proved} of {crates} crates] " + (f"{name} proved\n" if names else line))
             held = ""
-        elif line.startswith("rt: must-fail "):
-            tried += 1
-            say(f"{held}[{tried} of {edits} edits] {line}")
-            held = ""
-        elif line.startswith("rt: "):
+        elif line.startswith("rt: ") and not names:
             say(held + line)
             held = ""
         else:
             held += line
-    say(held)
+    say(held if "logic=not-proved" in held or not names else "")
 
 
 main(sys.argv[1:])

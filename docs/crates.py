@@ -1,4 +1,4 @@
-"""Draws the crates, docs/crates.svg. Fails if the arrows do not come to what crates.txt says that each crate uses.
+"""Draws the crates, docs/crates.svg. Fails if the arrows do not come to what crates.txt says that each crate uses of the others.
 
 usage: python3 -B docs/crates.py >docs/crates.svg
 
@@ -7,7 +7,6 @@ import sys
 from pathlib import Path
 
 LIST = Path(__file__).resolve().parent.parent / "crates.txt"
-KIT = {"io", "libc", "os"}
 CODE, THEORY, TIE, PROGRAM = "#4a7fb5", "#f4b674", "#f08a24", "#a9c4e0"
 WIDE, HIGH, PICTURE = 150, 46, (985, 704)
 
@@ -16,7 +15,8 @@ CRATES = {
     "linkage": (120, 70, TIE, "calls through C alone"),
     "history": (120, 160, THEORY, "histories, theorems"),
     "crash": (120, 340, THEORY, "what a cut leaves"),
-    "firmware": (340, 250, CODE, "C functions"),
+    "firmware_c": (340, 160, CODE, "the C library"),
+    "firmware": (340, 250, CODE, "its functions"),
     "inspect": (330, 340, CODE, "tally, alike"),
     "store": (540, 340, CODE, "record, the calls"),
     "script": (530, 250, CODE, "lines and answers"),
@@ -30,9 +30,10 @@ CRATES = {
 }
 # The lower ends of its arrows, and how far from the middles each leaves and arrives.
 ARROWS = {
-    "linkage": [("history", 0, 0), ("firmware", 50, -28)],
+    "linkage": [("history", 0, 0), ("firmware", 50, -50)],
     "history": [("crash", 0, 0), ("firmware", 40, -62), ("script", 70, -60)],
     "crash": [("journal", 40, -60)],
+    "firmware_c": [("firmware", 0, 0)],
     "firmware": [("inspect", -10, 0), ("store", 40, -50)],
     "script": [("store", 0, -10)],
     "inspect": [("journal", 20, -20)],
@@ -56,8 +57,9 @@ def below(name):
 def check():
     for line in LIST.read_text().splitlines():
         if line and not line.startswith("#"):
-            name, _, used = line.partition(":")
-            if name not in CRATES or below(name) != set(used.split()) - KIT:
+            head, _, used = line.partition(":")
+            name = head.split()[0]
+            if name not in CRATES or below(name) != set(used.split()) & set(CRATES):
                 sys.exit(f"{LIST.name}: {line}: the picture has {sorted(below(name))}")
 
 
@@ -91,7 +93,7 @@ def main():
            text(30, 34, "The crates: each uses only the promises of those below it", 16, anchor="start", weight="bold"),
            '<g fill="none" stroke="#555" stroke-width="1.5" marker-end="url(#tip)">']
     out += [arrow(upper, *a) for upper in ARROWS for a in ARROWS[upper]]
-    out += ['<path d="M340 116V248" stroke-dasharray="5 4"/>', "</g>",
+    out += ['<path d="M340 116V158" stroke-dasharray="5 4"/>', "</g>",
             '<rect x="265" y="70" width="150" height="46" rx="6" fill="#fff" stroke="#777" stroke-dasharray="5 4"/>',
             text(340, 90, "the trap&#8217;s C", 14, weight="bold"), text(340, 107, "include/trapcard.h", 11)]
     for name in CRATES:

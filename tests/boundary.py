@@ -1,5 +1,6 @@
-"""Holds include/trapcard.h to what stands behind it: the prototypes to the exported signatures of crates/firmware/src, and each
-constant, as a C program prints it, to the number that the specifications have. Prints each difference."""
+"""Holds include/trapcard.h to what stands behind it: the prototypes to the exported signatures of crates/firmware_c/src, each of which has
+the contract of the function of crates/firmware/src that it calls; and each constant, as a C program prints it, to the number that the
+specifications have. Prints each difference."""
 import re
 import subprocess
 import tempfile
@@ -7,7 +8,8 @@ from pathlib import Path
 
 ROOT = Path(__file__).resolve().parent.parent
 HEADER = ROOT / "include/trapcard.h"
-SOURCES = ROOT / "crates/firmware/src"
+LIBRARY = ROOT / "crates/firmware/src"
+SOURCES = ROOT / "crates/firmware_c/src"
 
 # The types of parameters and results; a slice is two parameters.
 SLICES = {"&[u8]": "const uint8_t *", "&mut [u8]": "uint8_t *"}
@@ -19,13 +21,13 @@ RENAMED = {("any", "rec"): "record", ("trapcard_alike", "a"): "settled_a", ("tra
 
 # Constants that are numbers of the specifications: crate, file, name.
 NUMBERS = {
-    "TRAPCARD_BLOCK": ("cells", "Entry", "blockBytes"),
-    "TRAPCARD_RECORD": ("firmware", "Face", "recordBytes"),
-    "TRAPCARD_MOST": ("journal", "Layout", "mostBlocks"),
-    "TRAPCARD_LIST": ("store", "Causes", "mostWanted"),
+    "TRAPCARD_BLOCK": ("cells", "Entry", "block_bytes"),
+    "TRAPCARD_RECORD": ("firmware", "Face", "record_bytes"),
+    "TRAPCARD_MOST": ("journal", "Layout", "most_blocks"),
+    "TRAPCARD_LIST": ("store", "Causes", "most_wanted"),
     "TRAPCARD_EMPTY_SUM": ("fnv", "Fnv", "start"),
     "TRAPCARD_MODE_CLOSED": ("store", "State", "closed"),
-    "TRAPCARD_MODE_OPEN": ("store", "State", "openMode"),
+    "TRAPCARD_MODE_OPEN": ("store", "State", "open_mode"),
     "TRAPCARD_MODE_DOWN": ("store", "State", "down"),
 }
 
@@ -35,23 +37,23 @@ TRAP = ("journal", "Geometry", "trap", "Geometry")
 # Constants that are numbers of that geometry, and definitions that take a geometry, at that one.
 OF_TRAP = {"TRAPCARD_SLOTS": "slots", "TRAPCARD_PLACES": "places", "TRAPCARD_DIRECT": "direct"}
 AT_TRAP = {
-    "TRAPCARD_WAITING": ("store", "Causes", "waitingBytes"),
-    "TRAPCARD_WORK": ("store", "Causes", "workBytes"),
-    "TRAPCARD_LEAST": ("journal", "Layout", "leastBlocks"),
-    "TRAPCARD_FIRST": ("journal", "Layout", "firstData"),
+    "TRAPCARD_WAITING": ("store", "Causes", "waiting_bytes"),
+    "TRAPCARD_WORK": ("store", "Causes", "work_bytes"),
+    "TRAPCARD_LEAST": ("journal", "Layout", "least_blocks"),
+    "TRAPCARD_FIRST": ("journal", "Layout", "first_data"),
 }
 
 # Constants that are clauses of a definition by cases: crate, file, definition, case.
 CLAUSES = {
     "TRAPCARD_DONE": ("store", "Causes", "first", "[]"),
-    "TRAPCARD_NOWHERE": ("firmware", "Face", "bufferNumber", "Nowhere"),
-    "TRAPCARD_IN_SETTLED": ("firmware", "Face", "bufferNumber", "Settled"),
-    "TRAPCARD_IN_WORK": ("firmware", "Face", "bufferNumber", "Work"),
-    "TRAPCARD_IN_WAITING": ("firmware", "Face", "bufferNumber", "Waiting"),
+    "TRAPCARD_NOWHERE": ("firmware", "Face", "buffer_number", "Nowhere"),
+    "TRAPCARD_IN_SETTLED": ("firmware", "Face", "buffer_number", "Settled"),
+    "TRAPCARD_IN_WORK": ("firmware", "Face", "buffer_number", "Work"),
+    "TRAPCARD_IN_WAITING": ("firmware", "Face", "buffer_number", "Waiting"),
 }
 
 # Constants that are offsets in the record: the field as it stands in the row. These are all fields.
-ROW = ("firmware", "Face", "recordFields")
+ROW = ("firmware", "Face", "record_fields")
 FIELDS = {
     "TRAPCARD_RECORD_MODE": "mode",
     "TRAPCARD_RECORD_BLOCKS": "blocks",
@@ -67,23 +69,23 @@ FIELDS = {
 # Constants that are rows of the table of causes: the definitions of the rows that they stand for. These are all rows.
 TABLE = ("store", "Causes")
 CAUSES = {
-    "TRAPCARD_ERR_SIZE": ["sizeRow"],
-    "TRAPCARD_ERR_STATE": ["recordRow"],
-    "TRAPCARD_ERR_CLOSED": ["closedRow"],
-    "TRAPCARD_ERR_POWER": ["downRow"],
-    "TRAPCARD_ERR_OPEN": ["openRow"],
-    "TRAPCARD_ERR_ADDRESS": ["addressRow", "addressesRow"],
-    "TRAPCARD_ERR_FULL": ["openFullRow", "groupFullRow"],
-    "TRAPCARD_ERR_FOREIGN": ["foreignRow"],
-    "TRAPCARD_ERR_UNSOUND": ["unsoundRow"],
-    "TRAPCARD_ERR_MARKS": ["marksRow"],
-    "TRAPCARD_ERR_LAST": ["lastSaveRow"],
-    "TRAPCARD_ERR_IN_USE": ["inUseRow"],
-    "TRAPCARD_ERR_LISTED": ["listedRow"],
+    "TRAPCARD_ERR_SIZE": ["size_row"],
+    "TRAPCARD_ERR_STATE": ["record_row"],
+    "TRAPCARD_ERR_CLOSED": ["closed_row"],
+    "TRAPCARD_ERR_POWER": ["down_row"],
+    "TRAPCARD_ERR_OPEN": ["open_row"],
+    "TRAPCARD_ERR_ADDRESS": ["address_row", "addresses_row"],
+    "TRAPCARD_ERR_FULL": ["open_full_row", "group_full_row"],
+    "TRAPCARD_ERR_FOREIGN": ["foreign_row"],
+    "TRAPCARD_ERR_UNSOUND": ["unsound_row"],
+    "TRAPCARD_ERR_MARKS": ["marks_row"],
+    "TRAPCARD_ERR_LAST": ["last_save_row"],
+    "TRAPCARD_ERR_IN_USE": ["in_use_row"],
+    "TRAPCARD_ERR_LISTED": ["listed_row"],
 }
 
 # Constants of rows whose test compares the number of the choice: the case of the choice that has that number.
-CHOICE = ("journal", "Choice", "choiceNumber")
+CHOICE = ("journal", "Choice", "choice_number")
 CHOSEN = {"TRAPCARD_ERR_FOREIGN": "Foreign", "TRAPCARD_ERR_UNSOUND": "Neither"}
 
 GUARD = "TRAPCARD_H"
@@ -155,7 +157,7 @@ def home(crate, name, word):
     """The file that defines a word, as the file given sees it: itself, or the home that one of those has which it uses."""
     if re.search(r"^(?:abbrev|unfoldable) pub %s :" % re.escape(word), spec(crate, name), re.M):
         return crate, name
-    uses = re.findall(r"^(?:pub )?use Rattle·(\w+?)(?:·specs)?\.specs\.([\w.]+)\.\{([^}]*)\}", spec(crate, name), re.M)
+    uses = re.findall(r"^(?:pub )?use Rattle\.(\w+)\.specs\.([\w.]+)\.\{([^}]*)\}", spec(crate, name), re.M)
     for other, module, words in uses:
         if word in re.split(r"[,\s]+", words):
             return home(other, module, word)
@@ -224,18 +226,26 @@ def applied(tokens, meaning):
     if tokens[0] == "(" or tokens[0].isdigit():
         return atom(tokens, meaning)
     head, given = tokens.pop(0), []
-    if tokens[0].startswith("."):
-        field, whole = tokens.pop(0)[1:], meaning(head, [])
-        return whole[field] if isinstance(whole, dict) and field in whole else unread("`%s .%s`" % (head, field))
+    if "." in head:
+        return worth(head, meaning)
     while tokens[0] not in ("+", "*", ")", "end"):
         given.append(atom(tokens, meaning))
     return meaning(head, given)
 
 
+def worth(word, meaning):
+    """The value of a word, or of a field of a geometry."""
+    head, _, field = word.partition(".")
+    whole = meaning(head, [])
+    if not field:
+        return whole
+    return whole[field] if isinstance(whole, dict) and field in whole else unread("`%s`" % word)
+
+
 def atom(tokens, meaning):
     head = tokens.pop(0)
     if head != "(":
-        return int(head) if head.isdigit() else meaning(head, [])
+        return int(head) if head.isdigit() else worth(head, meaning)
     value = summed(tokens, meaning)
     return value if tokens.pop(0) == ")" else unread("a sum in parentheses")
 
@@ -247,7 +257,7 @@ def offsets():
     if over or names:
         unread("%s: it has arguments" % ROW[2])
     for part in right.removesuffix("∷ []").split("∷"):
-        piece = re.fullmatch(r"\((\d+), λ (\w+)\. \2 \.(\w+)\)", part.strip())
+        piece = re.fullmatch(r"\((\d+), λ (\w+)\. \2\.(\w+)\)", part.strip())
         if not piece:
             unread("`%s` of %s" % (part.strip(), ROW[2]))
         found[piece[3]] = at
@@ -266,7 +276,7 @@ def rows():
     """The rows of the table of causes: the name of each with its number and its test."""
     text = spec(*TABLE)
     found = {}
-    for name in re.findall(r"^abbrev pub (\w+Row) :", text, re.M):
+    for name in re.findall(r"^abbrev pub (\w+_row) :", text, re.M):
         right = [right for _, _, _, right in equations(*TABLE, name)]
         row = len(right) == 1 and (re.fullmatch(SHARED, right[0]) or re.fullmatch(OWN, right[0]))
         if not row:
@@ -286,7 +296,7 @@ def causes():
         numbers = set(table[name][0] for name in names)
         if macro in CHOSEN:
             chosen = clause(*CHOICE, CHOSEN[macro])
-            if not all(re.fullmatch(r"λ st\. eqb \(choiceNumber \(.*\)\) %d" % chosen, table[name][1]) for name in names):
+            if not all(re.fullmatch(r"λ st\. eqb \(choice_number \(.*\)\) %d" % chosen, table[name][1]) for name in names):
                 unread("the rows of %s: they do not test for the number of %s" % (macro, CHOSEN[macro]))
             numbers.add(chosen)
         if len(numbers) != 1:
@@ -368,15 +378,42 @@ def declared(function, parameter):
     return [(TYPES[kind] + " " + name).replace("* ", "*")]
 
 
-def exported():
-    """Each exported function: its result and its parameters, as C declares them."""
-    text = "".join(re.sub(r"//.*", "", path.read_text()) for path in sorted(SOURCES.rglob("*.rt")))
+FUNCTION = re.compile(r"pub (?P<extern>extern \"C\" )?fn (?P<name>\w+)\((?P<parameters>[^()]*)\) -> (?P<result>\w+) "
+                      r"(?P<contract>(?:(?:requires|ensures)[^{}]*\{(?:[^{}]|\{[^{}]*\})*\} )*)\{(?P<body>[^{}]*)\}")
+
+
+def code(folder):
+    """The text of each source file without its comments, by module."""
+    return {path.stem: squeezed(re.sub(r"//.*", "", path.read_text())) for path in sorted(folder.rglob("*.rt"))}
+
+
+def contracts():
+    """Each public function of the library: its module, parameters, result and contract. It exports none."""
     found = {}
-    for name, parameters, result in re.findall(r'#\[no_mangle\]\s*pub extern "C" fn (\w+)\(([^()]*)\)\s*->\s*(\w+)\s', text):
-        parts = [declared(name, p) for p in parameters.split(",") if p.strip()]
-        found[name] = TYPES.get(result), sum(parts, [])
-    if not text.count("no_mangle") == text.count('extern "C"') == len(found) > 0:
-        unread("an exported function of firmware")
+    for module, text in code(LIBRARY).items():
+        if "no_mangle" in text or 'extern "C"' in text:
+            unread("%s.rt of firmware: a library exports nothing" % module)
+        for function in re.finditer(FUNCTION.pattern.replace(r"\{(?P<body>[^{}]*)\}", r"\{"), text):
+            found[function["name"]] = module, function["parameters"].strip(" ,"), function["result"], function["contract"]
+    return found
+
+
+def exported():
+    """Each exported function: its result and its parameters, as C declares them. It has the name, the parameters and the contract of a
+    function of the library, and only calls it."""
+    library, found = contracts(), {}
+    text = " ".join(code(SOURCES).values())
+    for function in FUNCTION.finditer(text):
+        name, parameters = function["name"], function["parameters"].strip(" ,")
+        given = ", ".join(p.partition(":")[0].strip() for p in parameters.split(","))
+        if name not in library or library[name][1:] != (parameters, function["result"], function["contract"]):
+            unread("%s of firmware_c: no function of firmware has this name, these parameters and this contract" % name)
+        if not re.fullmatch(r"firmware::%s::%s\( ?%s,? ?\)" % (library[name][0], name, re.escape(given)), function["body"].strip()):
+            unread("%s of firmware_c: it does not just call the function of firmware" % name)
+        parts = [declared(name, p) for p in parameters.split(",")]
+        found[name] = TYPES.get(function["result"]), sum(parts, [])
+    if not text.count("#[unsafe(no_mangle)]") == text.count("no_mangle") == text.count('extern "C"') == len(found) > 0:
+        unread("an exported function of firmware_c")
     return found
 
 

@@ -5,7 +5,7 @@
 set -euo pipefail
 cd "$(dirname "$0")/.."
 
-rt staticlib firmware
+tools/archive
 archive=target/staticlib/libfirmware.a
 out=$(mktemp -d)
 trap 'rm -rf "$out"' EXIT

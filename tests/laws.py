@@ -1,5 +1,5 @@
 """Every public name of the specifications and proofs is used: it stands, directly or through others, below a contract, the proof
-of a function (`NAME-spec` of a Proof.antt), or a theorem that docs/READING.md names. A name in a comment, in its own body or in
+of a function (what its Answers.antt and Invariants.antt say of its goals), or a theorem that docs/READING.md names. A name in a comment, in its own body or in
 an import is no use. Prints the names that are not, and fails; fields of records are not looked at."""
 import re
 import sys
@@ -7,15 +7,17 @@ from pathlib import Path
 
 ROOT = Path(__file__).resolve().parent.parent
 WORD = re.compile(r"[^\s(){}\[\],;:\"⌜⌝]+")
+GOAL = re.compile(r"(pub )?\S+ : goal\.")
 USE = re.compile(r"^(?:ghost |unfoldable )?(pub )?use (\S+?)(?:\.\{(.*?)\}| as (\S+?))?;?$", re.M | re.S)
 NAMED = re.compile(r"^( *)((?:(?:abbrev|unfoldable|pub) )*)(record |data |ruleset )?([^\s:(){}=]+)(?= [:=({])")
-OURS = re.compile(r"Rattle·(\w+)(?:·specs|·proofs)?\.((?:specs|proofs)\..*)")
+OURS = re.compile(r"Rattle\.(\w+)\.((?:specs|proofs)\..*)")
+CRATES = {path.name for path in ROOT.glob("crates/*")}
 
 
 def module(path):
     """The file that a path of modules names, as its parts; None for another library's."""
     m = OURS.fullmatch(path)
-    return m and f"{m[1]}.{m[2]}"
+    return f"{m[1]}.{m[2]}" if m and m[1] in CRATES else None
 
 
 def uses(text):
@@ -77,7 +79,8 @@ def cited(text, here, names, modules, own):
 def main():
     public, edges, alias, roots = {}, {}, {}, []
     reading = set(re.findall(r"`([^`\s]+)`", (ROOT / "docs/READING.md").read_text()))
-    for path in sorted(ROOT.glob("crates/*/*/**/*.antt")) + sorted(ROOT.glob("crates/*/src/**/*.rt")):
+    antt = sorted(path for part in ("specs", "proofs") for path in ROOT.glob(f"crates/*/{part}/**/*.antt"))
+    for path in antt + sorted(ROOT.glob("crates/*/src/**/*.rt")):
         file = str(path.relative_to(ROOT))
         here = ".".join(path.relative_to(ROOT / "crates").with_suffix("").parts)
         code = path.suffix == ".rt"
@@ -96,7 +99,7 @@ def main():
             if pub:
                 public[here, name] = file
             told = pub and name in reading and (file in reading or path.name in reading)
-            if told or path.name == "Proof.antt" and name.endswith("-spec"):
+            if told or path.name in ("Answers.antt", "Invariants.antt") and GOAL.search(body):
                 roots.append((here, name))
     seen = set()
     while roots:

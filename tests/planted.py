@@ -17,10 +17,10 @@ from bench import Bench
 from guarded import Library
 from lockstep import ROOT, SEED, Found, Run, compared, show
 
-CRATES = ("cells", "fnv", "card", "journal", "store", "inspect", "firmware")
+CRATES = ("cells", "fnv", "card", "journal", "store", "inspect", "firmware", "firmware_c")
 CALLS = 40000
-CLAUSE = re.compile(r"^(ghost use .*|\s*(requires|ensures) \{.*\})\n", re.M)
-TYPE = re.compile(r"^(pub )?(struct|enum) ", re.M)
+CLAUSE = re.compile(r"^(ghost use .*|#!\[tactic.*|\s*(requires|ensures) (\w+ )?\{.*\})\n", re.M)
+TYPE = re.compile(r"(?<!\)\]\n)^(pub )?(struct|enum) ", re.M)
 
 Fault = namedtuple("Fault", "name file old new demands", defaults=(False,))
 FAULTS = (
@@ -231,9 +231,9 @@ def translated(folder):
 
 def built(folder):
     """The shared object of the crates in a folder. Each crate is given those below it, by crates.txt."""
-    uses = dict(re.findall(r"^(\w+): *(.*)$", (ROOT / "crates.txt").read_text(), re.M))
+    uses = dict(re.findall(r"^(\w+)(?: staticlib)?: *(.*)$", (ROOT / "crates.txt").read_text(), re.M))
     for crate in CRATES:
-        kind, name = ("cdylib", "libtrapcard.so") if crate == "firmware" else ("rlib", "lib%s.rlib" % crate)
+        kind, name = ("cdylib", "libtrapcard.so") if crate == "firmware_c" else ("rlib", "lib%s.rlib" % crate)
         subprocess.run(["rustc", "--edition", "2021", "-O", "-A", "warnings", "--crate-name", crate, "--crate-type", kind,
                         folder / crate / "lib.rs", "-L", folder, "-o", folder / name]
                        + [word for use in uses[crate].split() for word in ("--extern", "%s=%s" % (use, folder / ("lib%s.rlib" % use)))],

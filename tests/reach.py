@@ -15,7 +15,7 @@ from declarations import declared, filed, imported, promised, trouble, words
 
 ITEM = re.compile(r"\b(?:use|mod|const|struct|enum|impl|fn)\b")
 CONSTANT = re.compile(r"^(?:pub(?:\(crate\))? )?const (\w+).*(?:\n(?: .*|\];))*", re.M)
-HEAD = re.compile(r"^( *)(?:pub(?:\(crate\))? )?(?:extern \"C\" )?fn (\w+)|^impl (\w+) \{$", re.M)
+HEAD = re.compile(r"^( *)(?:pub(?:\(crate\))? )?(?:extern \"C\" )?fn (\w+)|^impl (?:\S+ for )?(\w+) \{$", re.M)
 
 
 def folder(file):
@@ -24,19 +24,19 @@ def folder(file):
 
 
 def functions(crate, file):
-    """The functions of a source file, as `rt fmt` lays it out: the proof file of each, and where it, its body and its end are. The
-    proofs of a method stand with the module of its type."""
+    """The functions of a source file, as `rt fmt` lays it out: the folder of the proof of each, and where it, its body and its end are.
+    The proofs of a method stand with the module of its type."""
     text = (crate / file).read_text()
     plain = owned = folder(crate / file)
     for match in HEAD.finditer(text):
         indent, name, owner = match.groups()
         if owner:
-            home = next(f for f in (crate / "src").glob("*.rt") if re.search(rf"(struct|enum) {owner}\b", f.read_text()))
-            owned = f"{folder(home)}{owner}/"
+            home = [f for f in (crate / "src").glob("*.rt") if re.search(rf"(struct|enum) {owner}\b", f.read_text())]
+            owned = f"{folder(home[0]) if home else plain}{owner}/"
             continue
         begin = re.compile(rf"^{indent}(\S.*)?\{{$", re.M).search(text, match.start())
         end = re.compile(rf"^{indent}\}}$", re.M).search(text, begin.end())
-        yield f"{owned if indent else plain}{name}/Proof.antt", match.start(), begin.end(), end.start()
+        yield f"{owned if indent else plain}{name}", match.start(), begin.end(), end.start()
 
 
 def constructors(text):
@@ -47,7 +47,7 @@ def constructors(text):
 
 
 class Reach:
-    """The nodes of a crate in a folder, by file and name, and a body's by file and proof file."""
+    """The nodes of a crate in a folder, by file and name, and a body's by file and the folder of the function's proof."""
 
     def __init__(self, crate, name):
         self.crate, self.root, self.texts, self.lines, self.proofs, self.known = crate, f"crates/{name}/", {}, {}, {}, {}
@@ -78,8 +78,9 @@ class Reach:
         return found
 
     def meant(self, whole, token, body):
-        """What a token of a file stands for; a path goes by its module, a path of the code by each of its pieces."""
-        found = self.named(whole, token)
+        """What a token of a file stands for; a path goes by its module, a path of the code by each of its pieces. `trap.slots` names
+        `trap`."""
+        found = self.named(whole, token) | self.named(whole, token.partition(".")[0])
         module, _, name = token.rpartition(".")
         if module and not token.startswith("."):
             at = self.imports[whole].get(module + ".", (filed(module), ""))[0]
@@ -91,7 +92,7 @@ class Reach:
 
     def contract(self, path, proof):
         """The contract of a function, a method's by its type."""
-        owner, name = proof.split("/")[-3:-1]
+        owner, name = proof.split("/")[-2:]
         return {k for k in self.texts if k[0] == path and k[1] in (name, f"{owner}::{name}")}
 
     def step(self, key):
@@ -99,14 +100,19 @@ class Reach:
         if key not in self.known:
             whole, body = self.root + key[0], key[1] in self.proofs
             tokens = set(words(self.texts[key])) | {key[1].partition("::")[0]}
-            self.known[key] = self.proofs.get(key[0], set()).union(*(self.meant(whole, t, body) for t in tokens))
+            self.known[key] = self.answered(key[0]).union(*(self.meant(whole, t, body) for t in tokens))
         return self.known[key]
+
+    def answered(self, file):
+        """The body and the contract of the function whose proof a file is a part of."""
+        return self.proofs.get(file.rpartition("/")[0], set())
 
     def from_error(self, file, line):
         """All that the declaration of an error can depend on; in the proof of a function, all that the file can."""
-        mine = [k for k in self.texts if k[0] == file]
+        proof = self.answered(file)
+        mine = [k for k in self.texts if k[0] == file or proof and k[0].rpartition("/")[0] == file.rpartition("/")[0]]
         here = [k for k in mine if line in self.lines[k]]
-        found = set(mine if file in self.proofs or not here else here) | self.proofs.get(file, set())
+        found = set(mine if proof or not here else here) | proof
         todo = list(found)
         while todo:
             new = self.step(todo.pop()) - found

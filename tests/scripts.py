@@ -1,4 +1,4 @@
-"""Runs target/bin/trapcard and compares what it prints: with the outputs under examples/scripts, with the model on random scripts and
+"""Runs crates/trapcard/out/trapcard and compares what it prints: with the outputs under examples/scripts, with the model on random scripts and
 on lines at the edges of the grammar, and with what is known of two long inputs, which it must handle in 16 MiB."""
 import random
 import re
@@ -11,7 +11,7 @@ import model
 from model import BLOCK, CLOSED, WAITING, WORK, Record
 
 ROOT = Path(__file__).resolve().parent.parent
-PROGRAM = ROOT / "target/bin/trapcard"
+PROGRAM = ROOT / "crates/trapcard/out/trapcard"
 MEMORY = 16 << 20
 RANDOM = 40
 NUMBER = re.compile(rb"[0-9]{1,10}")
@@ -75,6 +75,7 @@ def printed(script):
 
 def same(name, script, expected):
     if printed(script) != expected:
+        (ROOT / "target").mkdir(exist_ok=True)
         (ROOT / "target/failed.script").write_bytes(script)
         raise SystemExit("scripts: %s prints something else; see target/failed.script" % name)
 

@@ -10,7 +10,7 @@ from pathlib import Path
 
 ROOT = Path(__file__).resolve().parent.parent
 COMMAND = ROOT / "bin/trapcard"
-PROGRAM = ROOT / "target/bin/trapcard"
+PROGRAM = ROOT / "crates/trapcard/out/trapcard"
 PAUSE = 0.05
 LIMIT = 20
 SCRIPT = (ROOT / "examples/scripts/cut-101.script").read_bytes()

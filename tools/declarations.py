@@ -9,6 +9,9 @@ USE = re.compile(r"^\s*(?:ghost |unfoldable )?(?:pub )?use (\S+?)(?:\.\{(.*?)\}|
 SKIPPED = re.compile(r"(?:(?:unfoldable |ghost )?(?:pub )?(?:use|mod)|unfolding) ")
 MODIFIERS = {"abbrev", "unfoldable", "pub", "ghost", "record", "data", "ruleset"}
 OPEN, CLOSE = "([{", ")]}"
+ANSWERS = ("/Answers.antt", "/Invariants.antt", "/Proof.antt")
+LIBRARIES = ("std", "core", "io", "libc", "os")
+CLAUSE = re.compile(r"(requires|ensures)\*?")
 trouble = []
 
 
@@ -18,7 +21,7 @@ class Decl:
         self.lines = set()
         self.crate = path.split("/")[1]
         self.row = (self.crate, kind)
-        of = path.split("/")[-2] if path.endswith("/Proof.antt") else self.crate if kind.endswith("promises") else ""
+        of = path.split("/")[-2] if path.endswith(ANSWERS) else self.crate if kind.endswith("promises") else ""
         self.family = (path.endswith(".rt"), of)
 
     def tokens(self, typeOnly=False):
@@ -155,6 +158,9 @@ def code(path, tokens, places, within, found):
     """The items of a file or of an impl."""
     i = 0
     while i < len(tokens):
+        if tokens[i] == "#!":
+            i = closing(tokens, i + 1) + 1
+            continue
         at = i
         while tokens[at] in ("#", "pub", "extern", "ghost", "(", "[") or tokens[at].startswith('"'):
             at = closing(tokens, at) + 1 if tokens[at] in OPEN else at + 1
@@ -176,10 +182,10 @@ def code(path, tokens, places, within, found):
 
 
 def start(tokens, at):
-    """Where the body of a function starts: its first brace that is no clause's."""
+    """Where the body of a function starts: its first brace that is no clause's, which may have a name."""
     i = at
     while i < len(tokens) and tokens[i] != ";":
-        if tokens[i] == "{" and tokens[i - 1] not in ("requires", "ensures"):
+        if tokens[i] == "{" and not (CLAUSE.fullmatch(tokens[i - 1]) or CLAUSE.fullmatch(tokens[i - 2])):
             return i
         i = closing(tokens, i) + 1 if tokens[i] in OPEN else i + 1
     return i
@@ -201,7 +207,7 @@ def clauses(tokens):
     """A contract's signature and its clauses, each a text."""
     parts = [[]]
     for t in tokens:
-        if t in ("requires", "ensures"):
+        if CLAUSE.fullmatch(t):
             parts.append([])
         parts[-1].append(t)
     return [" ".join(p) for p in parts]
@@ -259,6 +265,6 @@ def imported(text):
 
 
 def filed(path):
-    """The file of a module of ours, or the path of another library's."""
-    m = re.fullmatch(r"Rattle·(\w+)(?:·specs|·proofs)?\.((?:specs|proofs)\..*)", path)
-    return "crates/%s/%s.antt" % (m[1], m[2].replace(".", "/")) if m else path
+    """The file of a module of ours, in today's spelling or the older one, or the path of another library's."""
+    m = re.fullmatch(r"Rattle(?:\.(\w+)|·(\w+?)(?:·specs|·proofs)?)\.((?:specs|proofs)\..*)", path)
+    return "crates/%s/%s.antt" % (m[1] or m[2], m[3].replace(".", "/")) if m and (m[1] or m[2]) not in LIBRARIES else path

@@ -13,7 +13,7 @@ use Rattle.card.specs.Disk.{Disk, lay, overlay}
 use Rattle.card.specs.Card.{settle, block_at, blocks_in}
 use Rattle.card.proofs.All.{All}
 use Rattle.card.proofs.Overlays.{lay-same, lay_other, overlay_agree, overlay_other}
-use Rattle.card.proofs.Runs.{Whole, settle-append, settle_other, settle-overlay, length-settle}
+use Rattle.card.proofs.Runs.{Whole, settle_other, settle-overlay, length-settle}
 use Rattle.journal.specs.Geometry.{Geometry, per_descriptor}
 use Rattle.journal.specs.Layout.{descriptor_at, first_data, is_data}
 use Rattle.journal.specs.Header.{header}
@@ -25,7 +25,6 @@ use Rattle.crash.proofs.Logs.{log_d, same_log_lem, same_agree, data_above, data_
 use Rattle.crash.proofs.Cards.{Every, WholeCard, ClosedCard, SafeCard, recard, whole_frame, closed_agree}
 use Rattle.crash.proofs.Frames.{Besides, KeepOff, off_low}
 use Rattle.crash.proofs.Leads.{Leads, Behind}
-use Rattle.crash.proofs.Plans.{Plan, settles}
 
 -- ---- fewer blocks in question
 

@@ -11,8 +11,7 @@ ghost use Rattle.firmware.specs.Face.{face_of, faced};
 
 use crate::record::{RECORD, SIZE, decode, encode};
 
-#[unsafe(no_mangle)]
-pub extern "C" fn trapcard_format(
+pub fn trapcard_format(
     rec: &mut [u8],
     settled: &mut [u8],
     waiting: &mut [u8],
@@ -29,8 +28,7 @@ pub extern "C" fn trapcard_format(
     formatted.number
 }
 
-#[unsafe(no_mangle)]
-pub extern "C" fn trapcard_power(
+pub fn trapcard_power(
     rec: &mut [u8],
     settled: &[u8],
     waiting: &[u8],
@@ -48,8 +46,7 @@ pub extern "C" fn trapcard_power(
     powered.number
 }
 
-#[unsafe(no_mangle)]
-pub extern "C" fn trapcard_put(
+pub fn trapcard_put(
     rec: &mut [u8],
     settled: &[u8],
     waiting: &[u8],
@@ -68,13 +65,7 @@ pub extern "C" fn trapcard_put(
     placed.number
 }
 
-#[unsafe(no_mangle)]
-pub extern "C" fn trapcard_commit(
-    rec: &mut [u8],
-    settled: &[u8],
-    waiting: &[u8],
-    work: &mut [u8],
-) -> u32
+pub fn trapcard_commit(rec: &mut [u8], settled: &[u8], waiting: &[u8], work: &mut [u8]) -> u32
     ensures { face_of result 0 rec.new settled.now waiting.now work.new ≡ faced (commit_call trap) rec.old settled.now waiting.now work.old }
 {
     if rec.len() != RECORD {
@@ -86,13 +77,7 @@ pub extern "C" fn trapcard_commit(
     committed.number
 }
 
-#[unsafe(no_mangle)]
-pub extern "C" fn trapcard_abandon(
-    rec: &mut [u8],
-    settled: &[u8],
-    waiting: &[u8],
-    work: &[u8],
-) -> u32
+pub fn trapcard_abandon(rec: &mut [u8], settled: &[u8], waiting: &[u8], work: &[u8]) -> u32
     ensures { face_of result 0 rec.new settled.now waiting.now work.now ≡ faced (abandon_call trap) rec.old settled.now waiting.now work.now }
 {
     if rec.len() != RECORD {
@@ -104,8 +89,7 @@ pub extern "C" fn trapcard_abandon(
     abandoned.number
 }
 
-#[unsafe(no_mangle)]
-pub extern "C" fn trapcard_cut(
+pub fn trapcard_cut(
     rec: &mut [u8],
     settled: &mut [u8],
     waiting: &[u8],

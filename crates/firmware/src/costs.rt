@@ -19,8 +19,7 @@ fn tell(cost: Cost, orders: &mut u32, applies: &mut u32, peak: &mut u32, reaches
     cost.number
 }
 
-#[unsafe(no_mangle)]
-pub extern "C" fn trapcard_sync_cost(
+pub fn trapcard_sync_cost(
     rec: &[u8],
     settled: &[u8],
     waiting: &[u8],
@@ -39,8 +38,7 @@ pub extern "C" fn trapcard_sync_cost(
     tell(sync_cost, orders, applies, peak, reaches)
 }
 
-#[unsafe(no_mangle)]
-pub extern "C" fn trapcard_apply_cost(
+pub fn trapcard_apply_cost(
     rec: &[u8],
     settled: &[u8],
     waiting: &[u8],
@@ -59,8 +57,7 @@ pub extern "C" fn trapcard_apply_cost(
     tell(apply_cost, orders, applies, peak, reaches)
 }
 
-#[unsafe(no_mangle)]
-pub extern "C" fn trapcard_recover_cost(
+pub fn trapcard_recover_cost(
     rec: &[u8],
     settled: &[u8],
     waiting: &[u8],

@@ -1,4 +1,5 @@
-// The store for C: the record as 44 lent bytes, a number for each call. include/trapcard.h declares these functions.
+// The store for C: the record as 44 lent bytes, a number for each call. `firmware_c` exports these functions, and include/trapcard.h
+// declares them.
 #![tactic(auto)]
 
 pub mod calls;

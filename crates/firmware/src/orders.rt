@@ -7,8 +7,7 @@ ghost use Rattle.firmware.specs.Face.{face_of, faced};
 
 use crate::record::{RECORD, SIZE, decode, encode};
 
-#[unsafe(no_mangle)]
-pub extern "C" fn trapcard_sync(
+pub fn trapcard_sync(
     rec: &mut [u8],
     settled: &mut [u8],
     waiting: &mut [u8],
@@ -28,8 +27,7 @@ pub extern "C" fn trapcard_sync(
     synced.number
 }
 
-#[unsafe(no_mangle)]
-pub extern "C" fn trapcard_apply(
+pub fn trapcard_apply(
     rec: &mut [u8],
     settled: &mut [u8],
     waiting: &mut [u8],
@@ -49,8 +47,7 @@ pub extern "C" fn trapcard_apply(
     applied.number
 }
 
-#[unsafe(no_mangle)]
-pub extern "C" fn trapcard_recover(
+pub fn trapcard_recover(
     rec: &mut [u8],
     settled: &mut [u8],
     waiting: &mut [u8],
@@ -70,8 +67,7 @@ pub extern "C" fn trapcard_recover(
     recovered.number
 }
 
-#[unsafe(no_mangle)]
-pub extern "C" fn trapcard_direct(
+pub fn trapcard_direct(
     rec: &mut [u8],
     settled: &mut [u8],
     waiting: &mut [u8],

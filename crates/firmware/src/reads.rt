@@ -39,8 +39,7 @@ fn buffer_offset(place: Place) -> u64
     }
 }
 
-#[unsafe(no_mangle)]
-pub extern "C" fn trapcard_get(
+pub fn trapcard_get(
     rec: &[u8],
     settled: &[u8],
     waiting: &[u8],
@@ -66,8 +65,7 @@ pub extern "C" fn trapcard_get(
     held.get_number(settled, waiting, work, address)
 }
 
-#[unsafe(no_mangle)]
-pub extern "C" fn trapcard_get_list(
+pub fn trapcard_get_list(
     rec: &[u8],
     settled: &[u8],
     waiting: &[u8],
@@ -87,8 +85,7 @@ pub extern "C" fn trapcard_get_list(
     listed.number
 }
 
-#[unsafe(no_mangle)]
-pub extern "C" fn trapcard_tally(settled: &[u8], sum: &mut u64) -> u32
+pub fn trapcard_tally(settled: &[u8], sum: &mut u64) -> u32
     ensures { tallied result sum.new ≡ tally_of trap settled.now }
 {
     let tally = inspect::tally::tally(settled);
@@ -96,8 +93,7 @@ pub extern "C" fn trapcard_tally(settled: &[u8], sum: &mut u64) -> u32
     tally.number
 }
 
-#[unsafe(no_mangle)]
-pub extern "C" fn trapcard_alike(a: &[u8], b: &[u8], yes: &mut u32) -> u32
+pub fn trapcard_alike(a: &[u8], b: &[u8], yes: &mut u32) -> u32
     ensures { compared_of result yes.new ≡ compared trap a.now b.now }
 {
     let alike = inspect::alike::alike(a, b);

@@ -1,5 +1,5 @@
 -- The theorems about histories. Their types stand in specs/Statements.antt, specs/Refusals.antt, specs/Cuts.antt, specs/Formats.antt, specs/Costs.antt,
--- specs/Get_lists.antt, specs/Directs.antt, specs/Alike_cards.antt, specs/Dispatch.antt, specs/Linked.antt and specs/Scripts.antt.
+-- specs/GetLists.antt, specs/Directs.antt, specs/AlikeCards.antt, specs/Dispatch.antt, specs/Linked.antt and specs/Scripts.antt.
 use Prim.Native.Nat.{ℕ, ◌<◌}
 use mathlib.Core.Path.{◌≡◌, refl, ap, sym, ◌∙◌}
 use mathlib.Core.Logic.{◌≢◌, ◌⊎◌}
@@ -8,7 +8,7 @@ use native.Mathlib.Omega.{arith}
 use native.Mathlib.Decide.{ℕ_discrete}
 use lib.Dec.{eqb}
 use Rattle.store.specs.Request as Request
-use Rattle.store.specs.State.{State, Outcome, open_mode, card_in}
+use Rattle.store.specs.State.{State, Outcome, open_mode}
 use Rattle.store.specs.Causes.{is_found, cause}
 use Rattle.store.specs.Outcomes.{refused}
 use Rattle.store.specs.Format.{format_call}

@@ -1,9 +1,7 @@
 -- "The list holds power, put, get, commit, abandon, sync, apply, recover and cut in any order, with any arguments, refused ones too."
 -- W-207: and lists of gets. W-209: and direct writes.
 use Rattle.std.specs.Prelude.{ℕ, List}
-use Rattle.store.specs.Local as Local
 use Rattle.store.specs.Local.{Local}
-use Rattle.store.specs.Save as Save
 use Rattle.store.specs.Save.{Save}
 use Rattle.store.specs.Request as Request
 

@@ -7,7 +7,6 @@ use Rattle.journal.specs.declared.choice.Choice.TheVariants.{Whole, Fallback}
 use Rattle.journal.specs.Log.{entries}
 use Rattle.journal.specs.Orders.{checkpoint_orders}
 use Rattle.journal.specs.Choice.{choose}
-use Rattle.store.specs.Save as Save
 use Rattle.store.specs.Save.{Save}
 use Rattle.store.specs.Request.{save}
 use Rattle.store.specs.State.{State, Outcome, card_in}

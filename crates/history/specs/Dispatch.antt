@@ -1,9 +1,7 @@
 -- The one table from a call to what it does, by which lists of calls, what C sees and the script go. That it says what the contracts say
 -- is `Cited`.
 use Rattle.std.specs.Prelude.{ℕ, ◌≡◌, List}
-use Rattle.store.specs.Local as Local
 use Rattle.store.specs.Local.{Local}
-use Rattle.store.specs.Save as Save
 use Rattle.store.specs.Save.{Save}
 use Rattle.store.specs.Request.{Request, format, local, direct, save, cut, power, put, get, get_list, commit, abandon, sync, apply, recover}
 use Rattle.store.specs.State.{State, Outcome}

@@ -9,7 +9,6 @@ use Rattle.journal.specs.Log.{header_of, entries}
 -- equal logs, and a checksum collision: another list than the one written, as long, with the same sum
 unfoldable pub use Rattle.crash.specs.Found.{same_log, collides}
 use Rattle.journal.specs.Choice.{choose, taken_count}
-use Rattle.store.specs.Save as Save
 use Rattle.store.specs.Save.{Save}
 use Rattle.store.specs.State.{State}
 use Rattle.store.specs.Saves.{group_of, applies}

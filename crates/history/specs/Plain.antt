@@ -11,11 +11,9 @@ use Rattle.journal.specs.Layout.{is_data}
 use Rattle.journal.specs.Header.{most_save}
 use Rattle.journal.specs.Wanted.{wanted_count, wanted_at}
 use Rattle.crash.specs.Laid.{Laid, lay_over}
-use Rattle.store.specs.Local as Local
 use Rattle.store.specs.Local.{Local}
 use Rattle.store.specs.Causes.{some, wrong_list}
 use Rattle.store.specs.GetList.{Listing, listing_of}
-use Rattle.store.specs.Save as Save
 use Rattle.store.specs.Save.{Save}
 use Rattle.history.specs.Call.{Call, local, direct, save, cut, get_list}
 

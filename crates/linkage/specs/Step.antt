@@ -4,7 +4,6 @@ use Rattle.std.specs.Prelude.{ℕ, List}
 use Rattle.firmware.specs.Face.{Face, Got, got_of, got, listed, Asked, asked}
 use Rattle.history.specs.Call.{Call, direct, cut, power, put, get, get_list, commit, abandon, sync, apply, recover, of_get, of_list}
 use Rattle.history.specs.Linked.{face_next}
-use Rattle.store.specs.Save as Save
 use Rattle.store.specs.Save.{Save}
 use Rattle.store.specs.GetList.{Listing, listing_of}
 use Rattle.store.specs.Cost.{cost_of}

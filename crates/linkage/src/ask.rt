@@ -1,4 +1,4 @@
-// Any inquiry, through the exported C functions.
+// Any inquiry, through the functions of `firmware` that `firmware_c` exports.
 ghost use Rattle.std.specs.Prelude.{◌≡◌};
 ghost use Rattle.firmware.specs.Face.{face_of, Asked};
 ghost use Rattle.linkage.specs.Step.{save_of, asked_on};

@@ -1,4 +1,5 @@
-// Every call made through the exported C functions alone, and held to the definitions that the theorems of history speak of.
+// Every call made through the functions of `firmware` alone, which `firmware_c` exports to C, and held to the definitions that the theorems of
+// history speak of.
 #![tactic(auto)]
 
 pub mod apart;

@@ -1,4 +1,4 @@
-// Any call of a list, through the exported C functions.
+// Any call of a list, through the functions of `firmware` that `firmware_c` exports.
 ghost use Rattle.std.specs.Prelude.{◌≡◌};
 ghost use Rattle.firmware.specs.Face.{face_of};
 ghost use Rattle.linkage.specs.Step.{call_of, stepped_of, stepped};

@@ -15,7 +15,6 @@ use Rattle.card.specs.Marks.{kept_at}
 use Rattle.journal.specs.Geometry.{Geometry}
 use Rattle.crash.specs.Laid.{Laid, lay_over}
 use Rattle.store.specs.Local.{Local}
-use Rattle.store.specs.Save as Save
 use Rattle.store.specs.Save.{Save}
 use Rattle.store.specs.Saves.{group_of}
 use Rattle.history.specs.Call.{Call, local, direct, save, cut, sync, apply, recover}

@@ -28,7 +28,6 @@ use Rattle.journal.proofs.Headers.{length-encode}
 use Rattle.journal.proofs.OrderLists.{header_entry, fallback_writes}
 use Rattle.crash.proofs.Batches.{batch, Room, no_queue, queued_short, queued_done}
 use Rattle.crash.proofs.Logs.{data_above, data_below}
-use Rattle.store.specs.Local as Local
 use Rattle.store.specs.Local.{Local}
 use Rattle.store.specs.Save as Save
 use Rattle.store.specs.Request as Request

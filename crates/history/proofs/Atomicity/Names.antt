@@ -1,5 +1,5 @@
 -- The log's addresses and the loose ones: the log that a recovery takes has a loose block exactly if the group of a sync found new has it.
-use Prim.Native.Nat.{ℕ, ◌+◌, ◌-◌, ◌≤◌, ◌<◌}
+use Prim.Native.Nat.{ℕ, ◌+◌, ◌-◌, ◌≤◌}
 use mathlib.Core.Path.{◌≡◌, refl, ap, ap₂, sym, ◌∙◌}
 use mathlib.Core.Logic.{◌≢◌, ◌⊎◌}
 use mathlib.Core.Bool.{Bool, true, false, true≢false, false≢true, cond, not, ◌&&◌, ◌||◌, or-true}
@@ -15,14 +15,12 @@ use Rattle.crash.specs.Laid.{Laid}
 use Rattle.card.specs.Disk.{Disk}
 use Rattle.store.specs.Saves.{group_of}
 use Rattle.card.specs.Card.{queue}
-use Rattle.card.specs.Marks.{kept_at, all_kept}
+use Rattle.card.specs.Marks.{kept_at}
 use Rattle.card.proofs.All.{All}
 use Rattle.journal.specs.Geometry.{Geometry}
 use Rattle.journal.specs.Log.{entries}
 use Rattle.journal.proofs.Choices.{both}
-use Rattle.store.specs.Local as Local
 use Rattle.store.specs.Local.{Local}
-use Rattle.store.specs.Save as Save
 use Rattle.store.specs.Save.{Save}
 use Rattle.store.specs.State.{State, open_mode, card_in}
 use Rattle.history.specs.Call.{Call, local, direct, save, cut, power, sync, apply, recover}
@@ -39,7 +37,7 @@ use Rattle.history.proofs.Relation.PlainLaws as PlainLaws
 use Rattle.history.proofs.Relation.PlainAnswers.{LocalKind, powers, opens, local_kind}
 use Rattle.history.proofs.Steps.Shown.{plain_next, WorldSim, plain_refused, plain_served}
 use Rattle.history.proofs.Steps.ListInduction.{step, next_sim, clean_first}
-use Rattle.history.proofs.Atomicity.Phases.{header_place, NewLog, ShortPhase, OtherPhase, Watch, observe-refused, open_watch, open_now, planned, power-same}
+use Rattle.history.proofs.Atomicity.Phases.{header_place, NewLog, ShortPhase, Watch, observe-refused, open_watch, open_now, planned, power-same}
 use Rattle.history.proofs.Atomicity.ShortSyncs.{cut-found, cut_plain, cut_observed, open_lays_none, recover-same, short_plain, watch_step}
 
 -- ---- what waits or is loose is not in the log

@@ -1,34 +1,31 @@
 -- A block that is never written directly: it is never loose, and no direct write is laid over it.
-use Prim.Native.Nat.{ℕ, ◌+◌, ◌≤◌, ◌<◌}
+use Prim.Native.Nat.{ℕ, ◌+◌, ◌≤◌}
 use mathlib.Core.Path.{◌≡◌, refl, ap, ap₂, sym, ◌∙◌}
-use mathlib.Core.Logic.{◌≢◌, ◌⊎◌}
-use mathlib.Core.Bool.{Bool, true, false, true≢false, cond, not, ◌&&◌, ◌||◌}
-use mathlib.Core.List.{List, [], ◌∷◌, ◌++◌}
+use mathlib.Core.Logic.{◌≢◌}
+use mathlib.Core.Bool.{Bool, true, false, cond, not, ◌&&◌, ◌||◌}
+use mathlib.Core.List.{List, [], ◌∷◌}
 use native.Mathlib.Omega.{arith}
 use native.Mathlib.Decide.{ℕ_discrete, dec_le}
-use borrow.Author.Tests.{eq-eqb, ne_eqb, eqb-true, eqb-false, not-true}
+use borrow.Author.Tests.{eq-eqb, ne_eqb, eqb-false, not-true}
 use lib.Dec.{eqb}
 use lib.ListN.{length}
-use Rattle.cells.specs.Entry.{Entry}
-use Rattle.card.specs.Disk.{Disk, lay, overlay}
+use Rattle.card.specs.Disk.{Disk, lay}
 use Rattle.card.proofs.Overlays.{lay_other, overlay_agree}
 use Rattle.crash.specs.Laid.{Laid}
 use Rattle.journal.specs.Geometry.{Geometry}
 use Rattle.journal.proofs.Choices.{both}
-use Rattle.store.specs.Local as Local
 use Rattle.store.specs.Local.{Local}
-use Rattle.store.specs.Save as Save
 use Rattle.store.specs.Save.{Save}
 use Rattle.history.specs.Call.{Call, local, direct, save, cut}
 use Rattle.history.specs.Plain as Plain
 use Rattle.history.specs.Plain.{Plain, Short, among, Done, cut_short, plain_step, plain_direct, direct_takes, written, refusal, served, locally, saving}
 use Rattle.history.specs.Dispatch.{dispatch}
-use Rattle.history.specs.History.{World, next, after, store_next, fed}
+use Rattle.history.specs.History.{World, next, after, fed}
 use Rattle.history.specs.Statements.{Fate, quiet, decided, outcome, direct_done, on_direct, drawn_by, drawn_over, never_direct}
 use Rattle.history.proofs.Relation.Lists.{among-append}
 use Rattle.history.proofs.Relation.PlainLaws as PlainLaws
-use Rattle.history.proofs.Relation.PlainAnswers.{sync-cases, direct_cases}
-use Rattle.history.proofs.Steps.Shown.{plain_next, WorldSim, plain_refused, plain_served}
+use Rattle.history.proofs.Relation.PlainAnswers.{sync-cases}
+use Rattle.history.proofs.Steps.Shown.{WorldSim, plain_refused, plain_served}
 use Rattle.history.proofs.Steps.ListInduction.{step, next_sim, clean_first}
 
 -- ---- S

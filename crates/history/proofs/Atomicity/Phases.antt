@@ -1,5 +1,5 @@
 -- What is watched along a list of calls: whether a sync cut short is known, and what the plain disk has then. A refused call changes nothing.
-use Prim.Native.Nat.{ℕ, ◌+◌, ◌*◌, ◌-◌}
+use Prim.Native.Nat.{ℕ, ◌+◌, ◌*◌}
 use mathlib.Core.Path.{◌≡◌, refl, ap, sym, ◌∙◌}
 use mathlib.Core.Logic.{◌≢◌, ◌⊎◌}
 use mathlib.Core.Bool.{Bool, true, false, false≢true, cond, ◌&&◌}
@@ -20,7 +20,7 @@ use Rattle.store.specs.Save as Save
 use Rattle.store.specs.Request as Request
 use Rattle.store.specs.State.{State, Outcome, closed, open_mode, down, with_queue, with_record, card_in}
 use Rattle.store.specs.Causes.{cause}
-use Rattle.history.specs.Call.{Call, request_of, local, direct, save, cut, power, sync, apply, recover}
+use Rattle.history.specs.Call.{Call, request_of, local, direct, save, cut, power, sync}
 use Rattle.history.specs.Plain.{Plain, none, Done, with_power, Verdict, verdict, header_kept, last_save, refusal}
 use Rattle.history.specs.Dispatch.{dispatch}
 use Rattle.history.specs.Ledger.{Ledger, nothing, waits, same_log}

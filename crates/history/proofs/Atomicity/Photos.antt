@@ -30,9 +30,7 @@ use Rattle.journal.proofs.OrderLists.{header_entry, append_writes, append-writes
 use Rattle.crash.proofs.Appends.{writes_whole, writes_below}
 use Rattle.crash.proofs.Batches.{batch, Room, no_queue, queued_short, queued_done, left_dead}
 use Rattle.crash.proofs.Logs.{data_above, data_below}
-use Rattle.store.specs.Local as Local
 use Rattle.store.specs.Local.{Local}
-use Rattle.store.specs.Save as Save
 use Rattle.store.specs.Save.{Save}
 use Rattle.store.specs.Request as Request
 use Rattle.store.specs.State.{State, Outcome, card_in}
@@ -45,7 +43,7 @@ use Rattle.store.specs.Direct.{direct_write, direct_orders}
 use Rattle.store.proofs.Causes.{SizeFacts, sizes_facts, needs_open}
 use Rattle.store.proofs.Saves.{apply-carried}
 use Rattle.history.specs.Call.{Call, request_of, local, direct, save, cut, sync, apply, recover}
-use Rattle.history.specs.Plain.{Plain, Done, Short, of_sync, of_apply, of_recover, of_direct, among, addresses, flushes, applies, sync_takes, direct_takes, refusal, locally, served, plain_sync, plain_apply, plain_recover, plain_cut, recovered, cut_short, done}
+use Rattle.history.specs.Plain.{Plain, Done, Short, of_sync, of_apply, of_recover, among, addresses, flushes, applies, sync_takes, direct_takes, refusal, locally, served, plain_sync, plain_apply, plain_recover, plain_cut, recovered, cut_short, done}
 use Rattle.history.specs.Dispatch as Dispatch
 use Rattle.history.specs.Dispatch.{called, dispatch, served_local}
 use Rattle.history.specs.History.{World, next, after, store_next, fed}

@@ -1,5 +1,5 @@
 -- What becomes of a sync that is cut short, from a finished sync or recovery to the next recovery.
-use Prim.Native.Nat.{ℕ, ◌+◌, ◌*◌, ◌-◌, ◌≤◌, ◌<◌}
+use Prim.Native.Nat.{ℕ, ◌+◌, ◌*◌, ◌≤◌}
 use mathlib.Core.Path.{◌≡◌, refl, ap, ap₂, sym, ◌∙◌}
 use mathlib.Core.Logic.{◌≢◌, ◌⊎◌}
 use mathlib.Core.Bool.{Bool, true, false, true≢false, cond, not, ◌&&◌}
@@ -24,7 +24,7 @@ use Rattle.history.specs.Call.{Call, local, direct, save, cut, power, sync, appl
 use Rattle.history.specs.Plain as Plain
 use Rattle.history.specs.Plain.{Plain, Done, Short, none, of_sync, of_apply, of_recover, of_direct, Verdict, verdict, own_verdict, log_at, direct_takes, plain_direct, sync_takes, sync_waits, unchanged, header_kept, refusal, plain_step, plain_sync, plain_apply, plain_recover}
 use Rattle.history.specs.Dispatch.{dispatch}
-use Rattle.history.specs.Ledger.{Ledger, Pending, nothing, waits, settled_by, sync_headers, noted, entered, own_header, apply_header, inner, standing, waiting_met, resolved, same_log}
+use Rattle.history.specs.Ledger.{Ledger, Pending, waits, settled_by, sync_headers, noted, entered, own_header, apply_header, inner, standing, waiting_met, resolved, same_log}
 use Rattle.history.specs.History.{World, next, after, store_next, ledger_next, found_written, fed}
 use Rattle.history.specs.Statements as S
 use Rattle.history.specs.Statements.{Fate, quiet, decided, Progress, known, undecided, observe, fate, outcome, WholeIsNew, short_sync, none_finished, headed}
@@ -40,7 +40,7 @@ use Rattle.history.proofs.Steps.Recover.{is_closed}
 use Rattle.history.proofs.Steps.Sync.{short_whole}
 use Rattle.history.proofs.Steps.ListInduction.{step, next_sim, clean_first}
 use Rattle.history.proofs.Steps.Notes.{note_at, note_past}
-use Rattle.history.proofs.Relation.PlainAnswers.{sync-cases, direct_cases, LocalKind, powers, opens, local_kind}
+use Rattle.history.proofs.Relation.PlainAnswers.{sync-cases, LocalKind, powers, opens, local_kind}
 use Rattle.history.proofs.Atomicity.ReadsBack.{power-served, cut_accepted}
 use Rattle.history.proofs.Atomicity.Phases.{header_place, NewLog, ShortPhase, Watch, closed_watch, open_kept, open_now, open_watch, planned, power-same, power_watch, to_watch, watch_at, watch_refused}
 

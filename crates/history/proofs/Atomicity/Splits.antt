@@ -7,7 +7,7 @@ use mathlib.Core.List.{List, [], ◌∷◌, ◌++◌}
 use native.Mathlib.Omega.{arith}
 use native.Mathlib.Nat.{zero-add}
 use native.Mathlib.Decide.{ℕ_discrete, dec_le}
-use borrow.Author.Tests.{eq-eqb, ne_eqb, eqb-true, not-true}
+use borrow.Author.Tests.{eq-eqb, ne_eqb, not-true}
 use lib.ListN.{length, get_or}
 use Rattle.card.specs.Disk.{Disk, overlay}
 use Rattle.crash.specs.Laid.{Laid}
@@ -21,12 +21,11 @@ use Rattle.journal.specs.Geometry.{Geometry}
 use Rattle.journal.specs.Layout.{is_data}
 use Rattle.journal.proofs.Choices.{both}
 use Rattle.store.specs.Local.{Local}
-use Rattle.store.specs.Save as Save
 use Rattle.store.specs.Save.{Save}
 use Rattle.store.specs.State.{State, Outcome, open_mode, card_in}
 use Rattle.store.specs.Causes.{cause}
 use Rattle.store.specs.Format.{formatted, format_call}
-use Rattle.history.specs.Call.{Call, request_of, local, direct, save, cut, power, get, sync, apply, recover}
+use Rattle.history.specs.Call.{Call, request_of, local, direct, save, cut, get, sync, apply, recover}
 use Rattle.history.specs.Plain as Plain
 use Rattle.history.specs.Plain.{Plain, among, addresses, Fed, Done, fresh, refusal, plain_step, plain_recover, plain_get}
 use Rattle.store.specs.Get.{block_of}
@@ -42,7 +41,7 @@ use Rattle.history.proofs.Relation.PlainLaws as PlainLaws
 use Rattle.history.proofs.Steps.Shown.{plain_next, WorldSim, same-cause, dispatch-refused, plain_refused, plain_served}
 use Rattle.history.proofs.Steps.Cut as CutStep
 use Rattle.history.proofs.Steps.ListInduction.{step, next_sim, after_sim, after-append, clean_before, clean_first, begun_sim, formatted-now}
-use Rattle.history.proofs.Relation.PlainAnswers.{sync-cases, LocalKind, powers, opens, local_kind, served-N}
+use Rattle.history.proofs.Relation.PlainAnswers.{LocalKind, powers, opens, local_kind, served-N}
 use Rattle.history.proofs.Atomicity.ReadsBack.{found-closed, recovered_sim, recovered_mode, recovered_open, same_ledger, power-served}
 use Rattle.history.proofs.Atomicity.Phases.{OtherPhase, Watch, short_is, not_short, short_serves, open_now, closed_watch}
 use Rattle.history.proofs.Atomicity.ShortSyncs.{watch_list, short_plain}

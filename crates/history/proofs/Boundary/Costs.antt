@@ -22,7 +22,6 @@ use Rattle.journal.specs.Choice.{choose, choice_number}
 use Rattle.journal.proofs.Choices.{both}
 use Rattle.store.specs.declared.record.Record.{Record}
 use Rattle.store.specs.declared.cost.Cost.{Cost}
-use Rattle.store.specs.Save as Save
 use Rattle.store.specs.Save.{Save}
 use Rattle.store.specs.Request.{save, sync, apply, recover}
 use Rattle.store.specs.State.{State, Outcome, with_grouped, with_log, with_save, card_in}

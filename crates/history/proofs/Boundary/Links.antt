@@ -16,9 +16,7 @@ use Rattle.journal.specs.Log.{entries}
 use Rattle.journal.proofs.Logs.{sum_of_lt}
 use Rattle.store.specs.declared.record.Record.{Record}
 use Rattle.store.specs.declared.cost.Cost.{Cost}
-use Rattle.store.specs.Local as Local
 use Rattle.store.specs.Local.{Local}
-use Rattle.store.specs.Save as Save
 use Rattle.store.specs.Save.{Save}
 use Rattle.store.specs.Request as Request
 use Rattle.store.specs.State.{State, Outcome, open_mode, down, with_mode, with_log}
@@ -35,7 +33,7 @@ use Rattle.store.proofs.Causes.{any_waits, sizes_facts, sound}
 use Rattle.firmware.specs.Face.{record_bytes, decode_record, Face, face_of, faced, handed, Got, got_in, got, listed, told, asked}
 use Rattle.firmware.proofs.Records.{length-encode, Fitting, decode-encode}
 use Rattle.firmware.proofs.Faces.{faced-length, faced-outcome, got_place, listed-listing, asked_cost}
-use Rattle.history.specs.Call.{Call, request_of, local, direct, save, cut, power, get, get_list, of_get, of_list}
+use Rattle.history.specs.Call.{Call, request_of, local, direct, save, cut, get, get_list, of_get, of_list}
 use Rattle.history.specs.Plain.{Plain, Fed, Done, refusal, locally, served, plain_step, plain_cut}
 use Rattle.history.specs.Dispatch.{called, dispatch}
 use Rattle.history.specs.Ledger.{Ledger, entered}

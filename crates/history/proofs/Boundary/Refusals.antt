@@ -36,7 +36,6 @@ use Rattle.crash.proofs.Appends.{writes_whole, writes_below}
 use Rattle.store.specs.declared.record.Record.{Record}
 use Rattle.store.specs.State.{State, Outcome, open_mode, down, with_mode, with_log, with_record, card_in, with_card}
 use Rattle.store.specs.Lists.{group_from, listed}
-use Rattle.store.specs.Save as Save
 use Rattle.store.specs.Save.{Save}
 use Rattle.store.specs.Request.{Request, format, local, direct, save, cut, sync, apply, recover}
 use Rattle.store.specs.Causes.{waiting_bytes, cause}

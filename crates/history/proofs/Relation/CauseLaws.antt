@@ -23,9 +23,7 @@ use Rattle.store.specs.State.{State, closed, open_mode, down, card_in}
 use Rattle.store.specs.Lists.{open_from, group_from, listed, list_of}
 use Rattle.store.specs.Local as Local
 use Rattle.store.specs.Save as Save
-use Rattle.store.specs.Request as Request
 use Rattle.store.specs.Request.{Request}
-use Rattle.store.specs.Causes as Causes
 use Rattle.store.specs.Causes.{most_waiting, wrong_sizes, wrong_list, wrong_counts, wrong_waiting, wrong_lists, wrong_record, Row, closed_row, down_row, address_row, addresses_row, listed_row, open_full_row, group_full_row, last_save_row, Rules, of_bytes, of_record, of_open, rules, own_size, wrong_block, some, first, cause_by, cause}
 use Rattle.store.proofs.Causes.{reads_record, needs_open, other, SizeFacts, sizes_facts, counts_facts, waiting_facts, Passes, cause_passes as causes_passes}
 use Rattle.history.specs.Call.{Call, request_of, local, direct, save, cut, recover}

@@ -36,7 +36,6 @@ use Rattle.store.specs.Format.{formatted}
 use Rattle.store.specs.Put.{put_at}
 use Rattle.store.specs.Commit.{Group, join_at, join, joined}
 use Rattle.store.specs.Saves.{carried, group_of, applies, met_by_append, saved_as, inner_orders}
-use Rattle.store.proofs.Calls.{call_refused}
 use Rattle.store.proofs.Saves.{apply-carried}
 use Rattle.history.specs.Dispatch.{served, called}
 use Rattle.history.specs.Refusals.{orders_of, inner_done}

@@ -1,5 +1,5 @@
 -- What is known of an open state, in the terms of the laws on cards.
-use Prim.Native.Nat.{ℕ, ◌-◌, ◌^◌, ◌≤◌, ◌<◌}
+use Prim.Native.Nat.{ℕ, ◌^◌, ◌≤◌, ◌<◌}
 use mathlib.Core.Path.{◌≡◌, ap, ap₂, sym, ◌∙◌}
 use mathlib.Core.Logic.{◌≢◌}
 use mathlib.Core.Bool.{true, false}
@@ -13,7 +13,7 @@ use Rattle.fnv.specs.Fnv.{start}
 use Rattle.card.specs.Disk.{overlay}
 use Rattle.card.specs.Card.{queue, block_at, blocks_in}
 use Rattle.card.specs.Marks.{whole_block}
-use Rattle.card.proofs.All.{All, all_map, all-up_to}
+use Rattle.card.proofs.All.{All, all-up_to}
 use Rattle.card.proofs.Overlays.{overlay_agree}
 use Rattle.card.proofs.Runs.{Whole, NarrowAddress, settle-overlay}
 use Rattle.journal.specs.Geometry.{Geometry}
@@ -33,7 +33,7 @@ use Rattle.journal.proofs.Logs.{from_whole, entries_whole, all-all_data}
 use Rattle.history.proofs.Relation.Lists.{Data}
 use Rattle.history.proofs.Relation.WorkLists.{data_short}
 use Rattle.history.proofs.Relation.CauseLaws.{RecordFacts, ListFacts, record_facts, few_wait}
-use Rattle.history.proofs.Relation.Sim.{Basics, Waits, flushed_bytes, OpenSim, cut_loose}
+use Rattle.history.proofs.Relation.Sim.{Basics, flushed_bytes, OpenSim, cut_loose}
 use Rattle.history.proofs.Steps.Shown.{small_N, big-N, waits_off, waits_high}
 
 module _ (geo : Geometry) where

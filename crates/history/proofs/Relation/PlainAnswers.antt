@@ -9,9 +9,7 @@ use borrow.Author.Tests.{eq-eqb, ne_eqb}
 use mathlib.Core.List.{List}
 use lib.ListN.{length}
 use Rattle.card.specs.Disk.{Disk}
-use Rattle.store.specs.Local as Local
 use Rattle.store.specs.Local.{Local}
-use Rattle.store.specs.Save as Save
 use Rattle.store.specs.Save.{Save}
 use Rattle.store.specs.Request as Request
 use Rattle.store.proofs.Causes.{needs_open}

@@ -1,6 +1,6 @@
 -- An append: the writes of its one batch, what they leave, and what every cut of them leads to.
 use Prim.Native.Nat.{ℕ, ◌+◌, ◌*◌, ◌-◌, ◌≤◌}
-use mathlib.Core.Path.{◌≡◌, refl, ap, ap₂, sym, subst, ◌∙◌}
+use mathlib.Core.Path.{◌≡◌, ap, sym, subst, ◌∙◌}
 use mathlib.Core.Bool.{Bool, true, false, cond}
 use mathlib.Core.Logic.{◌≢◌}
 use mathlib.Core.List.{List, [], ◌∷◌, ◌++◌, append_assoc}
@@ -28,7 +28,7 @@ use Rattle.crash.proofs.CallCuts.{append_cuts, append_cuts_lost, append_cuts_new
 use Rattle.crash.proofs.Cards.{Every, WholeCard}
 use Rattle.crash.proofs.Frames.{Besides, off_low}
 use Rattle.crash.proofs.Waiting.{settled_log, settled_writes}
-use Rattle.crash.proofs.Leads.{Leads, Appending, own_place, found_in}
+use Rattle.crash.proofs.Leads.{Leads, Appending, found_in}
 use Rattle.crash.proofs.Logs.{slot_e, log_d, entries_disk}
 use Rattle.crash.proofs.Appends.{writes_whole, writes_below, length_front, header_none, header-last}
 use Rattle.history.specs.Plain.{addresses, own_verdict, log_at}

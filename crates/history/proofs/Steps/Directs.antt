@@ -1,35 +1,33 @@
 -- The step of a direct write (W-209): one order, or two with as many waiting as may.
-use Prim.Native.Nat.{ℕ, ◌+◌, ◌*◌, ◌-◌, ◌^◌, ◌≤◌, ◌<◌, min}
+use Prim.Native.Nat.{ℕ, ◌+◌, ◌*◌, ◌-◌, ◌≤◌, ◌<◌, min}
 use mathlib.Core.Path.{◌≡◌, refl, ap, ap₂, sym, subst, ◌∙◌}
 use mathlib.Core.Logic.{◌≢◌, ◌⊎◌}
-use mathlib.Core.Bool.{Bool, true, false, cond, not, ◌||◌}
+use mathlib.Core.Bool.{Bool, false, cond, ◌||◌}
 use mathlib.Core.List.{List, [], ◌∷◌, ◌++◌, append-nil}
 use native.Mathlib.Omega.{arith}
 use native.Mathlib.Decide.{ℕ_discrete, dec_le}
 use borrow.Author.Tests.{eq-eqb, ne_eqb, eqb-true, not-false}
-use lib.Dec.{eqb, ltb}
+use lib.Dec.{eqb}
 use lib.ListN.{length, take, length-append}
 use lib.Seq.{take_all}
-use Rattle.cells.specs.Entry.{block_bytes, entry_bytes, Entry}
+use Rattle.cells.specs.Entry.{entry_bytes, Entry}
 use Rattle.crash.specs.Laid.{Laid}
-use Rattle.card.specs.Card.{Card, Order, write, flush, queue, settle, run, block_at, blocks_in}
+use Rattle.card.specs.Card.{Card, Order, write, flush, queue, settle, run, block_at}
 use Rattle.card.specs.Marks.{whole_block, marks_fit}
 use Rattle.card.proofs.All.{All, all_append, all_map}
-use Rattle.card.proofs.MarkLaws.{HeaderLast}
-use Rattle.card.proofs.Runs.{Whole, NarrowAddress, settle-append, length-settle, run-append, run-power, run_lengths, run_dead, writes_settled, writes_count, writes_queue, queue_below, below_queue}
+use Rattle.card.proofs.Runs.{Whole, NarrowAddress, settle-append, length-settle, run-append, run-power, run_lengths, run_dead, writes_settled, writes_count, writes_queue, queue_below}
 use Rattle.journal.specs.Geometry.{Geometry}
-use Rattle.journal.specs.Layout.{is_data}
 use Rattle.journal.specs.Log.{entries}
 use Rattle.journal.proofs.Logs.{neither}
-use Rattle.crash.proofs.Batches.{Left, Room, queued_short, queued_done}
+use Rattle.crash.proofs.Batches.{Left, queued_done}
 use Rattle.crash.proofs.CallCuts.{still_cuts}
 use Rattle.crash.proofs.Cards.{Every, WholeCard}
 use Rattle.crash.proofs.Frames.{Besides}
 use Rattle.crash.proofs.Leads.{Behind, none_behind}
 use Rattle.crash.proofs.Logs.{log_d, entries_disk, data_below}
-use Rattle.crash.proofs.Waiting.{leads_sub, settled_log, drawn_card}
+use Rattle.crash.proofs.Waiting.{leads_sub, drawn_card}
 use Rattle.store.specs.Request as Request
-use Rattle.store.specs.State.{State, Outcome, open_mode, down, with_mode, with_record, with_card, card_in}
+use Rattle.store.specs.State.{State, Outcome, down, with_mode, with_record, with_card, card_in}
 use Rattle.journal.specs.Lookup.{last_slot}
 use Rattle.store.specs.Lists.{open_from, group_from, find}
 use Rattle.store.specs.Causes.{is_found, cause}
@@ -37,15 +35,15 @@ use Rattle.store.specs.Saves.{carried}
 use Rattle.store.specs.Direct.{direct_write, direct_orders}
 use Rattle.store.proofs.Causes.{SizeFacts, sizes_facts}
 use Rattle.history.specs.Call.{get, direct}
-use Rattle.history.specs.Plain.{Plain, Short, of_direct, among, addresses, flushes, unchanged, Done, done, refusal, plain_step, plain_direct, direct_takes, direct_waits, cut_short, drawn, written, with_s, with_waiting, with_writes, with_power, in_mode, with_short}
+use Rattle.history.specs.Plain.{Plain, of_direct, among, addresses, flushes, unchanged, Done, done, refusal, plain_step, plain_direct, direct_takes, direct_waits, cut_short, drawn, written, with_s, with_waiting, with_writes, with_power}
 use Rattle.history.specs.Dispatch.{called, dispatch}
-use Rattle.history.specs.Ledger.{entered, nothing, resolved}
+use Rattle.history.specs.Ledger.{entered, resolved}
 use Rattle.history.specs.History.{World, ledger_next, fed}
 use Rattle.history.proofs.Relation.Lists.{Data, slot_among, firm_besides, addresses-append, addresses-take, waits_besides}
 use Rattle.history.proofs.Relation.CauseLaws.{RecordFacts, facts_sizes, record_facts, facts_record, cause_passes}
 use Rattle.history.proofs.Relation.OpenFacts as Facts
 use Rattle.history.proofs.Relation.PlainLaws.{plain_eq, direct-done, direct_short, choose_direct, header_direct}
-use Rattle.history.proofs.Relation.Sim.{Basics, Firm, Waits, flushed_bytes, OpenSim, Sim, cut_loose, CutLeads, chosen_by, chosen-still}
+use Rattle.history.proofs.Relation.Sim.{Basics, Firm, Waits, flushed_bytes, OpenSim, Sim, cut_loose, chosen_by, chosen-still}
 use Rattle.history.proofs.Steps.CallEnds.{carried-done, carried-short}
 use Rattle.history.proofs.Steps.Ends.{sizes_kept, waiting-left}
 use Rattle.history.proofs.Steps.Shown.{WorldSim, StepOK, sim_step, sim_at, same-cause, plain_served}

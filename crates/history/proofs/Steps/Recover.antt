@@ -39,7 +39,7 @@ use Rattle.store.proofs.Causes.{Passes}
 use Rattle.history.specs.Call.{get, recover}
 use Rattle.history.specs.Plain.{Plain, of_recover, among, addresses, flushes, refusal, plain_step, taking, plain_recover, plain_get, header_kept, unchanged}
 use Rattle.history.specs.Dispatch.{called, dispatch}
-use Rattle.history.specs.Ledger.{Ledger, waits, recover_headers, noted, entered, taken, resolved, waits_behind}
+use Rattle.history.specs.Ledger.{Ledger, recover_headers, noted, entered, taken, resolved, waits_behind}
 use Rattle.history.specs.History.{World, fed}
 use Rattle.history.proofs.Relation.CauseLaws.{RecordFacts, record_facts, cause_passes}
 use Rattle.crash.proofs.Plans.{Plan, planned, takes, settles, rest, FitsBehind, length-planned, Asked, Throughout, for_one}

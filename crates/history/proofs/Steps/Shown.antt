@@ -33,7 +33,7 @@ use Rattle.store.specs.Causes.{cause}
 use Rattle.store.specs.Outcomes.{refused}
 use Rattle.store.proofs.Causes.{sizes_facts}
 use Rattle.history.specs.Call.{Call, request_of, local, direct, save, cut, get}
-use Rattle.history.specs.Plain.{Plain, Short, none, addresses, header_waits, plain_fit, Fed, Done, refusal, served, plain_step, plain_get}
+use Rattle.history.specs.Plain.{Plain, Short, none, header_waits, plain_fit, Fed, Done, refusal, served, plain_step, plain_get}
 use Rattle.store.specs.Get.{block_of}
 use Rattle.history.specs.Dispatch.{dispatch}
 use Rattle.history.specs.Ledger.{Ledger, PlannedHeader, headers_of, noted, entered}

@@ -42,7 +42,7 @@ use Rattle.history.specs.Call.{get, sync}
 use Rattle.history.specs.Plain as Plain
 use Rattle.history.specs.Plain.{Plain, of_sync, addresses, flushes, header_waits, refusal, plain_step, plain_sync, sync_takes, sync_waits, own_verdict, unchanged}
 use Rattle.history.specs.Dispatch.{called, dispatch}
-use Rattle.history.specs.Ledger.{Ledger, PlannedHeader, waits, sync_headers, noted, entered, own_header, standing, inner, waiting_met, resolved, same_log, waits_behind}
+use Rattle.history.specs.Ledger.{Ledger, PlannedHeader, sync_headers, noted, entered, own_header, standing, inner, waiting_met, resolved, same_log, waits_behind}
 use Rattle.history.specs.History.{World, ledger_next, fed}
 use Rattle.history.specs.Statements.{Logged}
 use Rattle.crash.proofs.Plans.{Plan, planned, takes, settles, FitsBehind, Asked, Throughout, takes-append, settles-append, throughout_append, throughout_all}

@@ -1,5 +1,5 @@
 -- What the append of a sync meets: the state itself; or what the apply inside left.
-use Prim.Native.Nat.{ℕ, ◌+◌, ◌-◌, ◌^◌, ◌≤◌, ◌<◌}
+use Prim.Native.Nat.{ℕ, ◌+◌, ◌^◌, ◌≤◌, ◌<◌}
 use mathlib.Core.Path.{◌≡◌, refl, ap, ap₂, sym, ◌∙◌}
 use mathlib.Core.Logic.{◌≢◌}
 use mathlib.Core.Bool.{Bool, true, false, cond}
@@ -25,7 +25,6 @@ use Rattle.crash.proofs.Frames.{Besides}
 use Rattle.crash.proofs.Leads.{Behind, none_behind}
 use Rattle.store.specs.State.{State, with_log, card_in}
 use Rattle.store.specs.Saves.{group_of, applies, met_by_append}
-use Rattle.history.specs.Plain as Plain
 use Rattle.history.specs.Plain.{Plain, of_sync, addresses, flushes, sync_waits, apply_waits, apply_verdict, header_kept}
 use Rattle.history.specs.Ledger.{PlannedHeader, sync_headers, noted, apply_header, own_header, standing, inner, waiting_met}
 use Rattle.history.specs.History.{World}

@@ -21,7 +21,6 @@ use Rattle.journal.specs.Layout.{is_data}
 use Rattle.journal.specs.Log.{entries}
 use Rattle.crash.proofs.Batches.{no_queue}
 use Rattle.crash.proofs.Logs.{entries_disk, data_below}
-use Rattle.store.specs.Local as Local
 use Rattle.store.specs.Local.{Local}
 use Rattle.store.specs.Request as Request
 use Rattle.store.specs.State.{State, open_mode, down, with_mode, card_in}

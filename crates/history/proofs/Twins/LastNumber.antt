@@ -16,9 +16,7 @@ use Rattle.journal.specs.declared.lookup.Found.{Found}
 use Rattle.journal.specs.declared.lookup.Found.TheVariants.{At, Absent}
 use Rattle.journal.specs.Header.{most_save}
 use Rattle.store.specs.declared.record.Record.{Record}
-use Rattle.store.specs.Local as Local
 use Rattle.store.specs.Local.{Local}
-use Rattle.store.specs.Save as Save
 use Rattle.store.specs.Save.{Save}
 use Rattle.store.specs.Request as Request
 use Rattle.store.specs.State.{State, Outcome, closed, open_mode, down, with_mode, with_log}

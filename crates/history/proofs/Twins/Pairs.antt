@@ -18,7 +18,6 @@ use Rattle.journal.specs.Geometry.{Geometry}
 use Rattle.journal.specs.Layout.{is_data}
 use Rattle.journal.specs.Header.{most_save}
 use Rattle.journal.specs.Log.{entries}
-use Rattle.store.specs.Save as Save
 use Rattle.store.specs.Save.{Save}
 use Rattle.store.specs.Request as Request
 use Rattle.store.specs.State.{State, Outcome, closed, open_mode, card_in}

@@ -23,7 +23,7 @@ use Rattle.inspect.specs.Reading.{inspection, chosen_count, laid_over}
 use Rattle.inspect.specs.Alike.{alike_of}
 use Rattle.inspect.proofs.Readings.{right-chosen}
 use Rattle.inspect.proofs.Comparisons.{alike_yes}
-use Rattle.history.specs.Call.{Call, save, power, recover}
+use Rattle.history.specs.Call.{Call, power, recover}
 use Rattle.history.specs.Plain.{refusal, plain_step}
 use Rattle.history.specs.Dispatch.{dispatch}
 use Rattle.history.specs.Ledger.{settled_by, entered}

@@ -24,7 +24,6 @@ use Rattle.store.specs.Causes.{wrong_sizes, cause}
 use Rattle.store.specs.Outcomes.{completed}
 use Rattle.store.specs.Power.{powered}
 use Rattle.store.specs.Get.{block_of}
-use Rattle.store.specs.Save as Save
 use Rattle.store.specs.Save.{Save}
 use Rattle.store.specs.Saves.{save_orders}
 use Rattle.store.specs.Cost.{figures, no_figures, cost_of}
@@ -34,7 +33,7 @@ use Rattle.inspect.specs.Reading.{inspection, chosen_count, laid_over}
 use Rattle.journal.proofs.Logs.{neither}
 use Rattle.inspect.proofs.Readings.{right-chosen}
 use Rattle.inspect.proofs.Comparisons.{alike_yes}
-use Rattle.history.specs.Call.{Call, save, power, get, recover}
+use Rattle.history.specs.Call.{Call, save, power, get}
 use Rattle.history.specs.Plain.{plain_get, plain_listing}
 use Rattle.history.specs.Dispatch.{called, dispatch}
 use Rattle.history.specs.History.{World}

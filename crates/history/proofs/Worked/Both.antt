@@ -17,7 +17,7 @@ use Rattle.store.specs.State.{State}
 use Rattle.store.specs.Outcomes.{refused}
 use Rattle.store.specs.Format.{format_call}
 use Rattle.history.specs.Call.{power, put, commit, sync, apply, cut}
-use Rattle.history.specs.Plain.{blank, fresh, blank_plain, still}
+use Rattle.history.specs.Plain.{fresh, blank_plain, still}
 use Rattle.history.specs.Dispatch.{dispatch}
 use Rattle.history.specs.History.{World, begun, next, after, accepted_cut, exception}
 use Rattle.history.specs.Statements as S
@@ -26,7 +26,7 @@ use Rattle.history.specs.Linked.{AllPassable}
 use Rattle.history.specs.Worked.{halted, cut101, cut111, cut_half, cut_fifth, cut_header, met_by_cut, met_by_recover, sevens, nines, at40, filed, crashed, answers, Script, Worked}
 use Rattle.history.proofs.Steps.ListInduction.{begun_sim, begun-blank}
 use Rattle.history.proofs.Atomicity.Splits.{found_counted}
-use Rattle.history.proofs.Worked.TornMarks.{header-half, all-half, halved, header-fifth, all-fifth}
+use Rattle.history.proofs.Worked.TornMarks.{header-half, all-half, header-fifth, all-fifth}
 use Rattle.history.proofs.Worked.Plain.{open_at, plain_put, plain_commit, plain_filed, plain_applied, header_101, header_111, Went, went}
 use Rattle.history.proofs.Worked.Sync.{filed-log, filed-next, filed_slot}
 use Rattle.history.proofs.Worked.Second.{put_settled, commit_settled, length-sevens, zeros, old, Filed, Cuts, lost_cuts, lost-falls, halved_cuts, all_111, whole_cuts, fifth_cuts, header_refused, accepted, t₆, t₇, block, number, all_clean, none_done, fated, later_lines}

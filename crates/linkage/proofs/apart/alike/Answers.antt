@@ -1,0 +1,5 @@
+-- `linkage::apart::alike` meets its contract: that of the C function.
+use Rattle.linkage.proofs.apart.alike.Goals as goal
+
+pub returns : goal.returns
+returns c = c.trapcard_alike.ensures

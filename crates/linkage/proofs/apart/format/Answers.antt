@@ -1,0 +1,5 @@
+-- `linkage::apart::format` meets its contract: that of the C function.
+use Rattle.linkage.proofs.apart.format.Goals as goal
+
+pub returns : goal.returns
+returns c = c.trapcard_format.ensures

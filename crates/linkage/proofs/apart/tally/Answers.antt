@@ -1,0 +1,5 @@
+-- `linkage::apart::tally` meets its contract: that of the C function.
+use Rattle.linkage.proofs.apart.tally.Goals as goal
+
+pub returns : goal.returns
+returns c = c.trapcard_tally.ensures
