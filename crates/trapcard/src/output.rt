@@ -1,7 +1,8 @@
 // Output. The contracts of std's calls say nothing of the descriptor or of the bytes: `send` is the one place where they are
 // handed over, and says by its result which.
-ghost use Rattle.std.specs.Prelude.{◌≡◌, ◌≤◌, is_ok};
+ghost use Rattle.std.specs.Prelude.{◌≡◌, ◌≤◌, is_ok, OnOk};
 ghost use Rattle.script.specs.Steps.{printed_bytes};
+ghost use Rattle.trapcard.specs.Turns.{output};
 
 use script::PRINTED;
 use std::io;
@@ -35,7 +36,9 @@ pub(crate) fn send(rt: &impl Print, to: i32, printed: &[u8; PRINTED], count: usi
 }
 
 // The runtime writes to standard output alone: at another descriptor nothing is written, and that is an error.
-fn write_all(rt: &impl Print, to: i32, bytes: &[u8]) -> io::Result<()> {
+fn write_all(rt: &impl Print, to: i32, bytes: &[u8]) -> io::Result<()>
+    ensures { OnOk result (to ≡ output) }
+{
     if to != STDOUT_FILENO {
         return Err(io::Error::from(io::ErrorKind::Unsupported));
     }

@@ -1,5 +1,5 @@
 // A turn: one read, the bytes fed, and one write of what they print.
-ghost use Rattle.std.specs.Prelude.{◌≡◌, ◌+◌, ◌<◌, ◌↔◌, take, is_ok, IfErr, IsTrue};
+ghost use Rattle.std.specs.Prelude.{◌≡◌, ◌+◌, ◌<◌, ◌↔◌, take, is_ok, IfErr, OnOk, IsTrue};
 ghost use Rattle.std.specs.Io.{ReadsAtMost};
 ghost use Rattle.std.specs.IoError.{error_kind};
 ghost use Rattle.io.specs.Counts.{clamp_len};
@@ -67,7 +67,8 @@ fn receive(rt: &impl Input, from: i32, bytes: &mut [u8; FED]) -> Received
 
 // The runtime reads standard input alone: from another descriptor nothing is read, and that is an error.
 fn read(rt: &impl Input, from: i32, bytes: &mut [u8]) -> io::Result<usize>
-    ensures { ReadsAtMost result bytes.new }
+    ensures bound { ReadsAtMost result bytes.new }
+    ensures place { OnOk result (from ≡ input) }
 {
     if from != STDIN_FILENO {
         return Err(io::Error::from(ErrorKind::Unsupported));

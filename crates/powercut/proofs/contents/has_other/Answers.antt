@@ -1,13 +1,11 @@
 -- `powercut::contents::has_other` meets its contract.
-use Prim.Native.Nat.{ℕ, ◌-◌, ◌≤◌}
+use Prim.Native.Nat.{ℕ}
 use mathlib.Core.Path.{◌≡◌, refl, sym, ap, ◌∙◌}
 use mathlib.Core.Bool.{Bool, true, false, not, ◌||◌}
 use native.Mathlib.Omega.{arith}
-use borrow.Author.Rules.{rules}
 use Rattle.journal.specs.Geometry.{trap}
 use Rattle.store.specs.State.{State}
 use Rattle.store.specs.CodeState.{state_of}
-use Rattle.store.specs.Causes.{some}
 use Rattle.store.proofs.Causes.{search_hit, search_on, search_over}
 use Rattle.powercut.specs.Contents.{age_of, holds, is_other, data_blocks}
 use Rattle.powercut.proofs.contents.has_other.Goals as goal

@@ -1,15 +1,9 @@
 -- `powercut::contents::has_other` meets its contract.
-use Prim.Native.Nat.{ℕ, ◌-◌, ◌≤◌}
-use mathlib.Core.Path.{◌≡◌, refl, sym, ap, ◌∙◌}
-use mathlib.Core.Bool.{Bool, true, false, not, ◌||◌}
-use native.Mathlib.Omega.{arith}
-use borrow.Author.Rules.{rules}
-use Rattle.journal.specs.Geometry.{trap}
-use Rattle.store.specs.State.{State}
+use Prim.Native.Nat.{◌≤◌}
+use mathlib.Core.Path.{◌≡◌}
 use Rattle.store.specs.CodeState.{state_of}
 use Rattle.store.specs.Causes.{some}
-use Rattle.store.proofs.Causes.{search_hit, search_on, search_over}
-use Rattle.powercut.specs.Contents.{age_of, holds, is_other, data_blocks}
+use Rattle.powercut.specs.Contents.{is_other, data_blocks}
 use Rattle.powercut.proofs.contents.has_other.Given as goal
 
 abbrev pub invariant-loop-i : goal.invariant-loop-i

@@ -1,6 +1,5 @@
 -- `powercut::contents::has_spoilt` meets its contract.
 use mathlib.Core.Path.{◌≡◌, ap, ◌∙◌}
-use borrow.Author.Rules.{rules}
 use Rattle.cells.specs.Part.{View}
 use Rattle.journal.specs.Geometry.{trap}
 use Rattle.store.specs.CodeState.{state_of}

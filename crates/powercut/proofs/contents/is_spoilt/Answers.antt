@@ -1,16 +1,13 @@
 -- `powercut::contents::is_spoilt` meets its contract.
-use Prim.Native.Nat.{ℕ, ◌-◌, ◌≤◌}
+use Prim.Native.Nat.{◌-◌}
 use mathlib.Core.Path.{◌≡◌, refl, sym, ap, ◌∙◌}
-use mathlib.Core.Bool.{Bool, true, false, not}
-use mathlib.Core.List.{List}
+use mathlib.Core.Bool.{true, false, not}
 use native.Mathlib.Omega.{arith}
-use borrow.Author.Rules.{rules}
 use borrow.Author.Tests.{eq-eqb, ne_eqb}
 use lib.Dec.{eqb}
-use lib.ListN.{length, get_or}
-use Rattle.store.specs.Causes.{some}
+use lib.ListN.{length}
 use Rattle.store.proofs.Causes.{search_hit, search_on, search_over}
-use Rattle.powercut.specs.Contents.{is_either, is_spoilt}
+use Rattle.powercut.specs.Contents.{is_spoilt}
 use Rattle.powercut.proofs.contents.is_spoilt.Invariants.{neither}
 use Rattle.powercut.proofs.contents.is_spoilt.Goals as goal
 

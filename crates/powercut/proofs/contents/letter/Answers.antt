@@ -1,8 +1,6 @@
 -- `powercut::contents::letter` meets its contract.
 use mathlib.Core.Path.{sym, ◌∙◌}
-use borrow.Author.Tests.{not-true, not-false}
 use Rattle.powercut.specs.Contents.{letter_of}
-use borrow.Author.Rules.{rules}
 use Rattle.powercut.proofs.contents.letter.Goals as goal
 
 pub returns-then-not-has_other : goal.returns-then-not-has_other

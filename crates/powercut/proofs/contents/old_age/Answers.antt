@@ -3,7 +3,6 @@ use native.Mathlib.Omega.{arith}
 use borrow.Author.Tests.{lt-ltb, le-ltb}
 use Rattle.journal.specs.Geometry.{trap}
 use Rattle.powercut.specs.Contents.{old_age}
-use borrow.Author.Rules.{rules}
 use Rattle.powercut.proofs.contents.old_age.Goals as goal
 
 pub returns-then-address-saves : goal.returns-then-address-saves

@@ -1,7 +1,5 @@
 -- `powercut::map::map` is safe and ends.
 use Prim.Native.Nat.{◌+◌, ◌-◌, ◌≤◌}
-use native.Mathlib.Omega.{arith}
-use borrow.Author.Rules.{rules}
 use Rattle.powercut.proofs.map.map.Given as goal
 
 abbrev pub invariant-loop-orders : goal.invariant-loop-orders

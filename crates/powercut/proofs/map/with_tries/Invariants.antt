@@ -1,7 +1,5 @@
 -- `powercut::map::with_tries` is safe and ends.
 use Prim.Native.Nat.{◌-◌, ◌≤◌}
-use native.Mathlib.Omega.{arith}
-use borrow.Author.Rules.{rules}
 use Rattle.powercut.proofs.map.with_tries.Given as goal
 
 abbrev pub invariant-loop-attempt : goal.invariant-loop-attempt

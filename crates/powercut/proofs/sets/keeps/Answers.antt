@@ -1,5 +1,4 @@
 -- `powercut::sets::keeps` meets its contract.
-use borrow.Author.Rules.{rules}
 use borrow.Author.Tests.{le-leb, lt-leb}
 use Rattle.powercut.specs.Sets as Sets
 use Rattle.powercut.proofs.sets.keeps.Goals as goal

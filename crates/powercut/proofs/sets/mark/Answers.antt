@@ -1,6 +1,5 @@
 -- `powercut::sets::mark` meets its contract.
 use mathlib.Core.Path.{sym, ◌∙◌}
-use borrow.Author.Rules.{rules}
 use Rattle.powercut.specs.Sets as Sets
 use Rattle.powercut.proofs.sets.mark.Goals as goal
 

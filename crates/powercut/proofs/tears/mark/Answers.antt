@@ -2,8 +2,6 @@
 use Prim.Native.Nat.{◌%◌}
 use mathlib.Core.Path.{◌≡◌, sym, ◌∙◌}
 use mathlib.Core.Bool.{true, false}
-use borrow.Author.Tests.{not-true, not-false}
-use borrow.Author.Rules.{rules}
 use Rattle.powercut.specs.Tears as Tears
 use Rattle.powercut.proofs.tears.mark.Goals as goal
 

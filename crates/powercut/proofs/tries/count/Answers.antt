@@ -1,7 +1,6 @@
 -- `powercut::tries::count` meets its contract.
 use Prim.Native.Nat.{ℕ, ◌+◌}
 use mathlib.Core.Path.{ap₂}
-use borrow.Author.Rules.{rules}
 use Rattle.powercut.specs.Tries.{try_count}
 use Rattle.powercut.proofs.tries.count.Goals as goal
 

@@ -1,15 +1,9 @@
 -- `powercut::tries::marks` meets its contract. The invariant: the first x bytes are the marks of the first x bytes of the writes.
-use Prim.Native.Nat.{ℕ, ◌+◌, ◌*◌, ◌-◌, ◌/◌, ◌%◌, ◌≤◌, ◌<◌}
-use mathlib.Core.Path.{◌≡◌, refl, sym, ◌∙◌}
-use mathlib.Core.List.{List}
-use native.Mathlib.Numerals.{add-one}
-use native.Mathlib.Omega.{arith}
-use borrow.Author.Rules.{rules}
-use lib.ListN.{length, take, set, length-set}
-use lib.Seq.{take-suc-set}
+use Prim.Native.Nat.{◌*◌, ◌-◌, ◌/◌, ◌%◌, ◌≤◌}
+use mathlib.Core.Path.{◌≡◌}
+use lib.ListN.{length, take}
 use Rattle.cells.specs.Upto.{up_to}
 use Rattle.powercut.specs.Tries.{try_mark}
-use Rattle.powercut.proofs.TryBytes.{try_bytes}
 use Rattle.powercut.proofs.tries.marks.Given as goal
 
 abbrev pub invariant-loop-x : goal.invariant-loop-x
