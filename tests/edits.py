@@ -51,6 +51,7 @@ from reach import Reach, trouble
 
 FACTS = [
     r"(computed as far as they go|as printed), the two (types|values|sides) ",
+    r"computed as a goal is, one side reads `(.|\n)* but this has type ",
     r"expected type (.|\n)* but this has type ",
     r"`.*`\n  ≟ `.*`\n  does not hold ",
     r"`omega`: the (goal|part `[^`]*` of the goal) does not follow from what it read\. "
