@@ -4,7 +4,7 @@
 usage: python3 tools/port_edits.py OLD TABLE [--write] [--show] [CRATE...]
            OLD: the last commit in the old spelling; TABLE: own names, old<TAB>new
        python3 tools/port_edits.py --fit [CRATE...]         does each pair fit the working tree, and is each expected file there?
-       python3 tools/port_edits.py --expect [CRATE...]      brings the `expect:` lines alone up to the proof files that there are
+       python3 tools/port_edits.py --expect [CRATE...]      the same, and brings the `expect:` lines up to today's proof files
 
 Each pair of an edit is applied to its file as it stood at OLD, the lines that it changes are spelled anew, and the line that this gives is looked for in the
 file of today. What could not be placed so is printed, for a hand to do.
@@ -402,18 +402,14 @@ def port(crate, edit, change, said):
 
 
 def expected(crate, path):
-    """The file in which the error has to show: the answers of a function, or its source where it needs no proof file."""
-    if not re.fullmatch(r"proofs/.+/(Proof|Answers|Invariants)\.antt", path) or path.endswith("/Invariants.antt") and (crate / path).exists():
-        return path
-    folder = path.rpartition("/")[0]
-    if (crate / folder / "Answers.antt").exists() or (crate / folder / "Proof.antt").exists():
-        return folder + "/Answers.antt"
-    if (crate / folder / "Invariants.antt").exists():
-        return folder + "/Invariants.antt"
-    *module, function = folder.split("/")[1:]
-    found = [f for f in sorted((crate / "src").rglob("*.rt")) if re.search(rf"\bfn {function}\b", f.read_text())]
-    best = [f for f in found if f.stem in module] or found
-    return str(best[0].relative_to(crate)) if best else path
+    """The file in which the error has to show: the answers of a function, also where it needs none as it stands."""
+    return re.sub(r"/Proof\.antt$", "/Answers.antt", path)
+
+
+def stands(crate, path):
+    """Whether there is such a file, or such a function."""
+    function = re.fullmatch(r"proofs/(?:.+/)?(\w+)/(Answers|Invariants)\.antt", path)
+    return (crate / path).exists() or bool(function) and any(re.search(rf"\bfn {function[1]}\b", f.read_text()) for f in (crate / "src").rglob("*.rt"))
 
 
 def fit(crates):
@@ -440,8 +436,7 @@ def fit(crates):
                             print(f"{edit}: {change['label'].split(':')[0]}: {how}: {texts[file].count(old)} times in {file}: {old}")
                         texts[file] = texts[file].replace(old, new)
                 for e in change["expect"]:
-                    e = e.replace("/Answers.antt", "/Proof.antt") if not (crate / e).exists() else e
-                    if not (crate / e).exists():
+                    if not stands(crate, e):
                         wrong += 1
                         print(f"{edit}: {change['label'].split(':')[0]}: no file {e}")
     print(f"{files} edits, {labels} wrong changes, {pairs} pairs; {wrong} that do not fit")
