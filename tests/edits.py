@@ -240,7 +240,8 @@ def log_of(crate, edit, texts, rooms):
         log = room.log(crate, texts)
     finally:
         rooms.put(room)
-    if "\nlogic=proved" in log or "\nlogic=not-proved" not in log:
+    # in a new room rt first proves what stands below, and says so
+    if re.findall(r"^logic=(\S+)", log, re.M)[-1:] != ["not-proved"]:
         raise Wrong(f"{edit}: the check with it does not end in logic=not-proved\n    " + "\n    ".join(log.splitlines()[-5:]))
     kept.parent.mkdir(parents=True, exist_ok=True)
     kept.write_text(f"{own}\n{log}")
