@@ -12,7 +12,7 @@ WIDE, HIGH, PICTURE = 150, 46, (985, 704)
 
 # Name: middle, top, colour, what it holds.
 CRATES = {
-    "linkage": (120, 70, TIE, "calls through C alone"),
+    "linkage": (120, 70, TIE, "calls what C calls alone"),
     "history": (120, 160, THEORY, "histories, theorems"),
     "crash": (120, 340, THEORY, "what a cut leaves"),
     "firmware_c": (340, 160, CODE, "the C library"),

@@ -53,7 +53,7 @@ FACTS = [
     r"(computed as far as they go|as printed), the two (types|values|sides) ",
     r"computed as a goal is, one side reads `(.|\n)* but this has type ",
     r"expected type (.|\n)* but this has type ",
-    r"`.*`\n  ≟ `.*`\n  does not hold ",
+    r"`.*`(\n  | )≟ `.*`:?(\n  | )does not hold ",
     r"`omega`: the (goal|part `[^`]*` of the goal) does not follow from what it read\. "
     r"All of that holds, and the (goal|part) fails, at ",
     r"`search`: no proof of `[^`]*`(\n  | )was found",

@@ -1,3 +1,3 @@
--- The proof that calls through the C functions are the store's.
+-- The proof that calls through the functions for C are the store's.
 pub mod Steps
 pub mod Linkage

@@ -1,4 +1,4 @@
--- Every call of every list through the C functions is the store's: by `linked`.
+-- Every call of every list through the functions for C is the store's: by `linked`.
 use Rattle.firmware.specs.Face.{face_of}
 use Rattle.history.specs.Call.{commit}
 use Rattle.history.proofs.Theorems.{linked}

@@ -1,4 +1,4 @@
--- What a C function promises is its call's row of `stepped`.
+-- What a function for C promises is its call's row of `stepped`.
 use Prim.Native.Nat.{ℕ}
 use mathlib.Core.Path.{◌≡◌, ap}
 use mathlib.Core.List.{List}

@@ -1,4 +1,4 @@
--- Every call of every list through the C functions is the store's call.
+-- Every call of every list through the functions for C is the store's call.
 use Rattle.std.specs.Prelude.{ℕ, ◌≡◌, List}
 use Rattle.store.specs.State.{State}
 use Rattle.store.specs.CodeState.{state_of}

@@ -5,7 +5,7 @@ ghost use Rattle.linkage.specs.Step.{save_of, asked_on};
 
 use firmware::costs::{trapcard_apply_cost, trapcard_recover_cost, trapcard_sync_cost};
 
-// The inquiries, by the C function of each.
+// The inquiries, by the function for C of each.
 #[derive(Clone, Copy)]
 pub enum Inquiry {
     SyncCost,

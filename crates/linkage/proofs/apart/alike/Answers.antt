@@ -1,4 +1,4 @@
--- `linkage::apart::alike` meets its contract: that of the C function.
+-- `linkage::apart::alike` meets its contract: that of the function for C.
 use Rattle.linkage.proofs.apart.alike.Goals as goal
 
 pub returns : goal.returns

@@ -1,4 +1,4 @@
--- `linkage::apart::format` meets its contract: that of the C function.
+-- `linkage::apart::format` meets its contract: that of the function for C.
 use Rattle.linkage.proofs.apart.format.Goals as goal
 
 pub returns : goal.returns

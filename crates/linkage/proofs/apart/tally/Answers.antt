@@ -1,4 +1,4 @@
--- `linkage::apart::tally` meets its contract: that of the C function.
+-- `linkage::apart::tally` meets its contract: that of the function for C.
 use Rattle.linkage.proofs.apart.tally.Goals as goal
 
 pub returns : goal.returns

@@ -1,4 +1,4 @@
--- `linkage::ask::ask` meets its contract: each inquiry's promise is that of its C function. A goal that is not named is closed by search.
+-- `linkage::ask::ask` meets its contract: each inquiry's promise is that of its function for C. A goal that is not named is closed by search.
 use Rattle.linkage.proofs.ask.ask.Goals as goal
 
 pub returns-in-SyncCost : goal.returns-in-SyncCost

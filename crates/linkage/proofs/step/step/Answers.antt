@@ -1,4 +1,4 @@
--- `linkage::step::step` meets its contract: each call's promise is that of its C function. A goal that is not named is closed by search.
+-- `linkage::step::step` meets its contract: each call's promise is that of its function for C. A goal that is not named is closed by search.
 use Rattle.store.specs.Power.{power_call}
 use Rattle.store.specs.Put.{put_call}
 use Rattle.store.specs.Commit.{commit_call}

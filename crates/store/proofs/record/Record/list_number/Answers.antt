@@ -22,18 +22,18 @@ returns-then-number-ne0 c =
     let given : State = state_of c.args.self c.args.settled.now c.args.waiting.now c.args.work.now in
     let request : Request = get_list c.args.list.now c.args.blocks.now in
     let table_of : cause trap (request) (given) ≡ cond (eqb c.not_open-number.result 0) (first (own_rows trap (request)) (given)) c.not_open-number.result = cause_4 trap (given) c.not_open-number.result (own_rows trap (request)) _ (rw (← c.wrong_list.ensures) c.if-wrong_list.false) c.not_open-number.ensures in
-    rw (table_of, ne_eqb _ _ c.if-number-ne0.true)
+    rw (table_of, ne_eqb c.not_open-number.result 0 c.if-number-ne0.true)
 
 pub returns-then-stray : goal.returns-then-stray
 returns-then-stray c =
     let given : State = state_of c.args.self c.args.settled.now c.args.waiting.now c.args.work.now in
     let request : Request = get_list c.args.list.now c.args.blocks.now in
     let table_of : cause trap (request) (given) ≡ cond (eqb c.not_open-number.result 0) (first (own_rows trap (request)) (given)) c.not_open-number.result = cause_4 trap (given) c.not_open-number.result (own_rows trap (request)) _ (rw (← c.wrong_list.ensures) c.if-wrong_list.false) c.not_open-number.ensures in
-    rw (table_of, eq-eqb _ _ c.if-number-ne0.false, ← c.stray.ensures, c.if-stray.true)
+    rw (table_of, eq-eqb c.not_open-number.result 0 c.if-number-ne0.false, ← c.stray.ensures, c.if-stray.true)
 
 pub returns : goal.returns
 returns c =
     let given : State = state_of c.args.self c.args.settled.now c.args.waiting.now c.args.work.now in
     let request : Request = get_list c.args.list.now c.args.blocks.now in
     let table_of : cause trap (request) (given) ≡ cond (eqb c.not_open-number.result 0) (first (own_rows trap (request)) (given)) c.not_open-number.result = cause_4 trap (given) c.not_open-number.result (own_rows trap (request)) _ (rw (← c.wrong_list.ensures) c.if-wrong_list.false) c.not_open-number.ensures in
-    rw (table_of, eq-eqb _ _ c.if-number-ne0.false, ← c.stray.ensures, c.if-stray.false)
+    rw (table_of, eq-eqb c.not_open-number.result 0 c.if-number-ne0.false, ← c.stray.ensures, c.if-stray.false)

@@ -18,23 +18,23 @@ pub returns-then-earlier-ne0 : goal.returns-then-earlier-ne0
 returns-then-earlier-ne0 c =
     let given : State = state_of c.args.self c.args.settled.now c.args.waiting.now c.args.work.now in
     let table_of : cause_by trap (of_record false modes) (given) ≡ cond (eqb c.bad_record-earlier.result 0) (first modes (given)) c.bad_record-earlier.result = cause_2 trap (given) c.bad_record-earlier.result modes c.bad_record-earlier.ensures in
-    rw (table_of, ne_eqb _ _ c.if-earlier-ne0.true)
+    rw (table_of, ne_eqb c.bad_record-earlier.result 0 c.if-earlier-ne0.true)
 
 pub returns-then-self-eq-DOWN : goal.returns-then-self-eq-DOWN
 returns-then-self-eq-DOWN c =
     let given : State = state_of c.args.self c.args.settled.now c.args.waiting.now c.args.work.now in
     let table_of : cause_by trap (of_record false modes) (given) ≡ cond (eqb c.bad_record-earlier.result 0) (first modes (given)) c.bad_record-earlier.result = cause_2 trap (given) c.bad_record-earlier.result modes c.bad_record-earlier.ensures in
     let gone : (given).rec.mode ≡ down = c.if-self-eq-DOWN.true in
-    rw (table_of, eq-eqb _ _ c.if-earlier-ne0.false, eq-eqb _ _ gone)
+    rw (table_of, eq-eqb c.bad_record-earlier.result 0 c.if-earlier-ne0.false, eq-eqb _ _ gone)
 
 pub returns-then-self-eq-OPEN_MODE : goal.returns-then-self-eq-OPEN_MODE
 returns-then-self-eq-OPEN_MODE c =
     let given : State = state_of c.args.self c.args.settled.now c.args.waiting.now c.args.work.now in
     let table_of : cause_by trap (of_record false modes) (given) ≡ cond (eqb c.bad_record-earlier.result 0) (first modes (given)) c.bad_record-earlier.result = cause_2 trap (given) c.bad_record-earlier.result modes c.bad_record-earlier.ensures in
-    rw (table_of, eq-eqb _ _ c.if-earlier-ne0.false, ne_eqb _ _ c.if-self-eq-DOWN.false, eq-eqb _ _ c.if-self-eq-OPEN_MODE.true)
+    rw (table_of, eq-eqb c.bad_record-earlier.result 0 c.if-earlier-ne0.false, ne_eqb _ _ c.if-self-eq-DOWN.false, eq-eqb _ _ c.if-self-eq-OPEN_MODE.true)
 
 pub returns : goal.returns
 returns c =
     let given : State = state_of c.args.self c.args.settled.now c.args.waiting.now c.args.work.now in
     let table_of : cause_by trap (of_record false modes) (given) ≡ cond (eqb c.bad_record-earlier.result 0) (first modes (given)) c.bad_record-earlier.result = cause_2 trap (given) c.bad_record-earlier.result modes c.bad_record-earlier.ensures in
-    rw (table_of, eq-eqb _ _ c.if-earlier-ne0.false, ne_eqb _ _ c.if-self-eq-DOWN.false, ne_eqb _ _ c.if-self-eq-OPEN_MODE.false)
+    rw (table_of, eq-eqb c.bad_record-earlier.result 0 c.if-earlier-ne0.false, ne_eqb _ _ c.if-self-eq-DOWN.false, ne_eqb _ _ c.if-self-eq-OPEN_MODE.false)

@@ -19,22 +19,22 @@ pub returns-then-number-ne0 : goal.returns-then-number-ne0
 returns-then-number-ne0 c =
     let given : State = state_of c.args.self c.args.settled.now c.args.waiting.now c.args.work.now in
     let table_of : cause trap abandon (given) ≡ cond (eqb c.bad_record-number.result 0) (first modes (given)) c.bad_record-number.result = cause_2 trap (given) c.bad_record-number.result modes c.bad_record-number.ensures in
-    rw (table_of, ne_eqb _ _ c.if-number-ne0.true)
+    rw (table_of, ne_eqb c.bad_record-number.result 0 c.if-number-ne0.true)
 
 pub returns-then-self-eq-CLOSED : goal.returns-then-self-eq-CLOSED
 returns-then-self-eq-CLOSED c =
     let given : State = state_of c.args.self c.args.settled.now c.args.waiting.now c.args.work.now in
     let table_of : cause trap abandon (given) ≡ cond (eqb c.bad_record-number.result 0) (first modes (given)) c.bad_record-number.result = cause_2 trap (given) c.bad_record-number.result modes c.bad_record-number.ensures in
-    rw (table_of, eq-eqb _ _ c.if-number-ne0.false, eq-eqb _ _ c.if-self-eq-CLOSED.true)
+    rw (table_of, eq-eqb c.bad_record-number.result 0 c.if-number-ne0.false, eq-eqb _ _ c.if-self-eq-CLOSED.true)
 
 pub returns-then-self-eq-DOWN : goal.returns-then-self-eq-DOWN
 returns-then-self-eq-DOWN c =
     let given : State = state_of c.args.self c.args.settled.now c.args.waiting.now c.args.work.now in
     let table_of : cause trap abandon (given) ≡ cond (eqb c.bad_record-number.result 0) (first modes (given)) c.bad_record-number.result = cause_2 trap (given) c.bad_record-number.result modes c.bad_record-number.ensures in
-    rw (table_of, eq-eqb _ _ c.if-number-ne0.false, ne_eqb _ _ c.if-self-eq-CLOSED.false, eq-eqb _ _ c.if-self-eq-DOWN.true)
+    rw (table_of, eq-eqb c.bad_record-number.result 0 c.if-number-ne0.false, ne_eqb _ _ c.if-self-eq-CLOSED.false, eq-eqb _ _ c.if-self-eq-DOWN.true)
 
 pub returns : goal.returns
 returns c =
     let given : State = state_of c.args.self c.args.settled.now c.args.waiting.now c.args.work.now in
     let table_of : cause trap abandon (given) ≡ cond (eqb c.bad_record-number.result 0) (first modes (given)) c.bad_record-number.result = cause_2 trap (given) c.bad_record-number.result modes c.bad_record-number.ensures in
-    rw (table_of, eq-eqb _ _ c.if-number-ne0.false, ne_eqb _ _ c.if-self-eq-CLOSED.false, ne_eqb _ _ c.if-self-eq-DOWN.false)
+    rw (table_of, eq-eqb c.bad_record-number.result 0 c.if-number-ne0.false, ne_eqb _ _ c.if-self-eq-CLOSED.false, ne_eqb _ _ c.if-self-eq-DOWN.false)
