@@ -1,5 +1,6 @@
 -- The theorems about histories. Their types stand in specs/Statements.antt, specs/Refusals.antt, specs/Cuts.antt, specs/Formats.antt, specs/Costs.antt,
 -- specs/GetLists.antt, specs/Directs.antt, specs/AlikeCards.antt, specs/Dispatch.antt, specs/Linked.antt and specs/Scripts.antt.
+use Rattle.std.specs.Prelude.{Option, Some, None}
 use Prim.Native.Nat.{ℕ, ◌<◌}
 use mathlib.Core.Path.{◌≡◌, refl, ap, sym, ◌∙◌}
 use mathlib.Core.Logic.{◌≢◌, ◌⊎◌}
@@ -25,8 +26,6 @@ use Rattle.card.proofs.All.{up_to-all}
 use Rattle.journal.specs.Geometry.{Geometry}
 use Rattle.journal.specs.Layout.{is_data}
 use Rattle.journal.specs.Lookup.{last_slot}
-use Rattle.journal.specs.declared.lookup.Found.{Found}
-use Rattle.journal.specs.declared.lookup.Found.TheVariants.{At, Absent}
 use Rattle.store.proofs.Listings.{listing_number}
 use Rattle.journal.proofs.Choices.{fallback_number}
 use Rattle.history.specs.Call.{Call, request_of, recover, sync}
@@ -112,16 +111,16 @@ module _ (geo : Geometry) where
 
     -- the invariant that carries direct writes
     waits_apart : st.rec.mode ≡ open_mode → (i : ℕ) → i < st.rec.waiting
-        → (is_data geo st.rec.blocks (entry_at st.waiting i).address ≡ true) × (last_slot st.settled (entry_at st.waiting i).address st.rec.logged ≡ Absent)
+        → (is_data geo st.rec.blocks (entry_at st.waiting i).address ≡ true) × (last_slot st.settled (entry_at st.waiting i).address st.rec.logged ≡ None)
     unfolding queue
     waits_apart o i l = go s.sim.phase
       where
-        none : (f : Found) → is_found f ≡ false → f ≡ Absent
-        none (At k) e = absurd (true≢false e)
-        none Absent e = refl
+        none : (f : Option ℕ) → is_found f ≡ false → f ≡ None
+        none (Some k) e = absurd (true≢false e)
+        none None e = refl
 
         go : OpenSim geo st s.ledger s.plain ⊎ (ClosedSim geo st s.ledger s.plain ⊎ DownSim geo st s.ledger s.plain)
-            → (is_data geo st.rec.blocks (entry_at st.waiting i).address ≡ true) × (last_slot st.settled (entry_at st.waiting i).address st.rec.logged ≡ Absent)
+            → (is_data geo st.rec.blocks (entry_at st.waiting i).address ≡ true) × (last_slot st.settled (entry_at st.waiting i).address st.rec.logged ≡ None)
         go (◌⊎◌.inl p) =
             let w = up_to-all (Waits geo st) (entry_at st.waiting) st.rec.waiting p.waits i l in
             (w.0, none (last_slot st.settled (entry_at st.waiting i).address st.rec.logged) (slot_among geo st.settled (entry_at st.waiting i).address st.rec.logged ∙ w.1))

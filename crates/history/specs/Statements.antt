@@ -1,6 +1,6 @@
 -- What is promised of every list of calls, from what a format answering 0 left. Each statement is one type; its proof is the theorem
 -- of the same name in proofs/Theorems.antt.
-use Rattle.std.specs.Prelude.{ℕ, ◌+◌, ◌*◌, ◌≤◌, ◌<◌, ◌≡◌, ◌≢◌, ◌⊎◌, Bool, true, false, cond, not, ◌&&◌, ◌||◌, List, [], ◌∷◌, ◌++◌, eqb, length, get_or, take, drop}
+use Rattle.std.specs.Prelude.{ℕ, ◌+◌, ◌*◌, ◌≤◌, ◌<◌, ◌≡◌, ◌≢◌, ◌⊎◌, Bool, true, false, cond, not, ◌&&◌, ◌||◌, List, [], ◌∷◌, ◌++◌, eqb, length, get_or, take, drop, None}
 use Rattle.cells.specs.Entry.{block_bytes, Entry, entry_at}
 use Rattle.fnv.specs.Fnv.{start}
 use Rattle.card.specs.Disk.{Disk}
@@ -10,7 +10,6 @@ use Rattle.card.specs.Marks.{kept_at, all_kept}
 use Rattle.journal.specs.Geometry.{Geometry}
 use Rattle.journal.specs.Layout.{header_at, is_data}
 use Rattle.journal.specs.declared.choice.Choice.TheVariants.{Fallback}
-use Rattle.journal.specs.declared.lookup.Found.TheVariants.{Absent}
 use Rattle.journal.specs.Lookup.{last_slot}
 use Rattle.journal.specs.Header.{encode, header}
 use Rattle.journal.specs.Log.{header_of, entries, sum_of}
@@ -41,7 +40,7 @@ module _ (geo : Geometry) where
     pub never_nine : (dispatch geo recover st).answer ≢ 9
     -- W-209: when open, each waiting write goes to a data block that is not in the log
     pub apart : st.rec.mode ≡ open_mode → (i : ℕ) → i < st.rec.waiting
-        → (is_data geo st.rec.blocks (entry_at st.waiting i).address ≡ true) × (last_slot st.settled (entry_at st.waiting i).address st.rec.logged ≡ Absent)
+        → (is_data geo st.rec.blocks (entry_at st.waiting i).address ≡ true) × (last_slot st.settled (entry_at st.waiting i).address st.rec.logged ≡ None)
 
   abbrev pub Safety : Type 0
   Safety = (st : State) → (format_call geo st).answer ≡ 0 → (cs : List Call) → Sound (after geo cs (begun geo st)).store
@@ -52,7 +51,7 @@ module _ (geo : Geometry) where
 
   -- ---- Refinement (demand 2)
 
-  -- "At each call of a list the store gives the plain disk's answer, orders handed back […], block from a get and, when open, n". W-201:
+  -- "Some each call of a list the store gives the plain disk's answer, orders handed back […], block from a get and, when open, n". W-201:
   -- when open, the record's save number is the number of nonempty groups laid into S; it is "0 after a cut", until a recover is done
   pub record Agrees (c : Call) (w : World) : Type 0 where
     pub answer : (dispatch geo c w.store).answer ≡ (plain_step geo c (fed geo c w) w.plain).answer
@@ -367,7 +366,7 @@ module _ (geo : Geometry) where
     pub number : number_found geo (after geo cs (begun geo st)) ≡ (outcome end (after geo a (begun geo st)).plain.S).groups
     pub counted : number_found geo (after geo cs (begun geo st)) ≡ groups_laid geo cs (begun geo st) (known quiet)
 
-  -- At every place of every list at which a recover answers 0 with no exception at a cut before it; cs is the list before that place,
+  -- Some every place of every list at which a recover answers 0 with no exception at a cut before it; cs is the list before that place,
   -- and what follows plays no part
   abbrev pub CrashAtomicity : Type 0
   CrashAtomicity =

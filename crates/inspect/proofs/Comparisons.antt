@@ -1,4 +1,5 @@
 -- The laws of comparing: slots and data blocks, one after the other; a block as laid; and what a yes means.
+use Rattle.std.specs.Prelude.{Option, Some, None}
 use Prim.Native.Nat.{ℕ, zero, suc, ◌+◌, ◌≤◌, ◌<◌}
 use mathlib.Core.Path.{◌≡◌, refl, ap, ap₂, sym, ◌∙◌}
 use mathlib.Core.Bool.{Bool, true, false, cond, ◌&&◌, and-false}
@@ -17,8 +18,6 @@ use Rattle.cells.specs.Entry.Laws.{entry_eq}
 use Rattle.card.specs.Disk.{Disk, overlay}
 use Rattle.card.specs.Card.{blocks_in, block_at}
 use Rattle.journal.specs.Geometry.{Geometry}
-use Rattle.journal.specs.declared.lookup.Found.{Found}
-use Rattle.journal.specs.declared.lookup.Found.TheVariants.{At, Absent}
 use Rattle.journal.specs.Layout.{first_data, slot_at, is_data}
 use Rattle.journal.specs.Log.{slot_address, slot_entry, entries}
 use Rattle.journal.specs.Lookup.{last_slot}
@@ -113,7 +112,7 @@ module _ (geo : Geometry) where
   -- ---- a block as laid, where the same n entries are laid over both
 
   -- the block in the slot that was found, or another
-  abbrev slot_or : List ℕ → Found → List ℕ → List ℕ
+  abbrev slot_or : List ℕ → Option ℕ → List ℕ → List ℕ
   slot_or a r d = found_in r (λ k. block_at a (slot_at geo k)) d
 
   module _ (a b : List ℕ) (n x : ℕ) (e : same_slots geo a b n ≡ true) where
@@ -121,25 +120,25 @@ module _ (geo : Geometry) where
     entries_equal = ext_up_to (slot_entry geo b) (slot_entry geo a) n (λ i h. sym (slots_equal a b n e i h))
 
     -- the two blocks, by what a search of the first log finds
-    laid-found : (r : Found) → last_slot a x n ≡ r
+    laid-found : (r : Option ℕ) → last_slot a x n ≡ r
         → same (laid geo a n x) (laid geo b n x) ≡ same (slot_or a r (block_at a x)) (slot_or a r (block_at b x))
     laid-found r p =
         ap₂ same (over (block_at a)) (ap (λ (es : List Entry). overlay es (block_at b) x) entries_equal ∙ over (block_at b))
       where
         over : (d : Disk) → overlay (entries geo a n) d x ≡ slot_or a r (d x)
-        over d = overlay_slots geo a n d x ∙ ap (λ (q : Found). slot_or a q (d x)) p
+        over d = overlay_slots geo a n d x ∙ ap (λ (q : Option ℕ). slot_or a q (d x)) p
 
     -- equal at home
     pub home_same : same (block_at a x) (block_at b x) ≡ true → true ≡ same (laid geo a n x) (laid geo b n x)
     home_same h = sym (laid-found (last_slot a x n) refl ∙ rw (same_equal (block_at a x) (block_at b x) h) (same_self (slot_or a (last_slot a x n) (block_at b x))))
 
     -- in the log
-    pub logged_same : (i : ℕ) → last_slot a x n ≡ At i → true ≡ same (laid geo a n x) (laid geo b n x)
-    logged_same i p = sym (laid-found (At i) p ∙ same_self (block_at a (slot_at geo i)))
+    pub logged_same : (i : ℕ) → last_slot a x n ≡ Some i → true ≡ same (laid geo a n x) (laid geo b n x)
+    logged_same i p = sym (laid-found (Some i) p ∙ same_self (block_at a (slot_at geo i)))
 
     -- neither
-    pub home_unlike : last_slot a x n ≡ Absent → same (block_at a x) (block_at b x) ≡ false → false ≡ same (laid geo a n x) (laid geo b n x)
-    home_unlike p h = sym (laid-found Absent p ∙ h)
+    pub home_unlike : last_slot a x n ≡ None → same (block_at a x) (block_at b x) ≡ false → false ≡ same (laid geo a n x) (laid geo b n x)
+    home_unlike p h = sym (laid-found None p ∙ h)
 
   -- ---- the same n entries, and the same data blocks
 

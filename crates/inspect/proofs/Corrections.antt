@@ -1,4 +1,5 @@
 -- The laws of a tally's corrections: the disk that the sum stands for, slot by slot, from the home blocks to the log laid over.
+use Rattle.std.specs.Prelude.{Option, Some, None}
 use Prim.Native.Nat.{ℕ, ◌+◌, ◌≤◌, ◌<◌}
 use mathlib.Core.Path.{◌≡◌, refl, ap, sym, ◌∙◌}
 use mathlib.Core.Bool.{Bool, true, false, cond, ◌&&◌, true≢false}
@@ -12,8 +13,6 @@ use Rattle.card.specs.Card.{block_at}
 use Rattle.card.specs.Disk.{Disk, lay}
 use Rattle.card.proofs.Overlays.{lay-same, lay_other}
 use Rattle.journal.specs.Geometry.{Geometry}
-use Rattle.journal.specs.declared.lookup.Found.{Found}
-use Rattle.journal.specs.declared.lookup.Found.TheVariants.{At, Absent}
 use Rattle.journal.specs.Layout.{slot_at, first_data, is_data}
 use Rattle.journal.specs.Log.{slot_address, slot_entry}
 use Rattle.journal.specs.Lookup.{last_slot}
@@ -36,20 +35,20 @@ module _ (geo : Geometry) (s : List ℕ) (n : ℕ) where
   unfolding laid_below
   below_none = λ j a. go (last_slot s a n) a j
     where
-      go : (r : Found) (a : ℕ) → found_in r (slot_below 0 (block_at s a)) (block_at s a) ≡ block_at s a
-      go (At k) a = rw (le-ltb k 0 (omega arith))
-      go Absent a = refl
+      go : (r : Option ℕ) (a : ℕ) → found_in r (slot_below 0 (block_at s a)) (block_at s a) ≡ block_at s a
+      go (Some k) a = rw (le-ltb k 0 (omega arith))
+      go None a = refl
 
   below_all : laid_below n ≡ laid geo s n
   unfolding laid_below
   below_all = λ j a. (go (last_slot s a n) a (last_means (slot_address s) a n) ∙ sym (overlay_slots geo s n (block_at s) a)) j
     where
-      go : (r : Found) (a : ℕ) → Means (slot_address s) a n r → found_in r (slot_below n (block_at s a)) (block_at s a) ≡ found_in r (λ k. block_at s (slot_at geo k)) (block_at s a)
-      go (At k) a m = rw (lt-ltb k n m.inside)
-      go Absent a m = refl
+      go : (r : Option ℕ) (a : ℕ) → Means (slot_address s) a n r → found_in r (slot_below n (block_at s a)) (block_at s a) ≡ found_in r (λ k. block_at s (slot_at geo k)) (block_at s a)
+      go (Some k) a m = rw (lt-ltb k n m.inside)
+      go None a m = refl
 
   -- slot i changes no address but the one that it is the last slot of
-  elsewhere : (i a : ℕ) → last_slot s a n ≢ At i → laid_below (i + 1) a ≡ laid_below i a
+  elsewhere : (i a : ℕ) → last_slot s a n ≢ Some i → laid_below (i + 1) a ≡ laid_below i a
   unfolding laid_below
   elsewhere i a h = go (last_slot s a n) refl
     where
@@ -57,53 +56,53 @@ module _ (geo : Geometry) (s : List ℕ) (n : ℕ) where
       same k q (yes l) = lt-ltb k (i + 1) (omega arith) ∙ sym (lt-ltb k i l)
       same k q (no l) = le-ltb k (i + 1) (omega arith) ∙ sym (le-ltb k i (omega arith))
 
-      go : (r : Found) → last_slot s a n ≡ r → found_in r (slot_below (i + 1) (block_at s a)) (block_at s a) ≡ found_in r (slot_below i (block_at s a)) (block_at s a)
-      go (At k) e = ap (λ (t : Bool). cond t (block_at s (slot_at geo k)) (block_at s a)) (same k (λ z. h (e ∙ ap At z)) (dec_lt k i))
-      go Absent e = refl
+      go : (r : Option ℕ) → last_slot s a n ≡ r → found_in r (slot_below (i + 1) (block_at s a)) (block_at s a) ≡ found_in r (slot_below i (block_at s a)) (block_at s a)
+      go (Some k) e = ap (λ (t : Bool). cond t (block_at s (slot_at geo k)) (block_at s a)) (same k (λ z. h (e ∙ ap Some z)) (dec_lt k i))
+      go None e = refl
 
   -- a slot that is the last with its address is laid over
-  below_laid : (i : ℕ) → last_slot s (slot_address s i) n ≡ At i → laid_below (i + 1) ≡ lay (slot_entry geo s i) (laid_below i)
+  below_laid : (i : ℕ) → last_slot s (slot_address s i) n ≡ Some i → laid_below (i + 1) ≡ lay (slot_entry geo s i) (laid_below i)
   unfolding laid_below slot_entry
   below_laid i h = λ j a. go a (ℕ_discrete a (slot_address s i)) j
     where
       go : (a : ℕ) → Dec (a ≡ slot_address s i) → laid_below (i + 1) a ≡ lay (slot_entry geo s i) (laid_below i) a
       go a (yes p) =
-          let here : last_slot s a n ≡ At i = ap (λ (x : ℕ). last_slot s x n) p ∙ h in
+          let here : last_slot s a n ≡ Some i = ap (λ (x : ℕ). last_slot s x n) p ∙ h in
           rw (lay-same (slot_entry geo s i) (laid_below i) a p, here, lt-ltb i (i + 1) (omega arith))
       go a (no p) =
           elsewhere i a (λ e. p (sym (last_at (slot_address s) a n i e).here))
           ∙ sym (lay_other (slot_entry geo s i) (laid_below i) a p)
 
   -- and until then its home block stands
-  below_home : (i : ℕ) → last_slot s (slot_address s i) n ≡ At i → laid_below i (slot_address s i) ≡ block_at s (slot_address s i)
+  below_home : (i : ℕ) → last_slot s (slot_address s i) n ≡ Some i → laid_below i (slot_address s i) ≡ block_at s (slot_address s i)
   unfolding laid_below
   below_home i h = rw (h, le-ltb i i (omega arith))
 
 -- ---- the test
 
-at_equal : (k i : ℕ) → At k ≡ At i → k ≡ i
+at_equal : (k i : ℕ) → Some k ≡ Some i → k ≡ i
 at_equal k i e = cc
 
-absent_found : (i : ℕ) → Absent ≡ At i → ⊥
+absent_found : (i : ℕ) → None ≡ Some i → ⊥
 absent_found i e = let z : ◌≡◌ {A = ℕ} 0 1 = cc in omega arith
 
 module _ (geo : Geometry) (s : List ℕ) (N n i : ℕ) where
   -- slot i is the last with its address, and the address is a data block's
   abbrev pub Decides : Type 0
-  Decides = (is_data geo N (slot_address s i) ≡ true) × (last_slot s (slot_address s i) n ≡ At i)
+  Decides = (is_data geo N (slot_address s i) ≡ true) × (last_slot s (slot_address s i) n ≡ Some i)
 
   -- the lookup of its address is that of the address that was read
   of_read : (a : ℕ) → a ≡ slot_address s i → last_slot s (slot_address s i) n ≡ last_slot s a n
   of_read a p = ap (λ (x : ℕ). last_slot s x n) (sym p)
 
   -- a lookup that found nothing
-  pub absent_decides : (a : ℕ) → a ≡ slot_address s i → last_slot s a n ≡ Absent → (false ≡ true) ↔ Decides
+  pub absent_decides : (a : ℕ) → a ≡ slot_address s i → last_slot s a n ≡ None → (false ≡ true) ↔ Decides
   absent_decides a p e = (λ z. absurd (true≢false (sym z)), λ d. absurd (absent_found i (sym (of_read a p ∙ e) ∙ d.1)))
 
   -- one that found slot k
-  pub found_decides : (a k : ℕ) (t : Bool) → a ≡ slot_address s i → last_slot s a n ≡ At k → t ≡ is_data geo N a → (t && eqb k i ≡ true) ↔ Decides
+  pub found_decides : (a k : ℕ) (t : Bool) → a ≡ slot_address s i → last_slot s a n ≡ Some k → t ≡ is_data geo N a → (t && eqb k i ≡ true) ↔ Decides
   found_decides a k t p e d = (
-    λ z. let q = both _ _ z in (ap (is_data geo N) (sym p) ∙ sym d ∙ q.0, of_read a p ∙ e ∙ ap At (eqb-true k i q.1)),
+    λ z. let q = both _ _ z in (ap (is_data geo N) (sym p) ∙ sym d ∙ q.0, of_read a p ∙ e ∙ ap Some (eqb-true k i q.1)),
     λ z. rw (d ∙ ap (is_data geo N) p ∙ z.0, eq-eqb k i (at_equal k i (sym (of_read a p ∙ e) ∙ z.1))),
   )
 
@@ -138,7 +137,7 @@ module _ (geo : Geometry) (s : List ℕ) (N n : ℕ) where
   pub slot_passed : (i : ℕ) → (Decides geo s N n i → ⊥) → sum_below i ≡ sum_below (i + 1)
   slot_passed i h = sym (data_agree geo (laid_below geo s n (i + 1)) (laid_below geo s n i) (data_blocks geo N) (λ k l. elsewhere geo s n i (first_data geo + k) (other k l)))
     where
-      other : (k : ℕ) → k < data_blocks geo N → last_slot s (first_data geo + k) n ≢ At i
+      other : (k : ℕ) → k < data_blocks geo N → last_slot s (first_data geo + k) n ≢ Some i
       other k l e =
           let here : slot_address s i ≡ first_data geo + k = (last_at (slot_address s) (first_data geo + k) n i e).here in
           h (rw here (bounds_data geo N (first_data geo + k) (omega arith) (omega arith)), rw here e)

@@ -13,7 +13,7 @@ use card::settled::read;
 use cells::bytes::same;
 use journal::FIRST_DATA;
 use journal::log::{slot_address, slot_block};
-use journal::lookup::{Found, last_slot};
+use journal::lookup::last_slot;
 
 // Whether slot i of two cards holds the same entry, address and block.
 fn same_slot(a: &[u8], b: &[u8], i: u32) -> bool
@@ -55,8 +55,8 @@ fn same_block(a: &[u8], b: &[u8], x: u32, n: u32) -> bool
         return true;
     }
     match last_slot(a, x, n) {
-        Found::At(_) => true,
-        Found::Absent => false,
+        Some(_) => true,
+        None => false,
     }
 }
 

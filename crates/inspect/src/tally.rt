@@ -3,7 +3,6 @@ ghost use Rattle.std.specs.Prelude.{◌≡◌, true, ◌↔◌, ◌+◌, ◌*◌
 ghost use Rattle.cells.specs.Entry.{block_bytes};
 ghost use Rattle.card.specs.Card.{blocks_in, block_at};
 ghost use Rattle.journal.specs.Geometry.{trap};
-ghost use Rattle.journal.specs.declared.lookup.Found.TheVariants.{At};
 ghost use Rattle.journal.specs.Layout.{first_data, slot_at, is_data, most_blocks};
 ghost use Rattle.journal.specs.Log.{slot_address};
 ghost use Rattle.journal.specs.Lookup.{last_slot};
@@ -16,7 +15,7 @@ use card::settled::read;
 use cells::BLOCK;
 use journal::FIRST_DATA;
 use journal::log::{is_data, slot_address, slot_block};
-use journal::lookup::{Found, last_slot};
+use journal::lookup::last_slot;
 
 // A loop of this known length is unrolled, and its bytes are added up sixteen at a time.
 const CHUNK: usize = 64;
@@ -72,10 +71,10 @@ fn decides(settled: &[u8], blocks: u32, n: u32, i: u32) -> bool
     requires trap_bound { first_data trap < blocks_in settled.now }
     requires n_le_slots { n ≤ trap.slots }
     requires i_lt_slots { i < trap.slots }
-    ensures { (result ≡ true) ↔ (is_data trap blocks (slot_address settled.now i) ≡ true) × (last_slot settled.now (slot_address settled.now i) n ≡ At i) }
+    ensures { (result ≡ true) ↔ (is_data trap blocks (slot_address settled.now i) ≡ true) × (last_slot settled.now (slot_address settled.now i) n ≡ Some i) }
 {
     let a = slot_address(settled, i);
-    let Found::At(newest) = last_slot(settled, a, n) else {
+    let Some(newest) = last_slot(settled, a, n) else {
         return false;
     };
     is_data(blocks, a) & (newest == i)

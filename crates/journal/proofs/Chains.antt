@@ -1,4 +1,5 @@
 -- The laws of wanted addresses: their chains, and the last place where each was met.
+use Rattle.std.specs.Prelude.{Option, Some, None}
 use Prim.Native.Nat.{ℕ, zero, suc, ◌+◌, ◌-◌, ◌%◌, ◌≤◌, ◌<◌}
 use mathlib.Core.Path.{◌≡◌, refl, ap, sym, ◌∙◌}
 use mathlib.Core.Bool.{Bool, true, false, cond}
@@ -13,8 +14,6 @@ use lib.ListN.{length, get_or, set, replicate, length-append, get_or-append, get
 use lib.Seq.{get_or_at, get_or-set_same, get_or-set_other}
 use Rattle.cells.specs.Upto.{up_to}
 use Rattle.cells.specs.Upto.Laws.{length-up_to, get_or-up_to}
-use Rattle.journal.specs.declared.lookup.Found.{Found}
-use Rattle.journal.specs.declared.lookup.Found.TheVariants.{At, Absent}
 use Rattle.journal.specs.Lookup.{last_of}
 use Rattle.journal.specs.Wanted.{wanted_count, wanted_at}
 use Rattle.journal.specs.CodeWanted.{numbered, buckets, bucket_at, Chained, last_in, Met}
@@ -26,53 +25,53 @@ module _ (f : ℕ → ℕ) (b n : ℕ) where
   pub numbered-le : numbered (last_of f b n) ≤ n
   numbered-le = go (last_of f b n) (last_means f b n)
     where
-      go : (r : Found) → Means f b n r → numbered r ≤ n
-      go (At k) m = omega (arith, m.inside)
-      go Absent m = omega arith
+      go : (r : Option ℕ) → Means f b n r → numbered r ≤ n
+      go (Some k) m = omega (arith, m.inside)
+      go None m = omega arith
 
   pub numbered_here : numbered (last_of f b n) ≢ 0 → f (numbered (last_of f b n) - 1) ≡ b
   numbered_here = go (last_of f b n) (last_means f b n)
     where
-      go : (r : Found) → Means f b n r → numbered r ≢ 0 → f (numbered r - 1) ≡ b
-      go (At k) m h = let e : k + 1 - 1 ≡ k = omega arith in rw e m.here
-      go Absent m h = absurd (h refl)
+      go : (r : Option ℕ) → Means f b n r → numbered r ≢ 0 → f (numbered r - 1) ≡ b
+      go (Some k) m h = let e : k + 1 - 1 ≡ k = omega arith in rw e m.here
+      go None m h = absurd (h refl)
 
   -- none from there on has it
   pub numbered_past : (j : ℕ) → numbered (last_of f b n) ≤ j → j < n → f j ≢ b
   numbered_past j = go (last_of f b n) (last_means f b n)
     where
-      go : (r : Found) → Means f b n r → numbered r ≤ j → j < n → f j ≢ b
-      go (At k) m h less = m.later j (omega arith) less
-      go Absent m h less = m j less
+      go : (r : Option ℕ) → Means f b n r → numbered r ≤ j → j < n → f j ≢ b
+      go (Some k) m h less = m.later j (omega arith) less
+      go None m h less = m j less
 
 -- the lookup that a number stands for
-pub numbered_at : (r : Found) (n : ℕ) → n ≡ numbered r → n ≢ 0 → r ≡ At (n - 1)
-numbered_at (At k) n e h = let q : n - 1 ≡ k = omega arith in rw q
-numbered_at Absent n e h = absurd (h e)
+pub numbered_at : (r : Option ℕ) (n : ℕ) → n ≡ numbered r → n ≢ 0 → r ≡ Some (n - 1)
+numbered_at (Some k) n e h = let q : n - 1 ≡ k = omega arith in rw q
+numbered_at None n e h = absurd (h e)
 
-pub numbered_absent : (r : Found) (n : ℕ) → n ≡ numbered r → n ≡ 0 → r ≡ Absent
-numbered_absent (At k) n e h = absurd (omega arith)
-numbered_absent Absent n e h = refl
+pub numbered_absent : (r : Option ℕ) (n : ℕ) → n ≡ numbered r → n ≡ 0 → r ≡ None
+numbered_absent (Some k) n e h = absurd (omega arith)
+numbered_absent None n e h = refl
 
 -- a number as a place, and back
-abbrev pub found_as : ℕ → Found
-found_as zero = Absent
-found_as (suc k) = At k
+abbrev pub found_as : ℕ → Option ℕ
+found_as zero = None
+found_as (suc k) = Some k
 
 pub numbered-found : (n : ℕ) → n ≡ numbered (found_as n)
 numbered-found zero = refl
 numbered-found (suc k) = sym (add-one k)
 
-pub found-numbered : (r : Found) → found_as (numbered r) ≡ r
-found-numbered (At k) = rw (add-one)
-found-numbered Absent = refl
+pub found-numbered : (r : Option ℕ) → found_as (numbered r) ≡ r
+found-numbered (Some k) = rw (add-one)
+found-numbered None = refl
 
 -- one place more
 pub numbered_more : (f : ℕ → ℕ) (b n : ℕ) → numbered (last_of f b (suc n)) ≡ cond (eqb (f n) b) (n + 1) (numbered (last_of f b n))
 unfolding last_of
 numbered_more f b n = go (eqb (f n) b)
   where
-    go : (t : Bool) → numbered (cond t (At n) (last_of f b n)) ≡ cond t (n + 1) (numbered (last_of f b n))
+    go : (t : Bool) → numbered (cond t (Some n) (last_of f b n)) ≡ cond t (n + 1) (numbered (last_of f b n))
     go true = refl
     go false = refl
 

@@ -1,4 +1,5 @@
 -- The laws of a lookup.
+use Rattle.std.specs.Prelude.{Option, Some, None}
 use Prim.Native.Nat.{ℕ, zero, suc, ◌+◌, ◌-◌, ◌%◌, ◌<◌}
 use mathlib.Core.Path.{◌≡◌, refl, ap, sym, ◌∙◌}
 use mathlib.Core.Bool.{Bool, true, false, cond}
@@ -16,19 +17,17 @@ use Rattle.card.specs.Card.{block_at}
 use Rattle.card.specs.Disk.{Disk, lay, overlay}
 use Rattle.card.proofs.Overlays.{lay-same, lay_other, overlay-append}
 use Rattle.journal.specs.Geometry.{Geometry}
-use Rattle.journal.specs.declared.lookup.Found.{Found}
-use Rattle.journal.specs.declared.lookup.Found.TheVariants.{At, Absent}
 use Rattle.journal.specs.Layout.{slot_at}
 use Rattle.journal.specs.Log.{slot_entry, entries}
 use Rattle.journal.specs.Lookup.{last_of, last_slot}
 
 -- ---- from the last place down
 
-pub last_none : (f : ℕ → ℕ) (a : ℕ) → last_of f a 0 ≡ Absent
+pub last_none : (f : ℕ → ℕ) (a : ℕ) → last_of f a 0 ≡ None
 unfolding last_of
 last_none f a = refl
 
-pub last_here : (f : ℕ → ℕ) (a n : ℕ) → 0 < n → f (n - 1) ≡ a → last_of f a n ≡ At (n - 1)
+pub last_here : (f : ℕ → ℕ) (a n : ℕ) → 0 < n → f (n - 1) ≡ a → last_of f a n ≡ Some (n - 1)
 unfolding last_of
 last_here f a zero h e = absurd (omega arith)
 last_here f a (suc n) h e =
@@ -53,29 +52,29 @@ pub record Last (f : ℕ → ℕ) (a n k : ℕ) : Type 0 where
   pub later : (i : ℕ) → k < i → i < n → f i ≢ a
 
 -- what an answer means
-abbrev pub Means : (ℕ → ℕ) → ℕ → ℕ → Found → Type 0
-Means f a n (At k) = Last f a n k
-Means f a n Absent = (i : ℕ) → i < n → f i ≢ a
+abbrev pub Means : (ℕ → ℕ) → ℕ → ℕ → Option ℕ → Type 0
+Means f a n (Some k) = Last f a n k
+Means f a n None = (i : ℕ) → i < n → f i ≢ a
 
 pub last_means : (f : ℕ → ℕ) (a n : ℕ) → Means f a n (last_of f a n)
 unfolding last_of
 last_means f a zero = λ i p. absurd (omega arith)
 last_means f a (suc n) = go (eqb (f n) a) refl (last_of f a n) (last_means f a n)
   where
-    go : (t : Bool) → eqb (f n) a ≡ t → (r : Found) → Means f a n r → Means f a (suc n) (cond t (At n) r)
+    go : (t : Bool) → eqb (f n) a ≡ t → (r : Option ℕ) → Means f a n r → Means f a (suc n) (cond t (Some n) r)
     go true e r m = record { inside = omega arith; here = eqb-true _ _ e; later = λ i p q. absurd (omega arith) }
-    go false e (At k) m = record { inside = omega (arith, m.inside); here = m.here; later = λ i p q. later i p (ℕ_discrete i n) q }
+    go false e (Some k) m = record { inside = omega (arith, m.inside); here = m.here; later = λ i p q. later i p (ℕ_discrete i n) q }
       where
         later : (i : ℕ) → k < i → Dec (i ≡ n) → i < suc n → f i ≢ a
         later i p (yes x) q = λ y. eqb-false (f n) a e (ap f (sym x) ∙ y)
         later i p (no x) q = m.later i p (omega arith)
-    go false e Absent m = λ i q. none i (ℕ_discrete i n) q
+    go false e None m = λ i q. none i (ℕ_discrete i n) q
       where
         none : (i : ℕ) → Dec (i ≡ n) → i < suc n → f i ≢ a
         none i (yes x) q = λ y. eqb-false (f n) a e (ap f (sym x) ∙ y)
         none i (no x) q = m i (omega arith)
 
-pub last_at : (f : ℕ → ℕ) (a n k : ℕ) → last_of f a n ≡ At k → Last f a n k
+pub last_at : (f : ℕ → ℕ) (a n k : ℕ) → last_of f a n ≡ Some k → Last f a n k
 last_at f a n k e = rw e at (last_means f a n)
 
 -- ---- buckets: each of the first n places has marked the bucket of its address, of 128
@@ -97,19 +96,19 @@ mark_more f marks i a size e before j h = go (ℕ_discrete (f j % 128) (a % 128)
         rw (get_or-set_other marks (a % 128) (f j % 128) 1 0 p) (before j (omega arith))
 
 -- an address whose bucket is not marked is none of theirs
-pub unmarked : (f : ℕ → ℕ) (marks : List ℕ) (n a : ℕ) → Marked f marks n → get_or marks (a % 128) 0 ≡ 0 → last_of f a n ≡ Absent
+pub unmarked : (f : ℕ → ℕ) (marks : List ℕ) (n a : ℕ) → Marked f marks n → get_or marks (a % 128) 0 ≡ 0 → last_of f a n ≡ None
 unmarked f marks n a marked e = go (last_of f a n) (last_means f a n)
   where
-    go : (r : Found) → Means f a n r → r ≡ Absent
-    go (At k) m = absurd (marked k m.inside (ap (λ (x : ℕ). get_or marks (x % 128) 0) m.here ∙ e))
-    go Absent m = refl
+    go : (r : Option ℕ) → Means f a n r → r ≡ None
+    go (Some k) m = absurd (marked k m.inside (ap (λ (x : ℕ). get_or marks (x % 128) 0) m.here ∙ e))
+    go None m = refl
 
 -- ---- a lookup in a list is a read of its overlay
 
 -- the block at the place that was found, or another
-abbrev pub found_in : Found → (ℕ → List ℕ) → List ℕ → List ℕ
-found_in (At k) f d = f k
-found_in Absent f d = d
+abbrev pub found_in : Option ℕ → (ℕ → List ℕ) → List ℕ → List ℕ
+found_in (Some k) f d = f k
+found_in None f d = d
 
 pub overlay-found : (e : ℕ → Entry) (n : ℕ) (d : Disk) (a : ℕ) → overlay (up_to e n) d a ≡ found_in (last_of (λ i. (e i).address) a n) (λ k. (e k).block) (d a)
 unfolding last_of overlay
@@ -119,7 +118,7 @@ overlay-found e (suc n) d a =
   where
     go : (t : Bool) → eqb (e n).address a ≡ t
         → overlay (up_to e n) d a ≡ found_in (last_of (λ i. (e i).address) a n) (λ k. (e k).block) (d a)
-        → lay (e n) (overlay (up_to e n) d) a ≡ found_in (cond t (At n) (last_of (λ i. (e i).address) a n)) (λ k. (e k).block) (d a)
+        → lay (e n) (overlay (up_to e n) d) a ≡ found_in (cond t (Some n) (last_of (λ i. (e i).address) a n)) (λ k. (e k).block) (d a)
     go true p k = lay-same (e n) (overlay (up_to e n) d) a (sym (eqb-true _ _ p))
     go false p k = lay_other (e n) (overlay (up_to e n) d) a (λ q. eqb-false _ _ p (sym q)) ∙ k
 

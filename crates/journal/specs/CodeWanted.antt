@@ -1,14 +1,12 @@
 -- A list of wanted addresses as the code holds it: chained by the low bits of each, and for each the last place that has it.
-use Rattle.std.specs.Prelude.{ℕ, ◌+◌, ◌%◌, ◌<◌, ◌≡◌, List, length, get_or}
-use Rattle.journal.specs.declared.lookup.Found.{Found}
-use Rattle.journal.specs.declared.lookup.Found.TheVariants.{At, Absent}
+use Rattle.std.specs.Prelude.{ℕ, ◌+◌, ◌%◌, ◌<◌, ◌≡◌, List, length, get_or, Option, Some, None}
 use Rattle.journal.specs.Lookup.{last_of}
 use Rattle.journal.specs.Wanted.{wanted_count, wanted_at}
 
 -- a place as a number: 0 for none, else one more than the place
-abbrev pub numbered : Found → ℕ
-numbered (At k) = k + 1
-numbered Absent = 0
+abbrev pub numbered : Option ℕ → ℕ
+numbered (Some k) = k + 1
+numbered None = 0
 
 -- the buckets that addresses fall into, by their low bits
 abbrev pub buckets : ℕ
@@ -24,7 +22,7 @@ pub record Chained (xs last before : List ℕ) (n : ℕ) : Type 0 where
   pub befores : (i : ℕ) → i < n → get_or before i 0 ≡ numbered (last_of (bucket_at xs) (bucket_at xs i) i)
 
 -- the last place with the address a in a list of addresses
-abbrev pub last_in : List ℕ → ℕ → Found
+abbrev pub last_in : List ℕ → ℕ → Option ℕ
 last_in l a = last_of (λ i. get_or l i 0) a (length l)
 
 -- `met` has for each wanted address its last place in l

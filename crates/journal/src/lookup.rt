@@ -7,15 +7,8 @@ ghost use Rattle.journal.specs.Lookup.{last_slot};
 
 use crate::log::slot_address;
 
-// What a lookup finds.
-#[derive(Clone, Copy)]
-pub enum Found {
-    At(u32),
-    Absent,
-}
-
 // The last of the first n slots whose address is a.
-pub fn last_slot(settled: &[u8], a: u32, n: u32) -> Found
+pub fn last_slot(settled: &[u8], a: u32, n: u32) -> Option<u32>
     requires trap_bound { first_data trap < blocks_in settled.now }
     requires n_le_slots { n ≤ trap.slots }
     ensures { result ≡ last_slot settled.now a n }
@@ -24,8 +17,8 @@ pub fn last_slot(settled: &[u8], a: u32, n: u32) -> Found
     while 0 < i {
         i -= 1;
         if slot_address(settled, i) == a {
-            return Found::At(i);
+            return Some(i);
         }
     }
-    Found::Absent
+    None
 }

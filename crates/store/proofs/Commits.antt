@@ -1,4 +1,5 @@
 -- Commit: what joining the first open entries leaves, and that it has room.
+use Rattle.std.specs.Prelude.{Option, Some, None}
 use Prim.Native.Nat.{ℕ, zero, suc, ◌+◌, ◌≤◌, ◌<◌}
 use mathlib.Core.Path.{◌≡◌, refl, ap, sym, ◌∙◌}
 use mathlib.Core.Bool.{cond, true≢false}
@@ -11,8 +12,6 @@ use Rattle.cells.specs.Little.{Bytes}
 use Rattle.cells.specs.Entry.{Entry, set_entry}
 use Rattle.cells.specs.Entry.Laws.{length-set_entry, entry_same, entry_other, length_block, address_lt}
 use Rattle.journal.specs.Geometry.{Geometry}
-use Rattle.journal.specs.declared.lookup.Found.{Found}
-use Rattle.journal.specs.declared.lookup.Found.TheVariants.{At, Absent}
 use Rattle.store.specs.Lists.{open_from, group_from, listed, find}
 use Rattle.store.specs.Causes.{work_bytes, is_found, newcomers}
 use Rattle.store.specs.Commit.{Group, join_at, join, joined}
@@ -52,19 +51,19 @@ module _ (geo : Geometry) where
 
   module _ (work : List ℕ) (bytes : Bytes work) (long : work_bytes geo ≤ length work) (g n : ℕ) (few : n < geo.slots) (now : Group) (j : Joining work g n now) where
     -- an address that the group still lacks is a newcomer's
-    new : find now.work (group_from geo) now.count (listed work open_from n).address ≡ Absent → newcomers geo work g (suc n) ≡ newcomers geo work g n + 1
+    new : find now.work (group_from geo) now.count (listed work open_from n).address ≡ None → newcomers geo work g (suc n) ≡ newcomers geo work g n + 1
     unfolding newcomers
     new absent = go (find work (group_from geo) g (listed work open_from n).address) refl
       where
-        go : (f : Found) → find work (group_from geo) g (listed work open_from n).address ≡ f → newcomers geo work g n + cond (is_found f) 0 1 ≡ newcomers geo work g n + 1
-        go (At i) e =
+        go : (f : Option ℕ) → find work (group_from geo) g (listed work open_from n).address ≡ f → newcomers geo work g n + cond (is_found f) 0 1 ≡ newcomers geo work g n + 1
+        go (Some i) e =
             let found = find_at work (group_from geo) g (listed work open_from n).address i e in
             let inside : i < now.count = omega (arith, j.least) in
             absurd (true≢false (sym (find-some now.work (group_from geo) now.count (listed work open_from n).address i inside (j.same-group i found.0 ∙ found.1)) ∙ ap is_found absent))
-        go Absent e = refl
+        go None e = refl
 
     -- so it has room
-    pub free : g + newcomers geo work g (suc n) ≤ geo.slots → find now.work (group_from geo) now.count (listed work open_from n).address ≡ Absent → now.count < geo.slots
+    pub free : g + newcomers geo work g (suc n) ≤ geo.slots → find now.work (group_from geo) now.count (listed work open_from n).address ≡ None → now.count < geo.slots
     free room absent = let one = new absent in omega (arith, j.most)
 
     -- one more
@@ -93,15 +92,15 @@ module _ (geo : Geometry) where
                 ∙ j.same-group k p
             at (no q) = ap (λ (x : Entry). x.address) (entry_other now.work (group_from geo + i) (group_from geo + k) e (λ r. q (omega arith))) ∙ j.same-group k p
 
-        go : (f : Found) → find now.work (group_from geo) now.count e.address ≡ f → Joining work g (suc n) (join_at geo f e now)
-        go (At i) h = record {
+        go : (f : Option ℕ) → find now.work (group_from geo) now.count e.address ≡ f → Joining work g (suc n) (join_at geo f e now)
+        go (Some i) h = record {
           least = j.least;
           most = omega (arith, j.most, more);
           size = length-set_entry now.work (group_from geo + i) e ∙ j.size;
           same_open = λ k p. entry_other now.work (group_from geo + i) (open_from + k) e (λ q. omega arith) ∙ j.same_open k p;
           same-group = same i (omega (arith, j.most, more)) (find_at now.work (group_from geo) now.count e.address i h);
         }
-        go Absent h = record {
+        go None h = record {
           least = omega (arith, j.least);
           most = omega (arith, j.most, new h);
           size = length-set_entry now.work (group_from geo + now.count) e ∙ j.size;

@@ -1,4 +1,5 @@
 -- The place of a get holds a whole block, and the part promised there has the bytes that the statements speak of.
+use Rattle.std.specs.Prelude.{Option, Some, None}
 use Prim.Native.Nat.{ℕ, ◌<◌}
 use mathlib.Core.Path.{◌≡◌, refl, sym}
 use mathlib.Core.Bool.{Bool, true, false, cond}
@@ -10,8 +11,6 @@ use lib.Dec.{eqb, leb, ltb}
 use lib.ListN.{length, length-take, length-drop}
 use Rattle.cells.specs.Entry.{block_bytes}
 use Rattle.journal.specs.Geometry.{Geometry}
-use Rattle.journal.specs.declared.lookup.Found.{Found}
-use Rattle.journal.specs.declared.lookup.Found.TheVariants.{At, Absent}
 use Rattle.journal.specs.Layout.{is_data, first_data}
 use Rattle.journal.specs.Log.{slot_address}
 use Rattle.journal.specs.Lookup.{last_slot}
@@ -37,25 +36,25 @@ module _ (geo : Geometry) where
   unfolding newest
   newest_within a st s d = in_open (find st.work open_from st.rec.opened a) refl
     where
-      in_waiting : (f : Found) → find_waiting st a ≡ f → HoldsBlock (waiting_place f (home_place a)) st.settled st.waiting st.work
-      in_waiting (At k) e =
+      in_waiting : (f : Option ℕ) → find_waiting st a ≡ f → HoldsBlock (waiting_place f (home_place a)) st.settled st.waiting st.work
+      in_waiting (Some k) e =
           let inside = find_at st.waiting waiting_from st.rec.waiting a k e in
           let few = any_waits geo st s.counts in
           omega arith
-      in_waiting Absent e = let inside = data_lt st.rec.blocks a d in omega arith
+      in_waiting None e = let inside = data_lt st.rec.blocks a d in omega arith
 
-      in_log : (f : Found) → last_slot st.settled a st.rec.logged ≡ f → HoldsBlock (log_place geo f (waiting_place (find_waiting st a) (home_place a))) st.settled st.waiting st.work
-      in_log (At k) e = let inside = last_at (slot_address st.settled) a st.rec.logged k e in omega arith
-      in_log Absent e = in_waiting (find_waiting st a) refl
+      in_log : (f : Option ℕ) → last_slot st.settled a st.rec.logged ≡ f → HoldsBlock (log_place geo f (waiting_place (find_waiting st a) (home_place a))) st.settled st.waiting st.work
+      in_log (Some k) e = let inside = last_at (slot_address st.settled) a st.rec.logged k e in omega arith
+      in_log None e = in_waiting (find_waiting st a) refl
 
-      in_group : (f : Found) → find st.work (group_from geo) st.rec.grouped a ≡ f → HoldsBlock (group_place geo f (log_place geo (last_slot st.settled a st.rec.logged) (waiting_place (find_waiting st a) (home_place a)))) st.settled st.waiting st.work
-      in_group (At j) e = let inside = find_at st.work (group_from geo) st.rec.grouped a j e in omega arith
-      in_group Absent e = in_log (last_slot st.settled a st.rec.logged) refl
+      in_group : (f : Option ℕ) → find st.work (group_from geo) st.rec.grouped a ≡ f → HoldsBlock (group_place geo f (log_place geo (last_slot st.settled a st.rec.logged) (waiting_place (find_waiting st a) (home_place a)))) st.settled st.waiting st.work
+      in_group (Some j) e = let inside = find_at st.work (group_from geo) st.rec.grouped a j e in omega arith
+      in_group None e = in_log (last_slot st.settled a st.rec.logged) refl
 
-      in_open : (f : Found) → find st.work open_from st.rec.opened a ≡ f
+      in_open : (f : Option ℕ) → find st.work open_from st.rec.opened a ≡ f
           → HoldsBlock (open_place f (group_place geo (find st.work (group_from geo) st.rec.grouped a) (log_place geo (last_slot st.settled a st.rec.logged) (waiting_place (find_waiting st a) (home_place a))))) st.settled st.waiting st.work
-      in_open (At i) e = let inside = find_at st.work open_from st.rec.opened a i e in omega arith
-      in_open Absent e = in_group (find st.work (group_from geo) st.rec.grouped a) refl
+      in_open (Some i) e = let inside = find_at st.work open_from st.rec.opened a i e in omega arith
+      in_open None e = in_group (find st.work (group_from geo) st.rec.grouped a) refl
 
   pub get_within : (a : ℕ) (st : State) → HoldsBlock (get_place geo a st) st.settled st.waiting st.work
   unfolding get_place
@@ -86,12 +85,12 @@ module _ (geo : Geometry) where
   unfolding newest
   newest_somewhere a st = in_open (find st.work open_from st.rec.opened a) (find st.work (group_from geo) st.rec.grouped a) (last_slot st.settled a st.rec.logged) (find_waiting st a)
     where
-      in_open : (o g l w : Found) → Somewhere (open_place o (group_place geo g (log_place geo l (waiting_place w (home_place a)))))
-      in_open (At i) g l w = tt
-      in_open Absent (At i) l w = tt
-      in_open Absent Absent (At i) w = tt
-      in_open Absent Absent Absent (At i) = tt
-      in_open Absent Absent Absent Absent = tt
+      in_open : (o g l w : Option ℕ) → Somewhere (open_place o (group_place geo g (log_place geo l (waiting_place w (home_place a)))))
+      in_open (Some i) g l w = tt
+      in_open None (Some i) l w = tt
+      in_open None None (Some i) w = tt
+      in_open None None None (Some i) = tt
+      in_open None None None None = tt
 
   pub block_length : (a : ℕ) (st : State) → cause geo (get a) st ≡ 0 → length (block_of geo a st) ≡ block_bytes
   unfolding get_place

@@ -1,13 +1,11 @@
 -- The table of causes: "The first cause in table order is given, and each is given whenever it applies." Its rows first, in table order;
 -- then which rows each call has.
-use Rattle.std.specs.Prelude.{ℕ, zero, suc, ◌+◌, ◌*◌, ◌%◌, ◌<◌, Bool, true, false, cond, not, ◌&&◌, ◌||◌, List, [], ◌∷◌, length}
+use Rattle.std.specs.Prelude.{ℕ, zero, suc, ◌+◌, ◌*◌, ◌%◌, ◌<◌, Bool, true, false, cond, not, ◌&&◌, ◌||◌, List, [], ◌∷◌, length, Option, Some, None}
 use lib.Dec.{eqb, leb, ltb}
 use Rattle.cells.specs.Entry.{block_bytes, entry_bytes, entry_at}
 use Rattle.card.specs.Card.{blocks_in, queue}
 use Rattle.card.specs.Marks.{marks_fit}
 use Rattle.journal.specs.Geometry.{Geometry}
-use Rattle.journal.specs.declared.lookup.Found.{Found}
-use Rattle.journal.specs.declared.lookup.Found.TheVariants.{At, Absent}
 use Rattle.journal.specs.Layout.{is_data, wrong_size}
 use Rattle.journal.specs.Header.{most_save}
 use Rattle.journal.specs.Log.{entries, all_data}
@@ -86,9 +84,9 @@ module _ (geo : Geometry) where
   strays work N from n = some (λ i. not (is_data geo N (listed work from i).address)) n
 
 -- "an address twice in open or twice in group"
-abbrev pub is_found : Found → Bool
-is_found (At i) = true
-is_found Absent = false
+abbrev pub is_found : Option ℕ → Bool
+is_found (Some i) = true
+is_found None = false
 
 abbrev pub twice : List ℕ → ℕ → ℕ → Bool
 twice work from n = some (λ i. is_found (find work from i (listed work from i).address)) n

@@ -1,9 +1,7 @@
 -- "commit: each open entry, in turn, replaces or joins the group; open becomes empty."
-use Rattle.std.specs.Prelude.{ℕ, zero, suc, ◌+◌, List}
+use Rattle.std.specs.Prelude.{ℕ, zero, suc, ◌+◌, List, Option, Some, None}
 use Rattle.cells.specs.Entry.{Entry, set_entry}
 use Rattle.journal.specs.Geometry.{Geometry}
-use Rattle.journal.specs.declared.lookup.Found.{Found}
-use Rattle.journal.specs.declared.lookup.Found.TheVariants.{At, Absent}
 use Rattle.store.specs.State.{State, Outcome, with_opened, with_grouped, with_record, with_work}
 use Rattle.store.specs.Lists.{open_from, group_from, listed, find}
 use Rattle.store.specs.Request.{commit}
@@ -16,9 +14,9 @@ pub record Group : Type 0 where
   pub count : ℕ
 
 module _ (geo : Geometry) where
-  abbrev pub join_at : Found → Entry → Group → Group
-  join_at (At i) e g = record { work = set_entry g.work (group_from geo + i) e; count = g.count }
-  join_at Absent e g = record { work = set_entry g.work (group_from geo + g.count) e; count = g.count + 1 }
+  abbrev pub join_at : Option ℕ → Entry → Group → Group
+  join_at (Some i) e g = record { work = set_entry g.work (group_from geo + i) e; count = g.count }
+  join_at None e g = record { work = set_entry g.work (group_from geo + g.count) e; count = g.count + 1 }
 
   -- one entry replaces the group's entry of its address or joins at the end
   unfoldable pub join : Entry → Group → Group

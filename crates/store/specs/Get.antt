@@ -1,13 +1,11 @@
 -- "get: the newest of open, group, log (its last slot with that address), home block. It is handed out as a part of work memory
 -- or of the card, never a copy. A refused get hands out a part of no bytes; its number comes from a question with the same inputs."
 -- W-209: "get reads waiting writes, newest first, after the log and before the home block, and may hand out a part of the queue."
-use Rattle.std.specs.Prelude.{ℕ, ◌+◌, ◌*◌, cond, List, [], eqb, take, drop}
+use Rattle.std.specs.Prelude.{ℕ, ◌+◌, ◌*◌, cond, List, [], eqb, take, drop, Option, Some, None}
 use Rattle.std.specs.Borrow.{Bor}
 use Rattle.cells.specs.Entry.{block_bytes, entry_bytes}
 use Rattle.cells.specs.Part.{View, part_of}
 use Rattle.journal.specs.Geometry.{Geometry}
-use Rattle.journal.specs.declared.lookup.Found.{Found}
-use Rattle.journal.specs.declared.lookup.Found.TheVariants.{At, Absent}
 use Rattle.journal.specs.Layout.{slot_at, place_of}
 use Rattle.journal.specs.Lookup.{last_slot}
 use Rattle.store.specs.declared.place.Place.{Place}
@@ -25,29 +23,29 @@ listed_place from i = entry_bytes * (from + i) + 4
 abbrev pub waiting_from : ℕ
 waiting_from = 0
 
-abbrev pub find_waiting : State → ℕ → Found
+abbrev pub find_waiting : State → ℕ → Option ℕ
 find_waiting st a = find st.waiting waiting_from st.rec.waiting a
 
 abbrev pub home_place : ℕ → Place
 home_place a = Settled (place_of a)
 
-abbrev pub waiting_place : Found → Place → Place
-waiting_place (At i) older = Waiting (listed_place waiting_from i)
-waiting_place Absent older = older
+abbrev pub waiting_place : Option ℕ → Place → Place
+waiting_place (Some i) older = Waiting (listed_place waiting_from i)
+waiting_place None older = older
 
 module _ (geo : Geometry) where
   -- in the log's last slot with that address
-  abbrev pub log_place : Found → Place → Place
-  log_place (At i) older = Settled (place_of (slot_at geo i))
-  log_place Absent older = older
+  abbrev pub log_place : Option ℕ → Place → Place
+  log_place (Some i) older = Settled (place_of (slot_at geo i))
+  log_place None older = older
 
-  abbrev pub group_place : Found → Place → Place
-  group_place (At i) older = Work (listed_place (group_from geo) i)
-  group_place Absent older = older
+  abbrev pub group_place : Option ℕ → Place → Place
+  group_place (Some i) older = Work (listed_place (group_from geo) i)
+  group_place None older = older
 
-abbrev pub open_place : Found → Place → Place
-open_place (At i) older = Work (listed_place open_from i)
-open_place Absent older = older
+abbrev pub open_place : Option ℕ → Place → Place
+open_place (Some i) older = Work (listed_place open_from i)
+open_place None older = older
 
 module _ (geo : Geometry) where
   -- the newest

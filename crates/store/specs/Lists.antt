@@ -1,9 +1,8 @@
 -- Open and group: lists of entries in work memory.
-use Rattle.std.specs.Prelude.{ℕ, ◌+◌, List}
+use Rattle.std.specs.Prelude.{ℕ, ◌+◌, List, Option}
 use Rattle.cells.specs.Upto.{up_to}
 use Rattle.cells.specs.Entry.{Entry, entry_at}
 use Rattle.journal.specs.Geometry.{Geometry}
-use Rattle.journal.specs.declared.lookup.Found.{Found}
 use Rattle.journal.specs.Lookup.{last_of}
 
 -- a list starts at an entry of work memory: open at the first, group after the 32 of open
@@ -27,5 +26,5 @@ abbrev pub addresses_of : List ℕ → ℕ → ℕ → List ℕ
 addresses_of work from n = up_to (λ i. (listed work from i).address) n
 
 -- its entry with an address
-abbrev pub find : List ℕ → ℕ → ℕ → ℕ → Found
+abbrev pub find : List ℕ → ℕ → ℕ → ℕ → Option ℕ
 find work from n a = last_of (λ i. (listed work from i).address) a n

@@ -1,7 +1,6 @@
 // commit: each open entry, in turn, replaces or joins the group; open becomes empty.
 ghost use Rattle.std.specs.Prelude.{◌≡◌, ◌+◌, ◌≤◌, ◌<◌, length};
 ghost use Rattle.journal.specs.Geometry.{trap};
-ghost use Rattle.journal.specs.declared.lookup.Found.TheVariants.{Absent};
 ghost use Rattle.store.specs.CodeState.{state_of, outcome_of};
 ghost use Rattle.store.specs.Lists as Lists;
 ghost use Rattle.store.specs.Lists.{open_from, group_from, listed};
@@ -12,7 +11,6 @@ ghost use Rattle.store.specs.Commit.{joined, commit_call};
 
 use crate::lists::{GROUP, OPEN, address, copy_entry, find};
 use crate::record::{Answer, Record};
-use journal::lookup::Found;
 
 impl Record {
     pub fn commit(self, settled: &[u8], waiting: &[u8], work: &mut [u8]) -> Answer
@@ -46,12 +44,12 @@ fn join_all(work: &mut [u8], g: u32, n: u32) -> u32
 fn join(work: &mut [u8], g: u32, i: u32) -> u32
     requires trap_in_bounds { work_bytes trap ≤ length work.old }
     requires g_le_slots { (g ≤ trap.slots) × (i < trap.slots) }
-    requires g_lt_slots { Lists.find work.old (group_from trap) g (listed work.old open_from i).address ≡ Absent → g < trap.slots }
+    requires g_lt_slots { Lists.find work.old (group_from trap) g (listed work.old open_from i).address ≡ None → g < trap.slots }
     ensures { ◌≡◌ {A = Commit.Group} (record { work = work.exit.now; count = result }) (Commit.join trap (listed work.entry.now open_from i) (record { work = work.entry.now; count = g })) }
 {
     let a = address(work, OPEN, i);
     let from = OPEN + (i as usize);
-    let Found::At(j) = find(work, GROUP, g, a) else {
+    let Some(j) = find(work, GROUP, g, a) else {
         copy_entry(work, from, GROUP + (g as usize));
         return g + 1;
     };

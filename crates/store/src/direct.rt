@@ -19,7 +19,7 @@ use crate::saved::Saved;
 use cells::BLOCK;
 use journal::DIRECT;
 use journal::log::is_data;
-use journal::lookup::{Found, last_slot};
+use journal::lookup::last_slot;
 
 impl Record {
     pub fn direct(
@@ -79,7 +79,7 @@ impl Record {
         if holds(work, GROUP, self.grouped, address) {
             return true;
         }
-        let Found::At(_) = last_slot(settled, address, self.logged) else {
+        let Some(_) = last_slot(settled, address, self.logged) else {
             return false;
         };
         true

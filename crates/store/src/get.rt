@@ -18,7 +18,7 @@ use card::settled::{nothing, read};
 use cells::{BLOCK, ENTRY, entry};
 use journal::FIRST_SLOT;
 use journal::log::is_data;
-use journal::lookup::{Found, last_slot};
+use journal::lookup::last_slot;
 
 impl Record {
     // The number of a get with the same inputs.
@@ -71,9 +71,9 @@ impl Record {
         requires opened_le_slots { (self.opened ≤ trap.slots) × (self.grouped ≤ trap.slots) × (self.logged ≤ trap.slots) × (self.waiting ≤ trap.direct) }
         ensures { result ≡ Get.newest trap address (state_of self settled.now waiting.now work.now) }
     {
-        let Found::At(i) = find(work, OPEN, self.opened, address) else {
-            let Found::At(j) = find(work, GROUP, self.grouped, address) else {
-                let Found::At(k) = last_slot(settled, address, self.logged) else {
+        let Some(i) = find(work, OPEN, self.opened, address) else {
+            let Some(j) = find(work, GROUP, self.grouped, address) else {
+                let Some(k) = last_slot(settled, address, self.logged) else {
                     return self.unlogged(waiting, address);
                 };
                 return Place::Settled(BLOCK * ((FIRST_SLOT + k) as usize));
@@ -89,7 +89,7 @@ impl Record {
         requires waiting_le_direct { self.waiting ≤ trap.direct }
         ensures { (s k : List ℕ) → result ≡ waiting_place (find_waiting (state_of self s waiting.now k) address) (home_place address) }
     {
-        let Found::At(i) = find(waiting, WAITING_FROM, self.waiting, address) else {
+        let Some(i) = find(waiting, WAITING_FROM, self.waiting, address) else {
             return Place::Settled(BLOCK * (address as usize));
         };
         Place::Waiting(place_of(WAITING_FROM, i))

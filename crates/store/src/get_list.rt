@@ -1,10 +1,9 @@
 // get_list: the blocks of a list of addresses, each as a get finds it, copied out in the order listed. Behind the checks log, waiting
 // writes, group and open are each gone through once.
-ghost use Rattle.std.specs.Prelude.{◌≡◌, not, List, [], ℕ, ◌*◌, ◌≤◌, ◌<◌, length};
+ghost use Rattle.std.specs.Prelude.{◌≡◌, Option, not, List, [], ℕ, ◌*◌, ◌≤◌, ◌<◌, length};
 ghost use Rattle.cells.specs.Entry.{block_bytes, entry_bytes};
 ghost use Rattle.card.specs.Card.{blocks_in};
 ghost use Rattle.journal.specs.Geometry.{trap};
-ghost use Rattle.journal.specs.declared.lookup.Found as Declared;
 ghost use Rattle.journal.specs.Layout.{first_data, is_data};
 ghost use Rattle.journal.specs.Wanted.{wanted_count, wanted_at, walked};
 ghost use Rattle.journal.specs.CodeWanted.{numbered, buckets, Chained, Met};
@@ -69,7 +68,7 @@ fn copy_unlogged(settled: &[u8], waiting: &[u8], waited: u32, address: u32, bloc
     requires waited_in_bounds { (entry_bytes * waited ≤ length waiting.now) × (waited ≤ trap.direct) }
     requires address_bound { address < blocks_in settled.now }
     requires block_len { length block.old ≡ block_bytes }
-    ensures { (w : Declared.Found) (r : Held.Record) (k : List ℕ) → waited ≡ numbered w → block.new ≡ bytes_at (waiting_place w (home_place address)) (state_of r settled.now waiting.now k) }
+    ensures { (w : Option ℕ) (r : Held.Record) (k : List ℕ) → waited ≡ numbered w → block.new ≡ bytes_at (waiting_place w (home_place address)) (state_of r settled.now waiting.now k) }
 {
     if waited != 0 {
         copy(
@@ -99,7 +98,7 @@ fn copy_newest(
     requires waited_in_bounds { (entry_bytes * waited ≤ length waiting.now) × (waited ≤ trap.direct) }
     requires address_bound { address < blocks_in settled.now }
     requires block_len { length block.old ≡ block_bytes }
-    ensures { (o g l w : Declared.Found) (r : Held.Record) → opened ≡ numbered o → grouped ≡ numbered g → logged ≡ numbered l → waited ≡ numbered w → block.new ≡ bytes_at (open_place o (group_place trap g (log_place trap l (waiting_place w (home_place address))))) (state_of r settled.now waiting.now work.now) }
+    ensures { (o g l w : Option ℕ) (r : Held.Record) → opened ≡ numbered o → grouped ≡ numbered g → logged ≡ numbered l → waited ≡ numbered w → block.new ≡ bytes_at (open_place o (group_place trap g (log_place trap l (waiting_place w (home_place address))))) (state_of r settled.now waiting.now work.now) }
 {
     if opened != 0 {
         copy(block, entry::block(work, OPEN + (opened - 1) as usize));

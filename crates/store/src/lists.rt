@@ -12,7 +12,6 @@ ghost use Rattle.store.specs.Get.{listed_place};
 use cells::bytes::copy;
 use cells::{ADDRESS, BLOCK, ENTRY, entry};
 use journal::SLOTS;
-use journal::lookup::Found;
 use journal::wanted::mark;
 
 // The entry at which each starts.
@@ -39,7 +38,7 @@ pub(crate) fn place_of(from: usize, i: u32) -> usize
 }
 
 // The entry with the address a among its first n.
-pub(crate) fn find(work: &[u8], from: usize, n: u32, a: u32) -> Found
+pub(crate) fn find(work: &[u8], from: usize, n: u32, a: u32) -> Option<u32>
     requires { entry_bytes * (from + n) ≤ length work.now }
     ensures { result ≡ Lists.find work.now from n a }
 {
@@ -47,10 +46,10 @@ pub(crate) fn find(work: &[u8], from: usize, n: u32, a: u32) -> Found
     while 0 < i {
         i -= 1;
         if address(work, from, i) == a {
-            return Found::At(i);
+            return Some(i);
         }
     }
-    Found::Absent
+    None
 }
 
 // Whether its first n have the address a.
@@ -58,7 +57,7 @@ pub(crate) fn holds(work: &[u8], from: usize, n: u32, a: u32) -> bool
     requires { entry_bytes * (from + n) ≤ length work.now }
     ensures { result ≡ is_found (Lists.find work.now from n a) }
 {
-    let Found::At(_) = find(work, from, n, a) else {
+    let Some(_) = find(work, from, n, a) else {
         return false;
     };
     true

@@ -2,7 +2,6 @@
 ghost use Rattle.std.specs.Prelude.{◌≡◌, List, ℕ, ◌*◌, ◌≤◌, ◌<◌, length};
 ghost use Rattle.cells.specs.Entry.{block_bytes, entry_bytes};
 ghost use Rattle.journal.specs.Geometry.{trap};
-ghost use Rattle.journal.specs.declared.lookup.Found.TheVariants.{Absent};
 ghost use Rattle.store.specs.CodeState.{state_of, outcome_of};
 ghost use Rattle.store.specs.Lists as Lists;
 ghost use Rattle.store.specs.Lists.{open_from};
@@ -11,7 +10,6 @@ ghost use Rattle.store.specs.Put.{put_at, put_call};
 use crate::lists::{OPEN, find};
 use crate::record::{Answer, Record};
 use cells::entry;
-use journal::lookup::Found;
 
 impl Record {
     pub fn put(
@@ -36,10 +34,10 @@ impl Record {
         requires block_len { length block.now ≡ block_bytes }
         requires slots_in_bounds { entry_bytes * trap.slots ≤ length work.old }
         requires opened_le_slots { self.opened ≤ trap.slots }
-        requires opened_lt_slots { Lists.find work.old open_from self.opened address ≡ Absent → self.opened < trap.slots }
+        requires opened_lt_slots { Lists.find work.old open_from self.opened address ≡ None → self.opened < trap.slots }
         ensures { (s w : List ℕ) → state_of result s w work.new ≡ put_at (Lists.find work.old open_from self.opened address) (record { address = address; block = block.now }) (state_of self s w work.old) }
     {
-        let Found::At(i) = find(work, OPEN, self.opened, address) else {
+        let Some(i) = find(work, OPEN, self.opened, address) else {
             entry::set(work, self.opened as usize, address, block);
             return self.with_opened(self.opened + 1);
         };

@@ -1,5 +1,6 @@
 -- What is photographed of a block along a list of calls is what stands on the card of it: the block as it is settled, and the direct writes to
 -- it that wait.
+use Rattle.std.specs.Prelude.{Option, Some, None}
 use Prim.Native.Nat.{ℕ, suc, ◌+◌, ◌≤◌, ◌<◌}
 use mathlib.Core.Path.{◌≡◌, refl, ap, sym, subst, ◌∙◌}
 use mathlib.Core.Logic.{◌≢◌, ◌⊎◌}
@@ -23,8 +24,6 @@ use Rattle.journal.specs.Log.{entries}
 use Rattle.journal.specs.Lookup.{last_slot}
 use Rattle.journal.specs.Header.{empty_header}
 use Rattle.journal.specs.Orders.{append_orders, apply_orders, sync_orders}
-use Rattle.journal.specs.declared.lookup.Found.{Found}
-use Rattle.journal.specs.declared.lookup.Found.TheVariants.{At, Absent}
 use Rattle.journal.proofs.Logs.{neither}
 use Rattle.journal.proofs.OrderLists.{header_entry, append_writes, append-writes, checkpoint_writes, length-append_writes}
 use Rattle.crash.proofs.Appends.{writes_whole, writes_below}
@@ -213,9 +212,9 @@ module _ (geo : Geometry) (x : ℕ) where
   local_writes Local.commit d = refl
   local_writes Local.abandon d = refl
 
-  put_adds : (f : Found) (e : Entry) (st : State) → Adds x (card_in st) (card_in (put_at f e st))
-  put_adds (At i) e st = adds_none x _ _ refl
-  put_adds Absent e st = adds_none x _ _ refl
+  put_adds : (f : Option ℕ) (e : Entry) (st : State) → Adds x (card_in st) (card_in (put_at f e st))
+  put_adds (Some i) e st = adds_none x _ _ refl
+  put_adds None e st = adds_none x _ _ refl
 
   local_adds : (c : Local) (st : State) → Adds x (card_in st) (card_in (served_local geo c st))
   unfolding queue

@@ -1,5 +1,6 @@
 -- What a call comes to: refused; or, where nothing refuses it, done without orders, or its orders carried out. `form` is the list of the
 -- calls by which the lengths of the buffers and the theorem of refusals go.
+use Rattle.std.specs.Prelude.{Option, Some, None}
 use Prim.Native.Nat.{ℕ, zero, suc, ◌+◌}
 use mathlib.Core.Path.{◌≡◌, refl, ap, sym, ◌∙◌}
 use mathlib.Core.Logic.{◌≢◌}
@@ -19,8 +20,6 @@ use Rattle.card.specs.Card.{Order}
 use Rattle.card.proofs.Runs.{run_lengths}
 use Rattle.card.proofs.Cuts.{cut-length}
 use Rattle.journal.specs.Geometry.{Geometry}
-use Rattle.journal.specs.declared.lookup.Found.{Found}
-use Rattle.journal.specs.declared.lookup.Found.TheVariants.{At, Absent}
 use Rattle.journal.specs.Log.{entries, sum_of, slot_entry}
 use Rattle.journal.specs.Orders.{checkpoint_orders}
 use Rattle.journal.proofs.OrderLists.{length-checkpoint}
@@ -68,14 +67,14 @@ carried_sized : (os : List Order) (done gone : Record) (st : State) → SameSize
 unfolding carried
 carried_sized os done gone st = record { settled = (run_lengths os (card_in st)).0; waiting = (run_lengths os (card_in st)).1; work = refl }
 
-put_sized : (f : Found) (e : Entry) (st : State) → SameSizes st (put_at f e st)
-put_sized (At i) e st = record { settled = refl; waiting = refl; work = length-set_entry st.work i e }
-put_sized Absent e st = record { settled = refl; waiting = refl; work = length-set_entry st.work st.rec.opened e }
+put_sized : (f : Option ℕ) (e : Entry) (st : State) → SameSizes st (put_at f e st)
+put_sized (Some i) e st = record { settled = refl; waiting = refl; work = length-set_entry st.work i e }
+put_sized None e st = record { settled = refl; waiting = refl; work = length-set_entry st.work st.rec.opened e }
 
 module _ (geo : Geometry) where
-  join_sized : (f : Found) (e : Entry) (g : Group) → length (join_at geo f e g).work ≡ length g.work
-  join_sized (At i) e g = length-set_entry g.work _ e
-  join_sized Absent e g = length-set_entry g.work _ e
+  join_sized : (f : Option ℕ) (e : Entry) (g : Group) → length (join_at geo f e g).work ≡ length g.work
+  join_sized (Some i) e g = length-set_entry g.work _ e
+  join_sized None e g = length-set_entry g.work _ e
 
   one_sized : (e : Entry) (g : Group) → length (join geo e g).work ≡ length g.work
   unfolding join

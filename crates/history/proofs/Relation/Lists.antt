@@ -1,4 +1,5 @@
 -- Lists of entries: an address in them, none twice, data blocks; an entry that replaces or joins, and a list that does.
+use Rattle.std.specs.Prelude.{Some}
 use Prim.Native.Nat.{ℕ, zero, suc, ◌+◌, ◌<◌}
 use mathlib.Core.Path.{◌≡◌, refl, ap, ap₂, sym, ◌∙◌}
 use mathlib.Core.Bool.{Bool, true, false, cond, not, ◌||◌, or-true, or-false, or_assoc, or_self_left, false≢true}
@@ -15,7 +16,6 @@ use Rattle.cells.specs.Entry.{Entry}
 use Rattle.card.proofs.All.{All, all-up_to, up_to-all}
 use Rattle.card.proofs.Runs.{take-map}
 use Rattle.journal.specs.Geometry.{Geometry}
-use Rattle.journal.specs.declared.lookup.Found.TheVariants.{At}
 use Rattle.journal.specs.Layout.{is_data}
 use Rattle.journal.specs.Log.{slot_entry, entries}
 use Rattle.journal.specs.Lookup.{last_of, last_slot}
@@ -57,7 +57,7 @@ last_has f a zero = refl
 last_has f a (suc n) = go (eqb (f n).address a) (last_has f a n) ∙ sym (has-append a (up_to f n) (f n ∷ []))
   where
     go : (t : Bool) → is_found (last_of (λ i. (f i).address) a n) ≡ has a (up_to f n)
-        → is_found (cond t (At n) (last_of (λ i. (f i).address) a n)) ≡ has a (up_to f n) || (t || false)
+        → is_found (cond t (Some n) (last_of (λ i. (f i).address) a n)) ≡ has a (up_to f n) || (t || false)
     go true k = sym (or-true (has a (up_to f n)))
     go false k = k ∙ sym (or-false (has a (up_to f n)))
 
@@ -188,7 +188,7 @@ pub insert_joins : (e : Entry) (l : List Entry) → has e.address l ≡ false �
 unfolding insert
 insert_joins e l h = ap (insert e) (sym (append-nil l)) ∙ insert-right e l [] h
 
-pub insert_replaces : (f : ℕ → Entry) (n i : ℕ) (e : Entry) → Distinct (up_to f n) → last_of (λ j. (f j).address) e.address n ≡ At i
+pub insert_replaces : (f : ℕ → Entry) (n i : ℕ) (e : Entry) → Distinct (up_to f n) → last_of (λ j. (f j).address) e.address n ≡ Some i
     → insert e (up_to f n) ≡ up_to (λ j. cond (eqb j i) e (f j)) n
 unfolding last_of insert
 insert_replaces f zero i e d h = let z : ◌≡◌ {A = ℕ} 0 1 = cc in absurd (omega arith)
@@ -200,8 +200,8 @@ insert_replaces f (suc n) i e d h = go (eqb (f n).address e.address) refl h (ins
     snoc : List Entry → Entry → List Entry
     snoc l x = l ++ (x ∷ [])
 
-    go : (t : Bool) → eqb (f n).address e.address ≡ t → cond t (At n) (last_of (λ j. (f j).address) e.address n) ≡ At i
-        → (last_of (λ j. (f j).address) e.address n ≡ At i → insert e (up_to f n) ≡ up_to (λ j. cond (eqb j i) e (f j)) n)
+    go : (t : Bool) → eqb (f n).address e.address ≡ t → cond t (Some n) (last_of (λ j. (f j).address) e.address n) ≡ Some i
+        → (last_of (λ j. (f j).address) e.address n ≡ Some i → insert e (up_to f n) ≡ up_to (λ j. cond (eqb j i) e (f j)) n)
         → insert e (up_to f n ++ (f n ∷ [])) ≡ up_to (λ j. cond (eqb j i) e (f j)) n ++ (cond (eqb n i) e (f n) ∷ [])
     go true p q k =
         let r : n ≡ i = cc in

@@ -1,4 +1,5 @@
 -- Lists in work memory against the plain disk's lists: an entry set, put, commit, get.
+use Rattle.std.specs.Prelude.{Option, Some, None}
 use Prim.Native.Nat.{ℕ, zero, suc, ◌+◌, ◌*◌, ◌≤◌, ◌<◌}
 use mathlib.Core.Path.{◌≡◌, refl, ap, ap₂, sym, ◌∙◌}
 use mathlib.Core.Bool.{Bool, true, false, cond, ◌||◌}
@@ -20,8 +21,6 @@ use Rattle.card.specs.Card.{queue, block_at}
 use Rattle.card.proofs.All.{All, all_left, all_right, all_map}
 use Rattle.card.proofs.Runs.{Whole, NarrowAddress}
 use Rattle.journal.specs.Geometry.{Geometry}
-use Rattle.journal.specs.declared.lookup.Found.{Found}
-use Rattle.journal.specs.declared.lookup.Found.TheVariants.{At, Absent}
 use Rattle.journal.specs.Layout.{slot_at, most_blocks}
 use Rattle.journal.specs.Log.{slot_entry, entries}
 use Rattle.journal.specs.Lookup.{last_of, last_slot}
@@ -62,7 +61,7 @@ list_of_apart work place e from n h =
 
 module _ (work : List ℕ) (from n : ℕ) (e : Entry) (whole : Whole e) (short : NarrowAddress e) where
   -- set where its address was found
-  pub list_of_replaced : (i : ℕ) → find work from n e.address ≡ At i → Distinct (list_of work from n) → entry_bytes * (from + n) ≤ length work
+  pub list_of_replaced : (i : ℕ) → find work from n e.address ≡ Some i → Distinct (list_of work from n) → entry_bytes * (from + n) ≤ length work
       → list_of (set_entry work (from + i) e) from n ≡ insert e (list_of work from n)
   list_of_replaced i h d room =
       let below : i < n = (last_at (λ j. (listed work from j).address) e.address n i h).0 in
@@ -70,7 +69,7 @@ module _ (work : List ℕ) (from n : ℕ) (e : Entry) (whole : Whole e) (short :
       ∙ sym (insert_replaces (listed work from) n i e d h)
 
   -- set behind the list, which lacks its address
-  pub list_of-joined : find work from n e.address ≡ Absent → entry_bytes * (from + n) + entry_bytes ≤ length work
+  pub list_of-joined : find work from n e.address ≡ None → entry_bytes * (from + n) + entry_bytes ≤ length work
       → list_of (set_entry work (from + n) e) from (n + 1) ≡ insert e (list_of work from n)
   list_of-joined h room =
       rw (add-one, list_of_apart work (from + n) e from n (λ j p c. omega arith), entry_same work (from + n) e room whole short)
@@ -89,12 +88,12 @@ module _ (geo : Geometry) where
 
   pub put_open : (e : Entry) (st : State) → length st.work ≡ work_bytes geo → st.rec.opened ≤ geo.slots → Whole e → NarrowAddress e
       → Distinct (list_of st.work open_from st.rec.opened)
-      → (find st.work open_from st.rec.opened e.address ≡ Absent → st.rec.opened < geo.slots)
+      → (find st.work open_from st.rec.opened e.address ≡ None → st.rec.opened < geo.slots)
       → PutOpen e st (put_at (find st.work open_from st.rec.opened e.address) e st)
   put_open e st size few whole short d room = go (find st.work open_from st.rec.opened e.address) refl
     where
-      go : (f : Found) → find st.work open_from st.rec.opened e.address ≡ f → PutOpen e st (put_at f e st)
-      go (At i) h =
+      go : (f : Option ℕ) → find st.work open_from st.rec.opened e.address ≡ f → PutOpen e st (put_at f e st)
+      go (Some i) h =
           let below : i < st.rec.opened = (last_at (λ j. (listed st.work open_from j).address) e.address st.rec.opened i h).0 in
           record {
             open_list = rw (zero-add) at (list_of_replaced st.work open_from st.rec.opened e whole short i h d (omega arith));
@@ -103,7 +102,7 @@ module _ (geo : Geometry) where
             few = few;
             rest = refl;
           }
-      go Absent h =
+      go None h =
           let free : st.rec.opened < geo.slots = room h in
           record {
             open_list = rw (zero-add) at (list_of-joined st.work open_from st.rec.opened e whole short h (omega arith));
@@ -149,18 +148,18 @@ module _ (geo : Geometry) where
 
   pub join-group : (e : Entry) (g : Group) → length g.work ≡ work_bytes geo → g.count ≤ geo.slots → Whole e → NarrowAddress e
       → Distinct (list_of g.work (group_from geo) g.count)
-      → (find g.work (group_from geo) g.count e.address ≡ Absent → g.count < geo.slots)
+      → (find g.work (group_from geo) g.count e.address ≡ None → g.count < geo.slots)
       → JoinGroup e g (join geo e g)
   unfolding join
   join-group e g size few whole short d room = go (find g.work (group_from geo) g.count e.address) refl
     where
-      go : (f : Found) → find g.work (group_from geo) g.count e.address ≡ f → JoinGroup e g (join_at geo f e g)
-      go (At i) h = record {
+      go : (f : Option ℕ) → find g.work (group_from geo) g.count e.address ≡ f → JoinGroup e g (join_at geo f e g)
+      go (Some i) h = record {
         group-list = list_of_replaced g.work (group_from geo) g.count e whole short i h d (omega arith);
         open_list = λ k p. list_of_apart g.work (group_from geo + i) e open_from k (λ j q c. omega arith);
         size = length-set_entry g.work (group_from geo + i) e;
       }
-      go Absent h =
+      go None h =
           let free : g.count < geo.slots = room h in
           record {
             group-list = list_of-joined g.work (group_from geo) g.count e whole short h (omega arith);
@@ -197,7 +196,7 @@ module _ (geo : Geometry) where
       grown : length (merge T G) + cond (has e.address (merge T G)) 0 1 ≤ geo.slots
       grown = rw (merge_snoc T e G, length-insert e (merge T G)) at room
 
-      free : (r : Group) → Merged work g n r → find r.work (group_from geo) r.count e.address ≡ Absent → r.count < geo.slots
+      free : (r : Group) → Merged work g n r → find r.work (group_from geo) r.count e.address ≡ None → r.count < geo.slots
       free r m h =
           let same = find-has r.work (group_from geo) r.count e.address ∙ ap (has e.address) m.group-list in
           let new : has e.address (merge T G) ≡ false = sym same ∙ ap is_found h in
@@ -224,11 +223,11 @@ module _ (geo : Geometry) where
 
 -- ---- get: the newest of open, group, log, waiting writes, home
 
-pub overlay_at : (f : ℕ → Entry) (d : Disk) (a n i : ℕ) → last_of (λ j. (f j).address) a n ≡ At i → overlay (up_to f n) d a ≡ (f i).block
-overlay_at f d a n i h = overlay-found f n d a ∙ ap (λ (w : Found). found_in w (λ k. (f k).block) (d a)) h
+pub overlay_at : (f : ℕ → Entry) (d : Disk) (a n i : ℕ) → last_of (λ j. (f j).address) a n ≡ Some i → overlay (up_to f n) d a ≡ (f i).block
+overlay_at f d a n i h = overlay-found f n d a ∙ ap (λ (w : Option ℕ). found_in w (λ k. (f k).block) (d a)) h
 
-pub overlay_absent : (f : ℕ → Entry) (d : Disk) (a n : ℕ) → last_of (λ j. (f j).address) a n ≡ Absent → overlay (up_to f n) d a ≡ d a
-overlay_absent f d a n h = overlay-found f n d a ∙ ap (λ (w : Found). found_in w (λ k. (f k).block) (d a)) h
+pub overlay_absent : (f : ℕ → Entry) (d : Disk) (a n : ℕ) → last_of (λ j. (f j).address) a n ≡ None → overlay (up_to f n) d a ≡ d a
+overlay_absent f d a n h = overlay-found f n d a ∙ ap (λ (w : Option ℕ). found_in w (λ k. (f k).block) (d a)) h
 
 -- the waiting writes are a list from the first place on
 pub queue-listed : (st : State) → queue (card_in st) ≡ list_of st.waiting waiting_from st.rec.waiting
@@ -259,27 +258,27 @@ module _ (geo : Geometry) where
       logged : Place
       logged = log_place geo (last_slot st.settled a st.rec.logged) outside
 
-      in_waiting : (f : Found) → find_waiting st a ≡ f → bytes_at (waiting_place f (home_place a)) st ≡ waits a
-      in_waiting (At i) h =
+      in_waiting : (f : Option ℕ) → find_waiting st a ≡ f → bytes_at (waiting_place f (home_place a)) st ≡ waits a
+      in_waiting (Some i) h =
           sym (ap (λ (q : List Entry). overlay q (block_at st.settled) a) (queue-listed st)
           ∙ overlay_at (listed st.waiting waiting_from) (block_at st.settled) a st.rec.waiting i h ∙ block_part st.waiting (waiting_from + i))
-      in_waiting Absent h =
+      in_waiting None h =
           sym (ap (λ (q : List Entry). overlay q (block_at st.settled) a) (queue-listed st)
           ∙ overlay_absent (listed st.waiting waiting_from) (block_at st.settled) a st.rec.waiting h ∙ cell_part block_bytes st.settled a)
 
-      in_log : (f : Found) → last_slot st.settled a st.rec.logged ≡ f → bytes_at (log_place geo f outside) st ≡ log a
-      in_log (At i) h = sym (overlay_at (slot_entry geo st.settled) waits a st.rec.logged i h ∙ cell_part block_bytes st.settled (slot_at geo i))
-      in_log Absent h = in_waiting (find_waiting st a) refl ∙ sym (overlay_absent (slot_entry geo st.settled) waits a st.rec.logged h)
+      in_log : (f : Option ℕ) → last_slot st.settled a st.rec.logged ≡ f → bytes_at (log_place geo f outside) st ≡ log a
+      in_log (Some i) h = sym (overlay_at (slot_entry geo st.settled) waits a st.rec.logged i h ∙ cell_part block_bytes st.settled (slot_at geo i))
+      in_log None h = in_waiting (find_waiting st a) refl ∙ sym (overlay_absent (slot_entry geo st.settled) waits a st.rec.logged h)
 
-      in_group : (f : Found) → find st.work (group_from geo) st.rec.grouped a ≡ f
+      in_group : (f : Option ℕ) → find st.work (group_from geo) st.rec.grouped a ≡ f
           → bytes_at (group_place geo f logged) st ≡ group a
-      in_group (At i) h = sym (overlay_at (listed st.work (group_from geo)) log a st.rec.grouped i h ∙ block_part st.work (group_from geo + i))
-      in_group Absent h =
+      in_group (Some i) h = sym (overlay_at (listed st.work (group_from geo)) log a st.rec.grouped i h ∙ block_part st.work (group_from geo + i))
+      in_group None h =
           in_log (last_slot st.settled a st.rec.logged) refl ∙ sym (overlay_absent (listed st.work (group_from geo)) log a st.rec.grouped h)
 
-      in_open : (f : Found) → find st.work open_from st.rec.opened a ≡ f
+      in_open : (f : Option ℕ) → find st.work open_from st.rec.opened a ≡ f
           → bytes_at (open_place f (group_place geo (find st.work (group_from geo) st.rec.grouped a) logged)) st
           ≡ overlay (list_of st.work open_from st.rec.opened) group a
-      in_open (At i) h = sym (overlay_at (listed st.work open_from) group a st.rec.opened i h ∙ block_part st.work (open_from + i))
-      in_open Absent h =
+      in_open (Some i) h = sym (overlay_at (listed st.work open_from) group a st.rec.opened i h ∙ block_part st.work (open_from + i))
+      in_open None h =
           in_group (find st.work (group_from geo) st.rec.grouped a) refl ∙ sym (overlay_absent (listed st.work open_from) group a st.rec.opened h)

@@ -1,5 +1,6 @@
 -- What is settled under the log of an open store, and the direct writes that wait: a call keeps both; or a direct write waits behind them; or
 -- what waited has settled, and then what is settled is S.
+use Rattle.std.specs.Prelude.{Option, Some, None}
 use Prim.Native.Nat.{ℕ, ◌≤◌, ◌<◌}
 use mathlib.Core.Path.{◌≡◌, refl, ap, sym, ◌∙◌}
 use mathlib.Core.Logic.{◌≢◌}
@@ -15,8 +16,6 @@ use Rattle.card.specs.Disk.{overlay}
 use Rattle.card.specs.Card.{Card, Order, flush, queue, order, run, block_at}
 use Rattle.card.proofs.Runs.{Whole, NarrowAddress, queue_write, run_live, run-one, writes_settled}
 use Rattle.journal.specs.Geometry.{Geometry}
-use Rattle.journal.specs.declared.lookup.Found.{Found}
-use Rattle.journal.specs.declared.lookup.Found.TheVariants.{At, Absent}
 use Rattle.journal.specs.Layout.{is_data}
 use Rattle.journal.specs.Log.{entries}
 use Rattle.crash.proofs.Batches.{no_queue}
@@ -81,9 +80,9 @@ module _ (geo : Geometry) where
     local_kept (Local.power k) = record { settled = refl; waits = refl; n = refl; N = refl; opened = λ e. e }
     local_kept (Local.put a b) = go (find st.work open_from st.rec.opened a)
       where
-        go : (r : Found) → Keeps st (put_at r (record { address = a; block = b }) st)
-        go (At i) = record { settled = refl; waits = refl; n = refl; N = refl; opened = λ e. e }
-        go Absent = record { settled = refl; waits = refl; n = refl; N = refl; opened = λ e. e }
+        go : (r : Option ℕ) → Keeps st (put_at r (record { address = a; block = b }) st)
+        go (Some i) = record { settled = refl; waits = refl; n = refl; N = refl; opened = λ e. e }
+        go None = record { settled = refl; waits = refl; n = refl; N = refl; opened = λ e. e }
     local_kept (Local.get a) = record { settled = refl; waits = refl; n = refl; N = refl; opened = λ e. e }
     local_kept (Local.get_list xs bs) = record { settled = refl; waits = refl; n = refl; N = refl; opened = λ e. e }
     local_kept Local.commit = record { settled = refl; waits = refl; n = refl; N = refl; opened = λ e. e }

@@ -1,5 +1,6 @@
 -- A call that is no accepted cut, on a record that is not closed, leaves it not closed, and a save number that is one more at most, and the
 -- same if it is the largest: so the largest stays to the end of a list without a cut.
+use Rattle.std.specs.Prelude.{Option, Some, None}
 use Prim.Native.Nat.{ℕ, ◌+◌, ◌≤◌}
 use mathlib.Core.Path.{◌≡◌, refl, ap, sym, ◌∙◌}
 use mathlib.Core.Logic.{◌≢◌}
@@ -12,8 +13,6 @@ use lib.ListN.{length}
 use Rattle.fnv.specs.Fnv.{start}
 use Rattle.card.specs.Card.{Order}
 use Rattle.journal.specs.Geometry.{Geometry}
-use Rattle.journal.specs.declared.lookup.Found.{Found}
-use Rattle.journal.specs.declared.lookup.Found.TheVariants.{At, Absent}
 use Rattle.journal.specs.Header.{most_save}
 use Rattle.store.specs.declared.record.Record.{Record}
 use Rattle.store.specs.Local.{Local}
@@ -64,9 +63,9 @@ module _ (geo : Geometry) (st : State) (z : st.rec.mode ≢ closed) where
   local_goes (Local.power k) = kept _ refl refl
   local_goes (Local.put a b) = go (find st.work open_from st.rec.opened a)
     where
-      go : (r : Found) → Goes st (completed (put_at r (record { address = a; block = b }) st))
-      go (At i) = kept _ refl refl
-      go Absent = kept _ refl refl
+      go : (r : Option ℕ) → Goes st (completed (put_at r (record { address = a; block = b }) st))
+      go (Some i) = kept _ refl refl
+      go None = kept _ refl refl
   local_goes (Local.get a) = kept _ refl refl
   local_goes (Local.get_list xs bs) = kept _ refl refl
   local_goes Local.commit = kept _ refl refl

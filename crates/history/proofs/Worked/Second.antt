@@ -1,4 +1,5 @@
 -- The second save of the worked scripts, from what the first one leaves to the recovery, for each of the cuts.
+use Rattle.std.specs.Prelude.{Option, Some, None}
 use Prim.Native.Nat.{ℕ, ◌+◌}
 use mathlib.Core.Path.{◌≡◌, refl, ap, ap₂, sym, ◌∙◌}
 use mathlib.Core.Bool.{Bool, true, false, cond, not, ◌&&◌}
@@ -17,8 +18,6 @@ use Rattle.card.specs.Marks.{marks_fit, kept_at, all_kept}
 use Rattle.card.proofs.Spreads.{marks_of-all}
 use Rattle.journal.specs.Geometry.{trap}
 use Rattle.journal.specs.Geometry.Laws.{trap-descriptors}
-use Rattle.journal.specs.declared.lookup.Found.{Found}
-use Rattle.journal.specs.declared.lookup.Found.TheVariants.{At, Absent}
 use Rattle.journal.specs.Layout.{descriptor_at}
 use Rattle.crash.proofs.Leads.{found_in, logs_same}
 use Rattle.crash.proofs.Logs.{slot_e, log_d}
@@ -65,9 +64,9 @@ put_settled a b st = unless_settled (cause trap (Request.put a b) st) st (put_at
     e : Entry
     e = record { address = a; block = b }
 
-    go : (f : Found) → (put_at f e st).settled ≡ st.settled
-    go (At i) = refl
-    go Absent = refl
+    go : (f : Option ℕ) → (put_at f e st).settled ≡ st.settled
+    go (Some i) = refl
+    go None = refl
 
 pub commit_settled : (st : State) → (dispatch trap commit st).state.settled ≡ st.settled
 unfolding called

@@ -14,14 +14,14 @@ returns-then-same c =
     let g = c.args in
     home_same trap g.a.now g.b.now g.n g.x c.requires.n_value (sym (homes) ∙ c.if-same.true)
 
-pub returns-in-At : goal.returns-in-At
-returns-in-At c =
+pub returns-in-Some : goal.returns-in-Some
+returns-in-Some c =
     let g = c.args in
-    logged_same trap g.a.now g.b.now g.n g.x c.requires.n_value _ (sym c.last_slot.ensures ∙ c.in-At.is)
+    logged_same trap g.a.now g.b.now g.n g.x c.requires.n_value _ (sym c.last_slot.ensures ∙ c.in-Some.is)
 
-pub returns-in-Absent : goal.returns-in-Absent
-returns-in-Absent c =
+pub returns-in-None : goal.returns-in-None
+returns-in-None c =
     let g = c.args in
     let homes : c.same.result ≡ same (block_at g.a.now g.x) (block_at g.b.now g.x) =
     c.same.ensures ∙ ap₂ same (block_read c.read.result g.a g.x c.read.ensures) (block_read c.read-2.result g.b g.x c.read-2.ensures) in
-    home_unlike trap g.a.now g.b.now g.n g.x c.requires.n_value (sym c.last_slot.ensures ∙ c.in-Absent.is) (sym homes ∙ c.if-same.false)
+    home_unlike trap g.a.now g.b.now g.n g.x c.requires.n_value (sym c.last_slot.ensures ∙ c.in-None.is) (sym homes ∙ c.if-same.false)

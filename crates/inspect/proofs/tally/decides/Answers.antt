@@ -12,4 +12,4 @@ returns-in_default c =
 pub returns : goal.returns
 returns c =
     let a = c.args in
-    found_decides trap a.settled.now a.blocks a.n a.i _ _ _ c.slot_address-a.ensures (sym c.last_slot.ensures ∙ c.in-At.is) c.is_data.ensures
+    found_decides trap a.settled.now a.blocks a.n a.i _ _ _ c.slot_address-a.ensures (sym c.last_slot.ensures ∙ c.in-Some.is) c.is_data.ensures

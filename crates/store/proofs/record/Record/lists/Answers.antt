@@ -40,5 +40,5 @@ pub returns : goal.returns
 unfolding trap
 returns c =
     let in_log : Bool = is_found (last_slot c.args.settled.now c.args.address c.args.self.logged) in
-    let found : in_log ≡ true = ap is_found (sym c.last_slot.ensures ∙ c.in-At.is) in
+    let found : in_log ≡ true = ap is_found (sym c.last_slot.ensures ∙ c.in-Some.is) in
     rw (found, or-true)

@@ -1,4 +1,5 @@
 -- `store::record::Record::put` meets its contract.
+use Rattle.std.specs.Prelude.{Option, None}
 use Prim.Native.Nat.{ℕ, ◌<◌}
 use mathlib.Core.Path.{◌≡◌, refl, ap, ◌∙◌}
 use mathlib.Core.Bool.{false, not, ◌&&◌}
@@ -6,8 +7,6 @@ use native.Mathlib.Omega.{arith}
 use borrow.Author.Tests.{eqb-true, leb-false, not-false}
 use lib.Dec.{leb}
 use Rattle.journal.specs.Geometry.{trap}
-use Rattle.journal.specs.declared.lookup.Found.{Found}
-use Rattle.journal.specs.declared.lookup.Found.TheVariants.{Absent}
 use Rattle.store.specs.CodeState.{state_of}
 use Rattle.store.specs.Lists.{open_from, find}
 use Rattle.store.specs.Request.{put}
@@ -19,7 +18,7 @@ use Rattle.store.proofs.Causes.{cause_passes, passes_sound}
 use Rattle.store.proofs.record.Record.put.Goals as goal
 
 -- a new address has room
-room_put : (f : Found) (n : ℕ) → not (is_found f) && leb trap.slots n ≡ false → f ≡ Absent → n < trap.slots
+room_put : (f : Option ℕ) (n : ℕ) → not (is_found f) && leb trap.slots n ≡ false → f ≡ None → n < trap.slots
 room_put f n e absent = leb-false _ _ (rw absent at e)
 
 pub returns-then-number-ne0 : goal.returns-then-number-ne0
