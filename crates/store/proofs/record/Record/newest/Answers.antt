@@ -1,5 +1,5 @@
 -- `store::record::Record::newest` meets its contract.
-use Rattle.std.specs.Prelude.{Option, Some, None}
+use Rattle.std.specs.Prelude.{Option, Some, None, ℕ}
 use mathlib.Core.Path.{◌≡◌, sym, ◌∙◌}
 use native.Mathlib.Omega.{arith}
 use Rattle.journal.specs.Geometry.{trap}
