@@ -1,0 +1,2 @@
+-- The numbers of the causes.
+pub mod Numbers
