@@ -1,12 +1,17 @@
 -- The state and the outcome of a call as the code holds them: the record by value, three lent buffers.
-use Rattle.std.specs.Prelude.{ℕ, ◌+◌, ◌*◌, ◌/◌, ◌%◌, ◌≤◌, ◌<◌, ◌≡◌, List, length}
+use Rattle.std.specs.Prelude.{ℕ, Result, Ok, Err, ◌+◌, ◌*◌, ◌/◌, ◌%◌, ◌≤◌, ◌<◌, ◌≡◌, List, length}
 use Rattle.cells.specs.Entry.{block_bytes, entry_bytes}
 use Rattle.fnv.specs.Fnv.{start}
+use Rattle.refusals.specs.Numbers.{number_of}
+use Rattle.refusals.specs.declared.Refusal.{Refusal}
 use Rattle.card.specs.Card.{blocks_in}
 use Rattle.journal.specs.Layout.{most_blocks}
 use Rattle.store.specs.declared.place.Place.{Place}
 use Rattle.store.specs.declared.place.Place.TheVariants.{Settled, Waiting, Work, Nowhere}
 use Rattle.store.specs.declared.record.Record.{Record}
+use Rattle.store.specs.declared.saved.Saved.{Saved}
+use Rattle.store.specs.declared.saved.Stopped.{Stopped}
+use Rattle.store.specs.declared.saved.Stopped.TheVariants.{Refused, PowerLost}
 use Rattle.store.specs.State.{State, Outcome, open_mode}
 
 abbrev pub state_of : Record → List ℕ → List ℕ → List ℕ → State
@@ -19,6 +24,17 @@ fresh N = record { mode = open_mode; blocks = N; opened = 0; grouped = 0; logged
 -- the number, the orders carried out, the record and the buffers after the call
 abbrev pub outcome_of : ℕ → ℕ → Record → List ℕ → List ℕ → List ℕ → Outcome
 outcome_of number orders r settled waiting work = record { answer = number; orders = orders; state = state_of r settled waiting work }
+
+-- a call that gives no orders: the record that it hands back; or the number that refuses it, and the record as it was
+abbrev pub answered : Result Record Refusal → Record → List ℕ → List ℕ → List ℕ → Outcome
+answered (Ok r) before settled waiting work = outcome_of 0 0 r settled waiting work
+answered (Err refusal) before settled waiting work = outcome_of (number_of refusal) 0 before settled waiting work
+
+-- a call that gives orders; 4 where its power was gone before the last of them
+abbrev pub saved_as : Result Saved Stopped → Record → List ℕ → List ℕ → List ℕ → Outcome
+saved_as (Ok s) before settled waiting work = outcome_of 0 s.orders s.rec settled waiting work
+saved_as (Err (Refused refusal)) before settled waiting work = outcome_of (number_of refusal) 0 before settled waiting work
+saved_as (Err (PowerLost s)) before settled waiting work = outcome_of 4 s.orders s.rec settled waiting work
 
 -- a place that holds a whole block: one of the settled blocks, or that of an entry in the waiting bytes or in work memory
 abbrev pub HoldsBlock : Place → List ℕ → List ℕ → List ℕ → Type 0

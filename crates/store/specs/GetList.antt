@@ -1,9 +1,10 @@
 -- W-207: "One call takes a lent list of 0 to 32 addresses, 4 bytes each, repeats allowed, and a lent buffer of 512 bytes for each, and
 -- fills it in the order listed."
-use Rattle.std.specs.Prelude.{ℕ, cond, List, [], eqb, length}
+use Rattle.std.specs.Prelude.{ℕ, Result, Ok, Err, cond, List, [], eqb, length}
 use Rattle.cells.specs.Upto.{joined}
 use Rattle.journal.specs.Geometry.{Geometry}
 use Rattle.journal.specs.Wanted.{wanted_count, wanted_at, walked}
+use Rattle.refusals.specs.declared.Refusal.{Refusal}
 use Rattle.store.specs.State.{State}
 use Rattle.store.specs.Request.{get_list}
 use Rattle.store.specs.Causes.{cause}
@@ -14,6 +15,11 @@ pub record Listing : Type 0 where
   pub number : ℕ
   pub slots : ℕ
   pub blocks : List ℕ
+
+-- the slots that a call read: a refusal reads none
+abbrev pub slots_read : Result ℕ Refusal → ℕ
+slots_read (Ok n) = n
+slots_read (Err refusal) = 0
 
 abbrev pub listing_of : ℕ → ℕ → List ℕ → Listing
 listing_of number slots blocks = record { number = number; slots = slots; blocks = blocks }

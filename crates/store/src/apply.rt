@@ -5,22 +5,24 @@ ghost use Rattle.card.specs.CodeQueue.{Below};
 ghost use Rattle.journal.specs.Geometry.{trap};
 ghost use Rattle.journal.specs.Layout.{first_data};
 ghost use Rattle.journal.specs.Log.{slot_address};
-ghost use Rattle.store.specs.CodeState.{state_of, outcome_of};
+ghost use Rattle.store.specs.CodeState.{state_of, saved_as};
 ghost use Rattle.store.specs.Causes.{waiting_bytes};
 ghost use Rattle.store.specs.Saves.{emptying, apply_call};
 
 use crate::record::Record;
-use crate::saved::Saved;
+use crate::saved::{Saved, Stopped};
 use journal::checkpoint::checkpoint;
 
 impl Record {
-    pub fn apply(self, settled: &mut [u8], waiting: &mut [u8], work: &[u8]) -> Saved
-        ensures { outcome_of result.number result.orders result.rec settled.new waiting.new work.now ≡ apply_call trap (state_of self settled.old waiting.old work.now) }
+    pub fn apply(
+        self,
+        settled: &mut [u8],
+        waiting: &mut [u8],
+        work: &[u8],
+    ) -> Result<Saved, Stopped>
+        ensures { saved_as result self settled.new waiting.new work.now ≡ apply_call trap (state_of self settled.old waiting.old work.now) }
     {
-        let number = self.not_open(settled, waiting, work);
-        if number != 0 {
-            return self.refused(number);
-        }
+        self.check_open(settled, waiting, work)?;
         if self.logged == 0 {
             return self.saved(self);
         }

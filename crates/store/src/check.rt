@@ -4,6 +4,7 @@ ghost use Rattle.cells.specs.Entry.{entry_bytes};
 ghost use Rattle.card.specs.Card.{blocks_in};
 ghost use Rattle.journal.specs.Geometry.{trap};
 ghost use Rattle.journal.specs.Layout.{first_data};
+ghost use Rattle.refusals.specs.Numbers.{answer};
 ghost use Rattle.store.specs.declared.record.Record as Declared;
 ghost use Rattle.store.specs.CodeState.{state_of};
 ghost use Rattle.store.specs.Request as Request;
@@ -18,6 +19,7 @@ use card::settled::blocks_in;
 use journal::log::{all_data, is_data};
 use journal::size::wrong_size;
 use journal::{DIRECT, PLACES, SLOTS};
+use refusals::Refusal;
 
 // The buckets that addresses fall into, by their low bits.
 const BUCKETS: usize = 128;
@@ -26,13 +28,7 @@ const BUCKETS: usize = 128;
 pub(crate) fn wrong_sizes(settled: &[u8], waiting: &[u8], work: &[u8]) -> bool
     ensures { (q : Declared.Record) → result ≡ Causes.wrong_sizes trap (state_of q settled.now waiting.now work.now) }
 {
-    if wrong_size(settled) {
-        return true;
-    }
-    if waiting.len() != WAITING {
-        return true;
-    }
-    work.len() != WORK
+    wrong_size(settled) || waiting.len() != WAITING || work.len() != WORK
 }
 
 // Row 2, a list in work memory: an address that is not that of a data block.
@@ -40,14 +36,7 @@ fn strays(work: &[u8], blocks: u32, from: usize, n: u32) -> bool
     requires { entry_bytes * (from + n) ≤ length work.now }
     ensures { result ≡ Causes.strays trap work.now blocks from n }
 {
-    let mut i = 0;
-    while i < n {
-        if !is_data(blocks, address(work, from, i)) {
-            return true;
-        }
-        i += 1;
-    }
-    false
+    (0..n).any(|i| !is_data(blocks, address(work, from, i)))
 }
 
 // Whether its first i have the address a; none has where none of them was seen in its bucket.
@@ -55,10 +44,7 @@ fn met(seen: u8, work: &[u8], from: usize, i: u32, a: u32) -> bool
     requires { entry_bytes * (from + i) ≤ length work.now }
     ensures { result ≡ cond (eqb seen 0) false (is_found (Lists.find work.now from i a)) }
 {
-    if seen == 0 {
-        return false;
-    }
-    holds(work, from, i, a)
+    seen != 0 && holds(work, from, i, a)
 }
 
 // Row 2, a list in work memory: an address twice. Each address marks its bucket; only where that is marked is the list searched.
@@ -71,15 +57,13 @@ fn twice(work: &[u8], from: usize, n: u32) -> bool
         return false;
     }
     let mut seen = [0u8; BUCKETS];
-    let mut i = 0;
-    while i < n {
+    for i in 0..n {
         let a = address(work, from, i);
         let bucket = a as usize % BUCKETS;
         if met(seen[bucket], work, from, i, a) {
             return true;
         }
         seen[bucket] = 1;
-        i += 1;
     }
     false
 }
@@ -89,35 +73,23 @@ impl Record {
     fn most_waiting(self) -> usize
         ensures { result ≡ Causes.most_waiting trap self.mode }
     {
-        if self.mode == CLOSED {
-            return 0;
+        match self.mode {
+            CLOSED => 0,
+            OPEN_MODE => DIRECT as usize,
+            _ => PLACES,
         }
-        if self.mode == OPEN_MODE {
-            return DIRECT as usize;
-        }
-        PLACES
     }
 
     // Row 2: the mode, the counts, and N.
     fn wrong_counts(self, settled: &[u8]) -> bool
         ensures { (w k : List ℕ) → result ≡ Causes.wrong_counts trap (state_of self settled.now w k) }
     {
-        if DOWN < self.mode {
-            return true;
-        }
-        if SLOTS < self.opened {
-            return true;
-        }
-        if SLOTS < self.grouped {
-            return true;
-        }
-        if SLOTS < self.logged {
-            return true;
-        }
-        if self.most_waiting() < self.waiting as usize {
-            return true;
-        }
-        self.blocks as usize != blocks_in(settled)
+        DOWN < self.mode
+            || SLOTS < self.opened
+            || SLOTS < self.grouped
+            || SLOTS < self.logged
+            || self.most_waiting() < self.waiting as usize
+            || self.blocks as usize != blocks_in(settled)
     }
 
     // Row 2: a waiting address not below N.
@@ -125,15 +97,7 @@ impl Record {
         requires { entry_bytes * self.waiting ≤ length waiting.now }
         ensures { (s k : List ℕ) → result ≡ Causes.wrong_waiting (state_of self s waiting.now k) }
     {
-        let n = self.waiting as usize;
-        let mut i = 0;
-        while i < n {
-            if self.blocks <= card::queue::address(waiting, i) {
-                return true;
-            }
-            i += 1;
-        }
-        false
+        (0..self.waiting as usize).any(|i| self.blocks <= card::queue::address(waiting, i))
     }
 
     // Row 2: open, group and log, read when open.
@@ -143,57 +107,48 @@ impl Record {
         requires opened_le_slots { (self.opened ≤ trap.slots) × (self.grouped ≤ trap.slots) × (self.logged ≤ trap.slots) }
         ensures { (w : List ℕ) → result ≡ Causes.wrong_lists trap (state_of self settled.now w work.now) }
     {
-        if strays(work, self.blocks, OPEN, self.opened) {
-            return true;
-        }
-        if strays(work, self.blocks, GROUP, self.grouped) {
-            return true;
-        }
-        if !all_data(settled, self.blocks, self.logged) {
-            return true;
-        }
-        if twice(work, OPEN, self.opened) {
-            return true;
-        }
-        twice(work, GROUP, self.grouped)
+        strays(work, self.blocks, OPEN, self.opened)
+            || strays(work, self.blocks, GROUP, self.grouped)
+            || !all_data(settled, self.blocks, self.logged)
+            || twice(work, OPEN, self.opened)
+            || twice(work, GROUP, self.grouped)
     }
 
     // Rows 1 and 2, which are all that power has.
-    pub(crate) fn bad_record(self, settled: &[u8], waiting: &[u8], work: &[u8]) -> u32
-        ensures { result ≡ cause trap (Request.power 0) (state_of self settled.now waiting.now work.now) }
+    pub(crate) fn check_record(
+        self,
+        settled: &[u8],
+        waiting: &[u8],
+        work: &[u8],
+    ) -> Result<(), Refusal>
+        ensures { answer result ≡ cause trap (Request.power 0) (state_of self settled.now waiting.now work.now) }
     {
         if wrong_sizes(settled, waiting, work) {
-            return 1;
+            return Err(Refusal::Size);
         }
-        if self.wrong_counts(settled) {
-            return 2;
+        if self.wrong_counts(settled) || self.wrong_waiting(waiting) {
+            return Err(Refusal::Record);
         }
-        if self.wrong_waiting(waiting) {
-            return 2;
+        if self.mode == OPEN_MODE && self.wrong_lists(settled, work) {
+            return Err(Refusal::Record);
         }
-        if self.mode != OPEN_MODE {
-            return 0;
-        }
-        if self.wrong_lists(settled, work) {
-            return 2;
-        }
-        0
+        Ok(())
     }
 
     // Rows 1 to 4, which are all that abandon has.
-    pub(crate) fn not_open(self, settled: &[u8], waiting: &[u8], work: &[u8]) -> u32
-        ensures { result ≡ cause trap Request.abandon (state_of self settled.now waiting.now work.now) }
+    pub(crate) fn check_open(
+        self,
+        settled: &[u8],
+        waiting: &[u8],
+        work: &[u8],
+    ) -> Result<(), Refusal>
+        ensures { answer result ≡ cause trap Request.abandon (state_of self settled.now waiting.now work.now) }
     {
-        let number = self.bad_record(settled, waiting, work);
-        if number != 0 {
-            return number;
+        self.check_record(settled, waiting, work)?;
+        match self.mode {
+            CLOSED => Err(Refusal::Closed),
+            DOWN => Err(Refusal::Down),
+            _ => Ok(()),
         }
-        if self.mode == CLOSED {
-            return 3;
-        }
-        if self.mode == DOWN {
-            return 4;
-        }
-        0
     }
 }

@@ -1,7 +1,7 @@
 // commit: each open entry, in turn, replaces or joins the group; open becomes empty.
 ghost use Rattle.std.specs.Prelude.{◌≡◌, ◌+◌, ◌≤◌, ◌<◌, length};
 ghost use Rattle.journal.specs.Geometry.{trap};
-ghost use Rattle.store.specs.CodeState.{state_of, outcome_of};
+ghost use Rattle.store.specs.CodeState.{state_of, answered};
 ghost use Rattle.store.specs.Lists as Lists;
 ghost use Rattle.store.specs.Lists.{open_from, group_from, listed};
 ghost use Rattle.store.specs.Causes as Causes;
@@ -10,18 +10,21 @@ ghost use Rattle.store.specs.Commit as Commit;
 ghost use Rattle.store.specs.Commit.{joined, commit_call};
 
 use crate::lists::{GROUP, OPEN, address, copy_entry, find};
-use crate::record::{Answer, Record};
+use crate::record::Record;
+use refusals::Refusal;
 
 impl Record {
-    pub fn commit(self, settled: &[u8], waiting: &[u8], work: &mut [u8]) -> Answer
-        ensures { outcome_of result.number 0 result.rec settled.now waiting.now work.new ≡ commit_call trap (state_of self settled.now waiting.now work.old) }
+    pub fn commit(
+        self,
+        settled: &[u8],
+        waiting: &[u8],
+        work: &mut [u8],
+    ) -> Result<Record, Refusal>
+        ensures { answered result self settled.now waiting.now work.new ≡ commit_call trap (state_of self settled.now waiting.now work.old) }
     {
-        let number = self.commit_number(settled, waiting, work);
-        if number != 0 {
-            return self.answer(number);
-        }
+        self.check_commit(settled, waiting, work)?;
         let grouped = join_all(work, self.grouped, self.opened);
-        self.with_grouped(grouped).with_opened(0).answer(0)
+        Ok(self.with_grouped(grouped).with_opened(0))
     }
 }
 
@@ -32,10 +35,8 @@ fn join_all(work: &mut [u8], g: u32, n: u32) -> u32
     ensures { ◌≡◌ {A = Commit.Group} (record { work = work.exit.now; count = result }) (joined trap n (record { work = work.entry.now; count = g })) }
 {
     let mut count = g;
-    let mut i = 0;
-    while i < n {
+    for i in 0..n {
         count = join(work, count, i);
-        i += 1;
     }
     count
 }

@@ -6,7 +6,8 @@ ghost use Rattle.card.specs.CodeQueue.{Below};
 ghost use Rattle.journal.specs.Geometry.{trap};
 ghost use Rattle.journal.specs.Layout.{first_data};
 ghost use Rattle.journal.specs.Lookup.{last_slot};
-ghost use Rattle.store.specs.CodeState.{state_of, outcome_of};
+ghost use Rattle.refusals.specs.Numbers.{answer};
+ghost use Rattle.store.specs.CodeState.{state_of, saved_as};
 ghost use Rattle.store.specs.Lists as Lists;
 ghost use Rattle.store.specs.Lists.{open_from, group_from};
 ghost use Rattle.store.specs.Request as Request;
@@ -15,11 +16,12 @@ ghost use Rattle.store.specs.Direct.{directing, direct_call};
 
 use crate::lists::{GROUP, OPEN, holds};
 use crate::record::Record;
-use crate::saved::Saved;
+use crate::saved::{Saved, Stopped};
 use cells::BLOCK;
 use journal::DIRECT;
 use journal::log::is_data;
 use journal::lookup::last_slot;
+use refusals::Refusal;
 
 impl Record {
     pub fn direct(
@@ -29,41 +31,35 @@ impl Record {
         work: &[u8],
         address: u32,
         block: &[u8],
-    ) -> Saved
-        ensures { outcome_of result.number result.orders result.rec settled.new waiting.new work.now ≡ direct_call trap address block.now (state_of self settled.old waiting.old work.now) }
+    ) -> Result<Saved, Stopped>
+        ensures { saved_as result self settled.new waiting.new work.now ≡ direct_call trap address block.now (state_of self settled.old waiting.old work.now) }
     {
-        let refusal = self.direct_number(settled, waiting, work, address, block);
-        if refusal != 0 {
-            return self.refused(refusal);
-        }
+        self.check_direct(settled, waiting, work, address, block)?;
         self.saved(self.written(settled, waiting, address, block))
     }
 
     // Its cause.
-    fn direct_number(
+    fn check_direct(
         self,
         settled: &[u8],
         waiting: &[u8],
         work: &[u8],
         address: u32,
         block: &[u8],
-    ) -> u32
-        ensures { result ≡ cause trap (Request.direct address block.now) (state_of self settled.now waiting.now work.now) }
+    ) -> Result<(), Refusal>
+        ensures { answer result ≡ cause trap (Request.direct address block.now) (state_of self settled.now waiting.now work.now) }
     {
         if block.len() != BLOCK {
-            return 1;
+            return Err(Refusal::Size);
         }
-        let number = self.not_open(settled, waiting, work);
-        if number != 0 {
-            return number;
-        }
+        self.check_open(settled, waiting, work)?;
         if !is_data(self.blocks, address) {
-            return 6;
+            return Err(Refusal::Address);
         }
         if self.lists(settled, work, address) {
-            return 14;
+            return Err(Refusal::Listed);
         }
-        0
+        Ok(())
     }
 
     // Row 14: open, group or log has the address.
@@ -73,16 +69,9 @@ impl Record {
         requires opened_le_slots { (self.opened ≤ trap.slots) × (self.grouped ≤ trap.slots) × (self.logged ≤ trap.slots) }
         ensures { result ≡ is_found (Lists.find work.now open_from self.opened address) || is_found (Lists.find work.now (group_from trap) self.grouped address) || is_found (last_slot settled.now address self.logged) }
     {
-        if holds(work, OPEN, self.opened, address) {
-            return true;
-        }
-        if holds(work, GROUP, self.grouped, address) {
-            return true;
-        }
-        let Some(_) = last_slot(settled, address, self.logged) else {
-            return false;
-        };
-        true
+        holds(work, OPEN, self.opened, address)
+            || holds(work, GROUP, self.grouped, address)
+            || last_slot(settled, address, self.logged).is_some()
     }
 
     // Its orders: the write; with as many waiting as may, a flush first.

@@ -6,31 +6,34 @@ ghost use Rattle.card.specs.Card.{blocks_in};
 ghost use Rattle.journal.specs.Geometry.{trap};
 ghost use Rattle.journal.specs.Layout.{header_at};
 ghost use Rattle.journal.specs.Header.{encode, empty_header};
-ghost use Rattle.store.specs.CodeState.{state_of, outcome_of};
+ghost use Rattle.store.specs.CodeState.{state_of, answered};
 ghost use Rattle.store.specs.Format.{format_call};
 
-use crate::record::{Answer, Record};
-use crate::refusals::format_number;
+use crate::record::Record;
+use crate::refusals::check_format;
 use card::settled::{blocks_in, settle, wipe};
 use cells::BLOCK;
 use cells::bytes::zero;
 use journal::HEADER_AT;
 use journal::header::Header;
+use refusals::Refusal;
 
 impl Record {
     // format: zeros everywhere, an empty log's header, and a fresh record; 13 for a card in use. What the old record holds plays no part.
-    pub fn format(self, settled: &mut [u8], waiting: &mut [u8], work: &mut [u8]) -> Answer
-        ensures { outcome_of result.number 0 result.rec settled.new waiting.new work.new ≡ format_call trap (state_of self settled.old waiting.old work.old) }
+    pub fn format(
+        self,
+        settled: &mut [u8],
+        waiting: &mut [u8],
+        work: &mut [u8],
+    ) -> Result<Record, Refusal>
+        ensures { answered result self settled.new waiting.new work.new ≡ format_call trap (state_of self settled.old waiting.old work.old) }
     {
-        let number = format_number(settled, waiting, work);
-        if number != 0 {
-            return self.answer(number);
-        }
+        check_format(settled, waiting, work)?;
         let blocks = blocks_in(settled) as u32;
         wipe(settled, waiting);
         settle_header(settled, blocks);
         zero(work);
-        Record::fresh(blocks).answer(0)
+        Ok(Record::fresh(blocks))
     }
 }
 

@@ -5,6 +5,7 @@ ghost use Rattle.cells.specs.Part.{view_of};
 ghost use Rattle.card.specs.Card.{blocks_in};
 ghost use Rattle.journal.specs.Geometry.{trap};
 ghost use Rattle.journal.specs.Layout.{first_data};
+ghost use Rattle.refusals.specs.Numbers.{answer};
 ghost use Rattle.store.specs.CodeState.{state_of, HoldsBlock};
 ghost use Rattle.store.specs.Request as Request;
 ghost use Rattle.store.specs.Causes.{cause, work_bytes};
@@ -19,27 +20,31 @@ use cells::{BLOCK, ENTRY, entry};
 use journal::FIRST_SLOT;
 use journal::log::is_data;
 use journal::lookup::last_slot;
+use refusals::Refusal;
 
 impl Record {
-    // The number of a get with the same inputs.
-    pub fn get_number(self, settled: &[u8], waiting: &[u8], work: &[u8], address: u32) -> u32
-        ensures { result ≡ cause trap (Request.get address) (state_of self settled.now waiting.now work.now) }
+    // The cause of a get with the same inputs.
+    pub fn check_get(
+        self,
+        settled: &[u8],
+        waiting: &[u8],
+        work: &[u8],
+        address: u32,
+    ) -> Result<(), Refusal>
+        ensures { answer result ≡ cause trap (Request.get address) (state_of self settled.now waiting.now work.now) }
     {
-        let number = self.not_open(settled, waiting, work);
-        if number != 0 {
-            return number;
+        self.check_open(settled, waiting, work)?;
+        if !is_data(self.blocks, address) {
+            return Err(Refusal::Address);
         }
-        if is_data(self.blocks, address) {
-            return 0;
-        }
-        6
+        Ok(())
     }
 
     // Where a get finds its block.
     pub fn get_place(self, settled: &[u8], waiting: &[u8], work: &[u8], address: u32) -> Place
         ensures { result ≡ get_place trap address (state_of self settled.now waiting.now work.now) }
     {
-        if self.get_number(settled, waiting, work, address) != 0 {
+        if self.check_get(settled, waiting, work, address).is_err() {
             return Place::Nowhere;
         }
         self.newest(settled, waiting, work, address)

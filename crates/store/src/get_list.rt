@@ -7,13 +7,14 @@ ghost use Rattle.journal.specs.Geometry.{trap};
 ghost use Rattle.journal.specs.Layout.{first_data, is_data};
 ghost use Rattle.journal.specs.Wanted.{wanted_count, wanted_at, walked};
 ghost use Rattle.journal.specs.CodeWanted.{numbered, buckets, Chained, Met};
+ghost use Rattle.refusals.specs.Numbers.{answer};
 ghost use Rattle.store.specs.declared.record.Record as Held;
 ghost use Rattle.store.specs.CodeState.{state_of};
 ghost use Rattle.store.specs.Lists.{open_from, group_from, addresses_of};
 ghost use Rattle.store.specs.Request as Request;
 ghost use Rattle.store.specs.Causes.{cause, some, work_bytes, most_wanted, wrong_list};
 ghost use Rattle.store.specs.Get.{waiting_from, home_place, waiting_place, log_place, group_place, open_place, bytes_at};
-ghost use Rattle.store.specs.GetList.{Listing, newest_blocks, listing};
+ghost use Rattle.store.specs.GetList.{Listing, slots_read, newest_blocks, listing};
 
 use crate::lists::{GROUP, OPEN, WAITING_FROM, look};
 use crate::record::Record;
@@ -22,44 +23,23 @@ use cells::bytes::copy;
 use cells::{ADDRESS, BLOCK, entry};
 use journal::log::{is_data, slot_block};
 use journal::wanted::{BUCKETS, chain, count, walk, wanted};
+use refusals::Refusal;
 
 // The most addresses of a list.
 const MOST_WANTED: usize = 32;
-
-// What a list is answered: the number, and the slots read.
-#[derive(Clone, Copy)]
-pub struct Listed {
-    pub number: u32,
-    pub slots: u32,
-}
 
 // Row 1: a list that is no list of addresses, of too many, or a buffer that is not 512 bytes for each.
 fn wrong_list(list: &[u8], blocks: &[u8]) -> bool
     ensures { result ≡ wrong_list list.now blocks.now }
 {
-    if list.len() % ADDRESS != 0 {
-        return true;
-    }
-    let n = count(list);
-    if MOST_WANTED < n {
-        return true;
-    }
-    blocks.len() != BLOCK * n
+    list.len() % ADDRESS != 0 || MOST_WANTED < count(list) || blocks.len() != BLOCK * count(list)
 }
 
 // Row 6: any address that is not that of a data block, on a card of so many blocks.
 fn stray(list: &[u8], size: u32) -> bool
     ensures { result ≡ some (λ i. not (is_data trap size (wanted_at list.now i))) (wanted_count list.now) }
 {
-    let n = count(list);
-    let mut i = 0;
-    while i < n {
-        if !is_data(size, wanted(list, i)) {
-            return true;
-        }
-        i += 1;
-    }
-    false
+    (0..count(list)).any(|i| !is_data(size, wanted(list, i)))
 }
 
 // Copies the block of an address outside open, group and log: where it was met among the waiting writes, as a number above 0; else from
@@ -138,9 +118,7 @@ impl Record {
         requires by_index { (i : ℕ) → i < wanted_count list.now → wanted_at list.now i < blocks_in settled.now }
         ensures { blocks.new ≡ newest_blocks trap list.now (state_of self settled.now waiting.now work.now) }
     {
-        let n = count(list);
-        let mut i = 0;
-        while i < n {
+        for i in 0..count(list) {
             let at = BLOCK * i;
             copy_newest(
                 settled,
@@ -153,7 +131,6 @@ impl Record {
                 wanted(list, i),
                 &mut blocks[at..at + BLOCK],
             );
-            i += 1;
         }
     }
 
@@ -214,30 +191,27 @@ impl Record {
     }
 
     // The cause of a list.
-    fn list_number(
+    fn check_list(
         self,
         settled: &[u8],
         waiting: &[u8],
         work: &[u8],
         list: &[u8],
         blocks: &[u8],
-    ) -> u32
-        ensures { result ≡ cause trap (Request.get_list list.now blocks.now) (state_of self settled.now waiting.now work.now) }
+    ) -> Result<(), Refusal>
+        ensures { answer result ≡ cause trap (Request.get_list list.now blocks.now) (state_of self settled.now waiting.now work.now) }
     {
         if wrong_list(list, blocks) {
-            return 1;
+            return Err(Refusal::Size);
         }
-        let number = self.not_open(settled, waiting, work);
-        if number != 0 {
-            return number;
-        }
+        self.check_open(settled, waiting, work)?;
         if stray(list, self.blocks) {
-            return 6;
+            return Err(Refusal::Address);
         }
-        0
+        Ok(())
     }
 
-    // get_list: every block of the list, or nothing where it is refused.
+    // get_list: every block of the list, or nothing where it is refused. How many slots were read.
     pub fn get_list(
         self,
         settled: &[u8],
@@ -245,23 +219,13 @@ impl Record {
         work: &[u8],
         list: &[u8],
         blocks: &mut [u8],
-    ) -> Listed
-        ensures { ◌≡◌ {A = Listing} (record { number = result.number; slots = result.slots; blocks = blocks.new }) (listing trap list.now blocks.old (state_of self settled.now waiting.now work.now)) }
+    ) -> Result<u32, Refusal>
+        ensures { ◌≡◌ {A = Listing} (record { number = answer result; slots = slots_read result; blocks = blocks.new }) (listing trap list.now blocks.old (state_of self settled.now waiting.now work.now)) }
     {
-        let refusal = self.list_number(settled, waiting, work, list, blocks);
-        if refusal != 0 {
-            return Listed {
-                number: refusal,
-                slots: 0,
-            };
-        }
+        self.check_list(settled, waiting, work, list, blocks)?;
         if count(list) == 0 {
-            return Listed {
-                number: 0,
-                slots: 0,
-            };
+            return Ok(0);
         }
-        let slots = self.show(settled, waiting, work, list, blocks);
-        Listed { number: 0, slots }
+        Ok(self.show(settled, waiting, work, list, blocks))
     }
 }

@@ -42,14 +42,7 @@ pub(crate) fn find(work: &[u8], from: usize, n: u32, a: u32) -> Option<u32>
     requires { entry_bytes * (from + n) ≤ length work.now }
     ensures { result ≡ Lists.find work.now from n a }
 {
-    let mut i = n;
-    while 0 < i {
-        i -= 1;
-        if address(work, from, i) == a {
-            return Some(i);
-        }
-    }
-    None
+    (0..n).rev().find(|&i| address(work, from, i) == a)
 }
 
 // Whether its first n have the address a.
@@ -57,10 +50,7 @@ pub(crate) fn holds(work: &[u8], from: usize, n: u32, a: u32) -> bool
     requires { entry_bytes * (from + n) ≤ length work.now }
     ensures { result ≡ is_found (Lists.find work.now from n a) }
 {
-    let Some(_) = find(work, from, n, a) else {
-        return false;
-    };
-    true
+    find(work, from, n, a).is_some()
 }
 
 // Looks for wanted addresses among its first n, as the walk of the descriptor does in the log.
@@ -81,10 +71,8 @@ pub(crate) fn look(
     requires met { Met list.now [] met.old }
     ensures { Met list.now (addresses_of work.now from n) met.new }
 {
-    let mut i = 0;
-    while i < n {
+    for i in 0..n {
         mark(list, last, before, i, address(work, from, i), met);
-        i += 1;
     }
 }
 

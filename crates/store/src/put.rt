@@ -2,14 +2,15 @@
 ghost use Rattle.std.specs.Prelude.{◌≡◌, List, ℕ, ◌*◌, ◌≤◌, ◌<◌, length};
 ghost use Rattle.cells.specs.Entry.{block_bytes, entry_bytes};
 ghost use Rattle.journal.specs.Geometry.{trap};
-ghost use Rattle.store.specs.CodeState.{state_of, outcome_of};
+ghost use Rattle.store.specs.CodeState.{state_of, answered};
 ghost use Rattle.store.specs.Lists as Lists;
 ghost use Rattle.store.specs.Lists.{open_from};
 ghost use Rattle.store.specs.Put.{put_at, put_call};
 
 use crate::lists::{OPEN, find};
-use crate::record::{Answer, Record};
+use crate::record::Record;
 use cells::entry;
+use refusals::Refusal;
 
 impl Record {
     pub fn put(
@@ -19,14 +20,11 @@ impl Record {
         work: &mut [u8],
         address: u32,
         block: &[u8],
-    ) -> Answer
-        ensures { outcome_of result.number 0 result.rec settled.now waiting.now work.new ≡ put_call trap address block.now (state_of self settled.now waiting.now work.old) }
+    ) -> Result<Record, Refusal>
+        ensures { answered result self settled.now waiting.now work.new ≡ put_call trap address block.now (state_of self settled.now waiting.now work.old) }
     {
-        let number = self.put_number(settled, waiting, work, address, block);
-        if number != 0 {
-            return self.answer(number);
-        }
-        self.put_entry(work, address, block).answer(0)
+        self.check_put(settled, waiting, work, address, block)?;
+        Ok(self.put_entry(work, address, block))
     }
 
     // The entry itself.

@@ -28,13 +28,6 @@ pub struct Record {
     pub save: u64,
 }
 
-// What a call hands back: its number, 0 for done, and the record.
-#[derive(Clone, Copy)]
-pub struct Answer {
-    pub number: u32,
-    pub rec: Record,
-}
-
 impl Record {
     // The record of a fresh card: open, with power for 1,000,000 orders, no save yet.
     pub fn fresh(blocks: u32) -> Record
@@ -107,12 +100,5 @@ impl Record {
         self.waiting = queue.waiting;
         self.power = queue.power;
         self
-    }
-
-    // The end of a call.
-    pub fn answer(self, number: u32) -> Answer
-        ensures { result ≡ record { number = number; rec = self } }
-    {
-        Answer { number, rec: self }
     }
 }

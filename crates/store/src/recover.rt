@@ -4,52 +4,61 @@ ghost use Rattle.card.specs.Card.{blocks_in};
 ghost use Rattle.journal.specs.Geometry.{trap};
 ghost use Rattle.journal.specs.Layout.{first_data};
 ghost use Rattle.journal.specs.Choice.{choice_number};
-ghost use Rattle.store.specs.CodeState.{state_of, outcome_of};
+ghost use Rattle.refusals.specs.Numbers.{answer};
+ghost use Rattle.store.specs.CodeState.{state_of, saved_as};
 ghost use Rattle.store.specs.Causes.{waiting_bytes, down_row, open_row, of_record, cause_by};
 ghost use Rattle.store.specs.Outcomes.{unless};
 ghost use Rattle.store.specs.Saves as Saves;
 ghost use Rattle.store.specs.Saves.{recovering, recover_call};
 
 use crate::record::{DOWN, OPEN_MODE, Record};
-use crate::saved::Saved;
+use crate::saved::{Saved, Stopped};
 use journal::choice::{Choice, choose};
 use journal::fallback::fallback;
+use refusals::Refusal;
 
 impl Record {
-    pub fn recover(self, settled: &mut [u8], waiting: &mut [u8], work: &[u8]) -> Saved
-        ensures { outcome_of result.number result.orders result.rec settled.new waiting.new work.now ≡ recover_call trap (state_of self settled.old waiting.old work.now) }
+    pub fn recover(
+        self,
+        settled: &mut [u8],
+        waiting: &mut [u8],
+        work: &[u8],
+    ) -> Result<Saved, Stopped>
+        ensures { saved_as result self settled.new waiting.new work.now ≡ recover_call trap (state_of self settled.old waiting.old work.now) }
     {
-        let number = self.not_closed(settled, waiting, work);
-        if number != 0 {
-            return self.refused(number);
-        }
+        self.check_closed(settled, waiting, work)?;
         let choice = choose(settled, self.blocks);
         self.recovered(choice, settled, waiting)
     }
 
     // Its cause before the log is read: rows 1, 2, 4 and 5.
-    pub(crate) fn not_closed(self, settled: &[u8], waiting: &[u8], work: &[u8]) -> u32
-        ensures { result ≡ cause_by trap (of_record false (down_row ∷ open_row ∷ [])) (state_of self settled.now waiting.now work.now) }
+    pub(crate) fn check_closed(
+        self,
+        settled: &[u8],
+        waiting: &[u8],
+        work: &[u8],
+    ) -> Result<(), Refusal>
+        ensures { answer result ≡ cause_by trap (of_record false (down_row ∷ open_row ∷ [])) (state_of self settled.now waiting.now work.now) }
     {
-        let earlier = self.bad_record(settled, waiting, work);
-        if earlier != 0 {
-            return earlier;
+        self.check_record(settled, waiting, work)?;
+        match self.mode {
+            DOWN => Err(Refusal::Down),
+            OPEN_MODE => Err(Refusal::Open),
+            _ => Ok(()),
         }
-        if self.mode == DOWN {
-            return 4;
-        }
-        if self.mode == OPEN_MODE {
-            return 5;
-        }
-        0
     }
 
     // By the choice that was made.
-    fn recovered(self, choice: Choice, settled: &mut [u8], waiting: &mut [u8]) -> Saved
+    fn recovered(
+        self,
+        choice: Choice,
+        settled: &mut [u8],
+        waiting: &mut [u8],
+    ) -> Result<Saved, Stopped>
         requires trap_bound { first_data trap < blocks_in settled.old }
         requires waiting_value { self.waiting ≡ 0 }
         requires trap_in_bounds { waiting_bytes trap ≤ length waiting.old }
-        ensures { (k : List ℕ) → outcome_of result.number result.orders result.rec settled.new waiting.new k ≡ unless (choice_number choice) (state_of self settled.old waiting.old k) (recovering choice (state_of self settled.old waiting.old k)) }
+        ensures { (k : List ℕ) → saved_as result self settled.new waiting.new k ≡ unless (choice_number choice) (state_of self settled.old waiting.old k) (recovering choice (state_of self settled.old waiting.old k)) }
     {
         match choice {
             Choice::Whole(n, sum, save) => self.saved(self.reopened(n, sum, save)),
@@ -57,8 +66,8 @@ impl Record {
                 let ordered = fallback(self.queue(), settled, waiting, self.blocks, p, sum, save);
                 self.saved(self.after(ordered, self.reopened(p, sum, save)))
             }
-            Choice::Foreign => self.refused(8),
-            Choice::Neither => self.refused(9),
+            Choice::Foreign => Err(Stopped::Refused(Refusal::Foreign)),
+            Choice::Neither => Err(Stopped::Refused(Refusal::Unsound)),
         }
     }
 

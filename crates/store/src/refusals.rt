@@ -1,6 +1,7 @@
 // The rows of format, put, commit and cut that no other call has, behind those of check.rt.
 ghost use Rattle.std.specs.Prelude.{◌≡◌, ◌≤◌, length};
 ghost use Rattle.journal.specs.Geometry.{trap};
+ghost use Rattle.refusals.specs.Numbers.{answer};
 ghost use Rattle.store.specs.declared.record.Record as Declared;
 ghost use Rattle.store.specs.CodeState.{state_of};
 ghost use Rattle.store.specs.Request as Request;
@@ -16,78 +17,66 @@ use cells::BLOCK;
 use journal::SLOTS;
 use journal::choice::in_use;
 use journal::log::is_data;
+use refusals::Refusal;
 
 // The cause of a format, whatever the record holds.
-pub(crate) fn format_number(settled: &[u8], waiting: &[u8], work: &[u8]) -> u32
-    ensures { (q : Declared.Record) → result ≡ cause trap Request.format (state_of q settled.now waiting.now work.now) }
+pub(crate) fn check_format(settled: &[u8], waiting: &[u8], work: &[u8]) -> Result<(), Refusal>
+    ensures { (q : Declared.Record) → answer result ≡ cause trap Request.format (state_of q settled.now waiting.now work.now) }
 {
     if wrong_sizes(settled, waiting, work) {
-        return 1;
+        return Err(Refusal::Size);
     }
     if in_use(settled, blocks_in(settled) as u32) {
-        return 13;
+        return Err(Refusal::InUse);
     }
-    0
+    Ok(())
 }
 
 impl Record {
     // The cause of a put.
-    pub(crate) fn put_number(
+    pub(crate) fn check_put(
         self,
         settled: &[u8],
         waiting: &[u8],
         work: &[u8],
         address: u32,
         block: &[u8],
-    ) -> u32
-        ensures { result ≡ cause trap (Request.put address block.now) (state_of self settled.now waiting.now work.now) }
+    ) -> Result<(), Refusal>
+        ensures { answer result ≡ cause trap (Request.put address block.now) (state_of self settled.now waiting.now work.now) }
     {
         if block.len() != BLOCK {
-            return 1;
+            return Err(Refusal::Size);
         }
-        let number = self.not_open(settled, waiting, work);
-        if number != 0 {
-            return number;
-        }
+        self.check_open(settled, waiting, work)?;
         if !is_data(self.blocks, address) {
-            return 6;
+            return Err(Refusal::Address);
         }
-        if self.opened < SLOTS {
-            return 0;
+        if self.opened < SLOTS || holds(work, OPEN, self.opened, address) {
+            return Ok(());
         }
-        if holds(work, OPEN, self.opened, address) {
-            return 0;
-        }
-        7
+        Err(Refusal::Full)
     }
 
     // The cause of a commit. Row 7 is counted before anything is copied.
-    pub(crate) fn commit_number(self, settled: &[u8], waiting: &[u8], work: &[u8]) -> u32
-        ensures { result ≡ cause trap Request.commit (state_of self settled.now waiting.now work.now) }
+    pub(crate) fn check_commit(self, settled: &[u8], waiting: &[u8], work: &[u8]) -> Result<(), Refusal>
+        ensures { answer result ≡ cause trap Request.commit (state_of self settled.now waiting.now work.now) }
     {
-        let number = self.not_open(settled, waiting, work);
-        if number != 0 {
-            return number;
+        self.check_open(settled, waiting, work)?;
+        if SLOTS < self.grouped + newcomers(work, self.grouped, self.opened) {
+            return Err(Refusal::Full);
         }
-        let new = newcomers(work, self.grouped, self.opened);
-        if SLOTS < self.grouped + new {
-            return 7;
-        }
-        0
+        Ok(())
     }
 
     // The cause of a cut.
-    pub(crate) fn cut_number(self, settled: &[u8], waiting: &[u8], work: &[u8], marks: &[u8]) -> u32
-        ensures { result ≡ cause trap (Request.cut marks.now) (state_of self settled.now waiting.now work.now) }
+    pub(crate) fn check_cut(self, settled: &[u8], waiting: &[u8], work: &[u8], marks: &[u8]) -> Result<(), Refusal>
+        ensures { answer result ≡ cause trap (Request.cut marks.now) (state_of self settled.now waiting.now work.now) }
     {
-        let number = self.bad_record(settled, waiting, work);
-        if number != 0 {
-            return number;
-        }
+        self.check_record(settled, waiting, work)?;
         if !fit(marks, waiting, self.waiting) {
-            return 10;
+            return Err(Refusal::Marks);
         }
-        0
+        Ok(())
     }
 }
 
@@ -98,12 +87,10 @@ fn newcomers(work: &[u8], g: u32, n: u32) -> u32
     ensures { (result ≡ Causes.newcomers trap work.now g n) × (result ≤ n) }
 {
     let mut count = 0;
-    let mut i = 0;
-    while i < n {
+    for i in 0..n {
         if !holds(work, GROUP, g, address(work, OPEN, i)) {
             count += 1;
         }
-        i += 1;
     }
     count
 }

@@ -1,30 +1,37 @@
 // What a call that gives orders hands back: a direct write, sync, apply, recover.
-ghost use Rattle.std.specs.Prelude.{◌≡◌, cond, ◌-◌, ◌≤◌, eqb};
+ghost use Rattle.std.specs.Prelude.{◌≡◌, cond, List, ℕ, ◌-◌, ◌≤◌, eqb};
 ghost use Rattle.store.specs.State.{down, with_mode, with_queue};
+ghost use Rattle.store.specs.CodeState.{outcome_of, saved_as};
 
 use crate::record::{DOWN, Record};
 use card::queue::Ordered;
+use refusals::Refusal;
 
-// The number, the orders carried out, and the record.
+// The orders carried out, and the record then.
 #[derive(Clone, Copy)]
 pub struct Saved {
-    pub number: u32,
     pub orders: u32,
     pub rec: Record,
 }
 
-impl Record {
-    // A refusal before any order.
-    pub(crate) fn refused(self, number: u32) -> Saved
-        ensures { result ≡ record { number = number; orders = 0; rec = self } }
-    {
-        Saved {
-            number,
-            orders: 0,
-            rec: self,
-        }
-    }
+// Why a call was not done: refused before any order, or its power gone before the last, which leaves the record down.
+#[derive(Clone, Copy)]
+pub enum Stopped {
+    Refused(Refusal),
+    PowerLost(Saved),
+}
 
+impl From<Refusal> for Stopped {
+    ghost use Rattle.store.specs.declared.saved.Stopped.TheVariants.{Refused};
+
+    ghost from_gives = { λ refusal stopped. stopped ≡ Refused refusal };
+
+    fn from(refusal: Refusal) -> Stopped {
+        Stopped::Refused(refusal)
+    }
+}
+
+impl Record {
     // The record once orders were given: `done` if all of them happened, else down; with the queue that they left.
     pub(crate) fn after(self, ordered: Ordered, done: Record) -> Record
         ensures { result ≡ with_queue ordered.queue.waiting ordered.queue.power (cond ordered.happened done (with_mode down self)) }
@@ -37,22 +44,17 @@ impl Record {
     }
 
     // The end of a call that made `last` of the record: power was gone if it is down. The power used up is the orders carried out.
-    pub(crate) fn saved(self, last: Record) -> Saved
+    pub(crate) fn saved(self, last: Record) -> Result<Saved, Stopped>
         requires { last.power ≤ self.power }
-        ensures { result ≡ record { number = cond (eqb last.mode down) 4 0; orders = self.power - last.power; rec = last } }
+        ensures { (s w k : List ℕ) → saved_as result self s w k ≡ outcome_of (cond (eqb last.mode down) 4 0) (self.power - last.power) last s w k }
     {
-        let orders = self.power - last.power;
-        if last.mode == DOWN {
-            return Saved {
-                number: 4,
-                orders,
-                rec: last,
-            };
-        }
-        Saved {
-            number: 0,
-            orders,
+        let saved = Saved {
+            orders: self.power - last.power,
             rec: last,
+        };
+        if last.mode == DOWN {
+            return Err(Stopped::PowerLost(saved));
         }
+        Ok(saved)
     }
 }

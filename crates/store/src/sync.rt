@@ -7,46 +7,49 @@ ghost use Rattle.card.specs.CodeQueue.{Below};
 ghost use Rattle.journal.specs.Header.{most_save};
 ghost use Rattle.journal.specs.Log.{slot_address};
 ghost use Rattle.journal.specs.Orders.{barrier};
+ghost use Rattle.refusals.specs.Numbers.{answer};
 ghost use Rattle.store.specs.State.{open_mode};
-ghost use Rattle.store.specs.CodeState.{state_of, outcome_of};
+ghost use Rattle.store.specs.CodeState.{state_of, saved_as};
 ghost use Rattle.store.specs.Request as Request;
 ghost use Rattle.store.specs.Causes.{cause, waiting_bytes, work_bytes};
 ghost use Rattle.store.specs.Saves.{carried, appending, syncing, sync_call};
 
 use crate::lists::GROUP;
 use crate::record::{DOWN, Record};
-use crate::saved::Saved;
+use crate::saved::{Saved, Stopped};
 use card::queue::Ordered;
 use journal::SLOTS;
 use journal::append::{Group, Log, append};
 use journal::header::LAST_SAVE;
+use refusals::Refusal;
 
 impl Record {
-    pub fn sync(self, settled: &mut [u8], waiting: &mut [u8], work: &[u8]) -> Saved
-        ensures { outcome_of result.number result.orders result.rec settled.new waiting.new work.now ≡ sync_call trap (state_of self settled.old waiting.old work.now) }
+    pub fn sync(
+        self,
+        settled: &mut [u8],
+        waiting: &mut [u8],
+        work: &[u8],
+    ) -> Result<Saved, Stopped>
+        ensures { saved_as result self settled.new waiting.new work.now ≡ sync_call trap (state_of self settled.old waiting.old work.now) }
     {
-        let number = self.sync_number(settled, waiting, work);
-        if number != 0 {
-            return self.refused(number);
-        }
+        self.check_sync(settled, waiting, work)?;
         self.saved(self.synced(settled, waiting, work))
     }
 
     // Its cause. Row 12 is tested behind the others: a group that is not empty would have no number.
-    pub(crate) fn sync_number(self, settled: &[u8], waiting: &[u8], work: &[u8]) -> u32
-        ensures { result ≡ cause trap Request.sync (state_of self settled.now waiting.now work.now) }
+    pub(crate) fn check_sync(
+        self,
+        settled: &[u8],
+        waiting: &[u8],
+        work: &[u8],
+    ) -> Result<(), Refusal>
+        ensures { answer result ≡ cause trap Request.sync (state_of self settled.now waiting.now work.now) }
     {
-        let earlier = self.not_open(settled, waiting, work);
-        if earlier != 0 {
-            return earlier;
+        self.check_open(settled, waiting, work)?;
+        if self.grouped != 0 && self.save == LAST_SAVE {
+            return Err(Refusal::LastSave);
         }
-        if self.grouped == 0 {
-            return 0;
-        }
-        if self.save == LAST_SAVE {
-            return 12;
-        }
-        0
+        Ok(())
     }
 
     // Its orders: for an empty group a flush, if anything waits; an apply first where the log has no room.

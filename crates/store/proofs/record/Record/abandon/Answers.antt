@@ -5,8 +5,8 @@ use Rattle.store.proofs.record.Record.abandon.Goals as goal
 
 pub returns-then-number-ne0 : goal.returns-then-number-ne0
 unfolding abandon_call
-returns-then-number-ne0 c = rw c.answer.ensures (call_refused _ _ _ _ c.not_open-number.ensures c.if-number-ne0.true)
+returns-then-number-ne0 c = rw c.answer.ensures (call_refused _ _ _ _ c.check_open-number.ensures c.if-number-ne0.true)
 
 pub returns : goal.returns
 unfolding abandon_call
-returns c = rw (c.answer-2.ensures, c.with_opened.ensures) (call_done _ _ _ _ c.not_open-number.ensures c.if-number-ne0.false)
+returns c = rw (c.answer-2.ensures, c.with_opened.ensures) (call_done _ _ _ _ c.check_open-number.ensures c.if-number-ne0.false)

@@ -13,22 +13,22 @@ use Rattle.store.proofs.record.Record.apply.Goals as goal
 
 pub returns-then-number-ne0 : goal.returns-then-number-ne0
 unfolding apply_call
-returns-then-number-ne0 c = rw c.refused.ensures (call_refused _ _ _ _ c.not_open-number.ensures c.if-number-ne0.true)
+returns-then-number-ne0 c = rw c.refused.ensures (call_refused _ _ _ _ c.check_open-number.ensures c.if-number-ne0.true)
 
 pub returns-then-self-eq0 : goal.returns-then-self-eq0
 unfolding apply_call
 returns-then-self-eq0 c =
     let given : State = state_of c.args.self c.args.settled.now c.args.waiting.now c.args.work.now in
-    let checked : Ready trap (given) = ready trap abandon (given) c.not_open-number.result refl refl c.not_open-number.ensures c.if-number-ne0.false in
+    let checked : Ready trap (given) = ready trap abandon (given) c.check_open-number.result refl refl c.check_open-number.ensures c.if-number-ne0.false in
     let st = given in
     rw c.saved.ensures
     (carried_ends [] st.rec st.rec st (checked).live _ _ _ _ (sym (ap (λ (o : Outcome). o.state) (carried_none st.rec st.rec st)))
-    ∙ carried_none st.rec st.rec st ∙ apply_none trap st c.if-self-eq0.true ∙ call_done _ _ _ _ c.not_open-number.ensures c.if-number-ne0.false)
+    ∙ carried_none st.rec st.rec st ∙ apply_none trap st c.if-self-eq0.true ∙ call_done _ _ _ _ c.check_open-number.ensures c.if-number-ne0.false)
 
 pub emptied-requires : goal.emptied-requires
 emptied-requires c =
     let given : State = state_of c.args.self c.args.settled.now c.args.waiting.now c.args.work.now in
-    let checked : Ready trap (given) = ready trap abandon (given) c.not_open-number.result refl refl c.not_open-number.ensures c.if-number-ne0.false in
+    let checked : Ready trap (given) = ready trap abandon (given) c.check_open-number.result refl refl c.check_open-number.ensures c.if-number-ne0.false in
     let r = checked in
     record {
       trap_bound = omega arith;
@@ -49,8 +49,8 @@ pub returns : goal.returns
 unfolding apply_call
 returns c =
     let given : State = state_of c.args.self c.args.settled.now c.args.waiting.now c.args.work.now in
-    let checked : Ready trap (given) = ready trap abandon (given) c.not_open-number.result refl refl c.not_open-number.ensures c.if-number-ne0.false in
+    let checked : Ready trap (given) = ready trap abandon (given) c.check_open-number.result refl refl c.check_open-number.ensures c.if-number-ne0.false in
     let st = given in
     rw c.saved-2.ensures
     (carried_ends _ _ _ st (checked).live _ _ _ _ (c.emptied.ensures st.work)
-    ∙ apply_some trap st c.if-self-eq0.false ∙ call_done _ _ _ _ c.not_open-number.ensures c.if-number-ne0.false)
+    ∙ apply_some trap st c.if-self-eq0.false ∙ call_done _ _ _ _ c.check_open-number.ensures c.if-number-ne0.false)

@@ -22,15 +22,15 @@ use Rattle.store.proofs.record.Record.cut.Goals as goal
 
 pub returns-then-number-ne0 : goal.returns-then-number-ne0
 unfolding cut_call
-returns-then-number-ne0 c = rw c.answer.ensures (call_refused _ _ _ _ c.cut_number-number.ensures c.if-number-ne0.true)
+returns-then-number-ne0 c = rw c.answer.ensures (call_refused _ _ _ _ c.check_cut-number.ensures c.if-number-ne0.true)
 
 pub cut-queue-requires : goal.cut-queue-requires
 unfolding queue
 cut-queue-requires c =
     let given : State = state_of c.args.self c.args.settled.now c.args.waiting.now c.args.work.now in
     let st = given in
-    let p = cause_passes trap (cut c.args.marks.now) st c.cut_number-number.result c.cut_number-number.ensures c.if-number-ne0.false in
-    let s = passes_sound trap (cut c.args.marks.now) st c.cut_number-number.result refl c.cut_number-number.ensures c.if-number-ne0.false in
+    let p = cause_passes trap (cut c.args.marks.now) st c.check_cut-number.result c.check_cut-number.ensures c.if-number-ne0.false in
+    let s = passes_sound trap (cut c.args.marks.now) st c.check_cut-number.result refl c.check_cut-number.ensures c.if-number-ne0.false in
     let few = any_waits trap st s.counts in
     let waits : length (queue (card_in st)) ≡ c.args.self.waiting = length-up_to (entry_at c.args.waiting.now) c.args.self.waiting in
     let many : length c.args.marks.now ≡ block_bytes * length (queue (card_in st)) = fits_length c.args.marks.now (queue (card_in st)) (not-false _ p.own.0) in
@@ -49,4 +49,4 @@ returns c =
     let a = c.args in
     rw c.answer-2.ensures
     (ap completed (cut_state a.marks.now _ (given) _ _ c.cut-queue.result _ _ c.queue.ensures c.cut-queue.ensures c.shut.ensures c.with_queue.ensures)
-    ∙ call_done _ _ _ _ c.cut_number-number.ensures c.if-number-ne0.false)
+    ∙ call_done _ _ _ _ c.check_cut-number.ensures c.if-number-ne0.false)

@@ -14,15 +14,15 @@ use Rattle.store.proofs.record.Record.direct.Goals as goal
 
 pub returns-then-refusal-ne0 : goal.returns-then-refusal-ne0
 unfolding direct_call
-returns-then-refusal-ne0 c = rw c.refused.ensures (call_refused _ _ _ _ c.direct_number-refusal.ensures c.if-refusal-ne0.true)
+returns-then-refusal-ne0 c = rw c.refused.ensures (call_refused _ _ _ _ c.check_direct-refusal.ensures c.if-refusal-ne0.true)
 
 pub written-requires : goal.written-requires
 written-requires c =
     let given : State = state_of c.args.self c.args.settled.now c.args.waiting.now c.args.work.now in
     let request : Request = direct c.args.address c.args.block.now in
-    let checked : Ready trap (given) = ready trap (request) (given) c.direct_number-refusal.result refl refl c.direct_number-refusal.ensures c.if-refusal-ne0.false in
+    let checked : Ready trap (given) = ready trap (request) (given) c.check_direct-refusal.result refl refl c.check_direct-refusal.ensures c.if-refusal-ne0.false in
     let r = checked in
-    let p = cause_passes trap (request) (given) c.direct_number-refusal.result c.direct_number-refusal.ensures c.if-refusal-ne0.false in
+    let p = cause_passes trap (request) (given) c.check_direct-refusal.result c.check_direct-refusal.ensures c.if-refusal-ne0.false in
     record {
       waiting_le_direct = r.waiting;
       trap_in_bounds = omega arith;
@@ -41,6 +41,6 @@ unfolding direct_call
 returns c =
     let given : State = state_of c.args.self c.args.settled.now c.args.waiting.now c.args.work.now in
     let request : Request = direct c.args.address c.args.block.now in
-    let checked : Ready trap (given) = ready trap (request) (given) c.direct_number-refusal.result refl refl c.direct_number-refusal.ensures c.if-refusal-ne0.false in
+    let checked : Ready trap (given) = ready trap (request) (given) c.check_direct-refusal.result refl refl c.check_direct-refusal.ensures c.if-refusal-ne0.false in
     rw c.saved.ensures
-    (carried_ends _ _ _ (given) (checked).live _ _ _ _ (c.written.ensures c.args.work.now) ∙ call_done _ _ _ _ c.direct_number-refusal.ensures c.if-refusal-ne0.false)
+    (carried_ends _ _ _ (given) (checked).live _ _ _ _ (c.written.ensures c.args.work.now) ∙ call_done _ _ _ _ c.check_direct-refusal.ensures c.if-refusal-ne0.false)

@@ -14,13 +14,13 @@ use Rattle.store.proofs.record.Record.format.Goals as goal
 
 pub returns-then-number-ne0 : goal.returns-then-number-ne0
 unfolding format_call
-returns-then-number-ne0 c = rw c.answer.ensures (call_refused _ _ _ _ (c.format_number-number.ensures _) c.if-number-ne0.true)
+returns-then-number-ne0 c = rw c.answer.ensures (call_refused _ _ _ _ (c.check_format-number.ensures _) c.if-number-ne0.true)
 
 pub overflow_cast-blocks : goal.overflow_cast-blocks
 overflow_cast-blocks c =
     let given : State = state_of c.args.self c.args.settled.now c.args.waiting.now c.args.work.now in
     let sized : SizeFacts trap (given) = let st = given in
-    sizes_facts trap st (cause_passes trap format st c.format_number-number.result (c.format_number-number.ensures _) c.if-number-ne0.false).sizes in
+    sizes_facts trap st (cause_passes trap format st c.check_format-number.result (c.check_format-number.ensures _) c.if-number-ne0.false).sizes in
     let st = given in
     let told : c.blocks_in-blocks.result ≡ blocks_in st.settled = c.blocks_in-blocks.ensures in
     let s = sized in
@@ -30,7 +30,7 @@ pub settle_header-requires : goal.settle_header-requires
 settle_header-requires c =
     let given : State = state_of c.args.self c.args.settled.now c.args.waiting.now c.args.work.now in
     let sized : SizeFacts trap (given) = let st = given in
-    sizes_facts trap st (cause_passes trap format st c.format_number-number.result (c.format_number-number.ensures _) c.if-number-ne0.false).sizes in
+    sizes_facts trap st (cause_passes trap format st c.check_format-number.result (c.check_format-number.ensures _) c.if-number-ne0.false).sizes in
     let s = sized in
     let zeros : c.wipe.new.settled ≡ replicate (length c.args.settled.now) 0 = c.wipe.ensures.settled_after in
     rw (zeros, length-replicate) (omega arith)
@@ -41,4 +41,4 @@ returns c =
     let given : State = state_of c.args.self c.args.settled.now c.args.waiting.now c.args.work.now in
     let empty : c.wipe.new.waiting ≡ replicate (length (given).waiting) 0 = c.wipe.ensures.waiting_after in
     rw (c.answer-2.ensures, c.fresh.ensures, c.settle_header.ensures, c.blocks_in-blocks.ensures, c.wipe.ensures.settled_after, empty, c.zero.ensures)
-    (call_done _ _ _ _ (c.format_number-number.ensures _) c.if-number-ne0.false)
+    (call_done _ _ _ _ (c.check_format-number.ensures _) c.if-number-ne0.false)

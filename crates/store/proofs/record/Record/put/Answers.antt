@@ -23,14 +23,14 @@ room_put f n e absent = leb-false _ _ (rw absent at e)
 
 pub returns-then-number-ne0 : goal.returns-then-number-ne0
 unfolding put_call
-returns-then-number-ne0 c = rw c.answer.ensures (call_refused _ _ _ _ c.put_number-number.ensures c.if-number-ne0.true)
+returns-then-number-ne0 c = rw c.answer.ensures (call_refused _ _ _ _ c.check_put-number.ensures c.if-number-ne0.true)
 
 pub put_entry-requires : goal.put_entry-requires
 put_entry-requires c =
     let a = c.args in
     let st = state_of a.self a.settled.now a.waiting.now a.work.now in
-    let p = cause_passes trap (put a.address a.block.now) st c.put_number-number.result c.put_number-number.ensures c.if-number-ne0.false in
-    let s = passes_sound trap (put a.address a.block.now) st c.put_number-number.result refl c.put_number-number.ensures c.if-number-ne0.false in
+    let p = cause_passes trap (put a.address a.block.now) st c.check_put-number.result c.check_put-number.ensures c.if-number-ne0.false in
+    let s = passes_sound trap (put a.address a.block.now) st c.check_put-number.result refl c.check_put-number.ensures c.if-number-ne0.false in
     record {
       block_len = eqb-true _ _ (not-false _ p.block);
       slots_in_bounds = omega arith;
@@ -40,4 +40,4 @@ put_entry-requires c =
 
 pub returns : goal.returns
 unfolding put_call
-returns c = rw c.answer-2.ensures (ap completed (c.put_entry.ensures _ _) ∙ call_done _ _ _ _ c.put_number-number.ensures c.if-number-ne0.false)
+returns c = rw c.answer-2.ensures (ap completed (c.put_entry.ensures _ _) ∙ call_done _ _ _ _ c.check_put-number.ensures c.if-number-ne0.false)

@@ -17,18 +17,18 @@ unfolding recover_call
 returns-then-number-ne0 c =
     let given : State = state_of c.args.self c.args.settled.now c.args.waiting.now c.args.work.now in
     rw c.refused.ensures
-    (call_refused _ _ _ _ (recover_barred trap (given) c.not_closed-number.result c.not_closed-number.ensures c.if-number-ne0.true) c.if-number-ne0.true)
+    (call_refused _ _ _ _ (recover_barred trap (given) c.check_closed-number.result c.check_closed-number.ensures c.if-number-ne0.true) c.if-number-ne0.true)
 
 pub choose-choice-requires : goal.choose-choice-requires
 choose-choice-requires c =
     let given : State = state_of c.args.self c.args.settled.now c.args.waiting.now c.args.work.now in
-    let checked : Unopened trap (given) = unopened trap (given) c.not_closed-number.result c.not_closed-number.ensures c.if-number-ne0.false in
+    let checked : Unopened trap (given) = unopened trap (given) c.check_closed-number.result c.check_closed-number.ensures c.if-number-ne0.false in
     let s = (checked).sound in omega arith
 
 pub recovered-requires : goal.recovered-requires
 recovered-requires c =
     let given : State = state_of c.args.self c.args.settled.now c.args.waiting.now c.args.work.now in
-    let checked : Unopened trap (given) = unopened trap (given) c.not_closed-number.result c.not_closed-number.ensures c.if-number-ne0.false in
+    let checked : Unopened trap (given) = unopened trap (given) c.check_closed-number.result c.check_closed-number.ensures c.if-number-ne0.false in
     let u = checked in
     let s = u.sound in
     record {
@@ -42,4 +42,4 @@ returns c =
     let given : State = state_of c.args.self c.args.settled.now c.args.waiting.now c.args.work.now in
     let st = given in
     c.recovered.ensures st.work ∙ ap (λ (x : Choice). unless (choice_number x) st (recovering x st)) c.choose-choice.ensures
-    ∙ recover-call trap st c.not_closed-number.result c.not_closed-number.ensures c.if-number-ne0.false
+    ∙ recover-call trap st c.check_closed-number.result c.check_closed-number.ensures c.if-number-ne0.false

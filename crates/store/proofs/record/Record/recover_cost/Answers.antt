@@ -16,18 +16,18 @@ pub returns-then-number-ne0 : goal.returns-then-number-ne0
 returns-then-number-ne0 c =
     let given : State = state_of c.args.self c.args.settled.now c.args.waiting.now c.args.work.now in
     let st = given in
-    c.refusal.ensures ∙ cost_refused trap st Save.recover _ (recover_barred trap st c.not_closed-number.result c.not_closed-number.ensures c.if-number-ne0.true) c.if-number-ne0.true
+    c.refusal.ensures ∙ cost_refused trap st Save.recover _ (recover_barred trap st c.check_closed-number.result c.check_closed-number.ensures c.if-number-ne0.true) c.if-number-ne0.true
 
 pub choose-requires : goal.choose-requires
 choose-requires c =
     let given : State = state_of c.args.self c.args.settled.now c.args.waiting.now c.args.work.now in
-    let checked : Unopened trap (given) = unopened trap (given) c.not_closed-number.result c.not_closed-number.ensures c.if-number-ne0.false in
+    let checked : Unopened trap (given) = unopened trap (given) c.check_closed-number.result c.check_closed-number.ensures c.if-number-ne0.false in
     let s = (checked).sound in omega arith
 
 pub overflow_add-self : goal.overflow_add-self
 overflow_add-self c =
     let given : State = state_of c.args.self c.args.settled.now c.args.waiting.now c.args.work.now in
-    let checked : Unopened trap (given) = unopened trap (given) c.not_closed-number.result c.not_closed-number.ensures c.if-number-ne0.false in
+    let checked : Unopened trap (given) = unopened trap (given) c.check_closed-number.result c.check_closed-number.ensures c.if-number-ne0.false in
     let u = checked in omega (arith, u.waiting)
 
 pub returns-in-Whole : goal.returns-in-Whole
@@ -35,7 +35,7 @@ returns-in-Whole c =
     let given : State = state_of c.args.self c.args.settled.now c.args.waiting.now c.args.work.now in
     let chosen : (x : Choice) → c.choose.result ≡ x → cost_by x (given) ≡ cost_of trap Save.recover (given) = λ x e. let st = given in
     let taken : choose trap st.rec.blocks st.settled ≡ x = sym c.choose.ensures ∙ e in
-    recover-cost trap st x taken (recover-cause trap st c.not_closed-number.result c.not_closed-number.ensures c.if-number-ne0.false ∙ mathlib.Core.Path.ap choice_number taken) in
+    recover-cost trap st x taken (recover-cause trap st c.check_closed-number.result c.check_closed-number.ensures c.if-number-ne0.false ∙ mathlib.Core.Path.ap choice_number taken) in
     c.cost.ensures ∙ chosen _ c.in-Whole.is
 
 pub returns-in-Fallback : goal.returns-in-Fallback
@@ -43,7 +43,7 @@ returns-in-Fallback c =
     let given : State = state_of c.args.self c.args.settled.now c.args.waiting.now c.args.work.now in
     let chosen : (x : Choice) → c.choose.result ≡ x → cost_by x (given) ≡ cost_of trap Save.recover (given) = λ x e. let st = given in
     let taken : choose trap st.rec.blocks st.settled ≡ x = sym c.choose.ensures ∙ e in
-    recover-cost trap st x taken (recover-cause trap st c.not_closed-number.result c.not_closed-number.ensures c.if-number-ne0.false ∙ mathlib.Core.Path.ap choice_number taken) in
+    recover-cost trap st x taken (recover-cause trap st c.check_closed-number.result c.check_closed-number.ensures c.if-number-ne0.false ∙ mathlib.Core.Path.ap choice_number taken) in
     c.cost-in-Fallback.ensures ∙ chosen _ c.in-Fallback.is
 
 pub returns-in-Foreign : goal.returns-in-Foreign
@@ -51,7 +51,7 @@ returns-in-Foreign c =
     let given : State = state_of c.args.self c.args.settled.now c.args.waiting.now c.args.work.now in
     let chosen : (x : Choice) → c.choose.result ≡ x → cost_by x (given) ≡ cost_of trap Save.recover (given) = λ x e. let st = given in
     let taken : choose trap st.rec.blocks st.settled ≡ x = sym c.choose.ensures ∙ e in
-    recover-cost trap st x taken (recover-cause trap st c.not_closed-number.result c.not_closed-number.ensures c.if-number-ne0.false ∙ mathlib.Core.Path.ap choice_number taken) in
+    recover-cost trap st x taken (recover-cause trap st c.check_closed-number.result c.check_closed-number.ensures c.if-number-ne0.false ∙ mathlib.Core.Path.ap choice_number taken) in
     c.refusal-in-Foreign.ensures ∙ chosen _ c.in-Foreign.is
 
 pub returns-in-Neither : goal.returns-in-Neither
@@ -59,5 +59,5 @@ returns-in-Neither c =
     let given : State = state_of c.args.self c.args.settled.now c.args.waiting.now c.args.work.now in
     let chosen : (x : Choice) → c.choose.result ≡ x → cost_by x (given) ≡ cost_of trap Save.recover (given) = λ x e. let st = given in
     let taken : choose trap st.rec.blocks st.settled ≡ x = sym c.choose.ensures ∙ e in
-    recover-cost trap st x taken (recover-cause trap st c.not_closed-number.result c.not_closed-number.ensures c.if-number-ne0.false ∙ mathlib.Core.Path.ap choice_number taken) in
+    recover-cost trap st x taken (recover-cause trap st c.check_closed-number.result c.check_closed-number.ensures c.if-number-ne0.false ∙ mathlib.Core.Path.ap choice_number taken) in
     c.refusal-in-Neither.ensures ∙ chosen _ c.in-Neither.is

@@ -12,12 +12,12 @@ use Rattle.store.proofs.record.Record.sync.Goals as goal
 
 pub returns-then-number-ne0 : goal.returns-then-number-ne0
 unfolding sync_call
-returns-then-number-ne0 c = rw c.refused.ensures (call_refused _ _ _ _ c.sync_number-number.ensures c.if-number-ne0.true)
+returns-then-number-ne0 c = rw c.refused.ensures (call_refused _ _ _ _ c.check_sync-number.ensures c.if-number-ne0.true)
 
 pub synced-requires : goal.synced-requires
 synced-requires c =
     let given : State = state_of c.args.self c.args.settled.now c.args.waiting.now c.args.work.now in
-    let checked : Ready trap (given) = ready trap sync (given) c.sync_number-number.result refl refl c.sync_number-number.ensures c.if-number-ne0.false in
+    let checked : Ready trap (given) = ready trap sync (given) c.check_sync-number.result refl refl c.check_sync-number.ensures c.if-number-ne0.false in
     let r = checked in
     record {
       trap_bound = omega arith;
@@ -26,7 +26,7 @@ synced-requires c =
       grouped_le_slots = omega arith;
       by_index = r.homes;
       trap_in_bounds = omega arith;
-      save_nonzero = next_save trap (given) c.sync_number-number.result c.sync_number-number.ensures c.if-number-ne0.false;
+      save_nonzero = next_save trap (given) c.check_sync-number.result c.check_sync-number.ensures c.if-number-ne0.false;
     }
 
 pub saved-requires : goal.saved-requires
@@ -39,6 +39,6 @@ pub returns : goal.returns
 unfolding sync_call
 returns c =
     let given : State = state_of c.args.self c.args.settled.now c.args.waiting.now c.args.work.now in
-    let checked : Ready trap (given) = ready trap sync (given) c.sync_number-number.result refl refl c.sync_number-number.ensures c.if-number-ne0.false in
+    let checked : Ready trap (given) = ready trap sync (given) c.check_sync-number.result refl refl c.check_sync-number.ensures c.if-number-ne0.false in
     rw c.saved.ensures
-    (sync_ends trap (given) (checked).live _ _ _ _ c.synced.ensures ∙ call_done _ _ _ _ c.sync_number-number.ensures c.if-number-ne0.false)
+    (sync_ends trap (given) (checked).live _ _ _ _ c.synced.ensures ∙ call_done _ _ _ _ c.check_sync-number.ensures c.if-number-ne0.false)

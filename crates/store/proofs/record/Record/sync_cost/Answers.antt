@@ -20,52 +20,52 @@ same-figures a st e f = λ j. served (e j) a (f j) st
 pub returns-then-number-ne0 : goal.returns-then-number-ne0
 returns-then-number-ne0 c =
     let given : State = state_of c.args.self c.args.settled.now c.args.waiting.now c.args.work.now in
-    c.refusal.ensures ∙ cost_refused trap (given) Save.sync _ c.sync_number-number.ensures c.if-number-ne0.true
+    c.refusal.ensures ∙ cost_refused trap (given) Save.sync _ c.check_sync-number.ensures c.if-number-ne0.true
 
 pub returns-then-self-eq0-2 : goal.returns-then-self-eq0-2
 returns-then-self-eq0-2 c =
     let given : State = state_of c.args.self c.args.settled.now c.args.waiting.now c.args.work.now in
     let st = given in
-    c.cost.ensures ∙ same-figures _ st refl (sym c.if-self-eq0-2.true) ∙ sym (sync_cost_none trap st c.if-self-eq0.true c.if-self-eq0-2.true) ∙ cost_served trap st Save.sync _ c.sync_number-number.ensures c.if-number-ne0.false
+    c.cost.ensures ∙ same-figures _ st refl (sym c.if-self-eq0-2.true) ∙ sym (sync_cost_none trap st c.if-self-eq0.true c.if-self-eq0-2.true) ∙ cost_served trap st Save.sync _ c.check_sync-number.ensures c.if-number-ne0.false
 
 pub returns-then-self-eq0 : goal.returns-then-self-eq0
 returns-then-self-eq0 c =
     let given : State = state_of c.args.self c.args.settled.now c.args.waiting.now c.args.work.now in
     let st = given in
-    c.cost-then-self-eq0.ensures ∙ sym (sync_cost_flush trap st c.if-self-eq0.true c.if-self-eq0-2.false) ∙ cost_served trap st Save.sync _ c.sync_number-number.ensures c.if-number-ne0.false
+    c.cost-then-self-eq0.ensures ∙ sym (sync_cost_flush trap st c.if-self-eq0.true c.if-self-eq0-2.false) ∙ cost_served trap st Save.sync _ c.check_sync-number.ensures c.if-number-ne0.false
 
 pub overflow_add-writes : goal.overflow_add-writes
 unfolding trap
 overflow_add-writes c =
     let given : State = state_of c.args.self c.args.settled.now c.args.waiting.now c.args.work.now in
-    let checked : Ready trap (given) = ready trap sync (given) c.sync_number-number.result refl refl c.sync_number-number.ensures c.if-number-ne0.false in
+    let checked : Ready trap (given) = ready trap sync (given) c.check_sync-number.result refl refl c.check_sync-number.ensures c.if-number-ne0.false in
     let r = checked in omega (arith, r.sound.counts.group_count)
 
 pub overflow_add-writes-2 : goal.overflow_add-writes-2
 unfolding trap
 overflow_add-writes-2 c =
     let given : State = state_of c.args.self c.args.settled.now c.args.waiting.now c.args.work.now in
-    let checked : Ready trap (given) = ready trap sync (given) c.sync_number-number.result refl refl c.sync_number-number.ensures c.if-number-ne0.false in
+    let checked : Ready trap (given) = ready trap sync (given) c.check_sync-number.result refl refl c.check_sync-number.ensures c.if-number-ne0.false in
     let r = checked in omega (arith, r.sound.counts.group_count)
 
 pub fits-requires : goal.fits-requires
 fits-requires c =
     let given : State = state_of c.args.self c.args.settled.now c.args.waiting.now c.args.work.now in
-    let checked : Ready trap (given) = ready trap sync (given) c.sync_number-number.result refl refl c.sync_number-number.ensures c.if-number-ne0.false in
+    let checked : Ready trap (given) = ready trap sync (given) c.check_sync-number.result refl refl c.check_sync-number.ensures c.if-number-ne0.false in
     let r = checked in (r.sound.counts.group_count, r.sound.counts.log_count)
 
 pub overflow_add-writes-then-fits : goal.overflow_add-writes-then-fits
 unfolding trap
 overflow_add-writes-then-fits c =
     let given : State = state_of c.args.self c.args.settled.now c.args.waiting.now c.args.work.now in
-    let checked : Ready trap (given) = ready trap sync (given) c.sync_number-number.result refl refl c.sync_number-number.ensures c.if-number-ne0.false in
+    let checked : Ready trap (given) = ready trap sync (given) c.check_sync-number.result refl refl c.check_sync-number.ensures c.if-number-ne0.false in
     let r = checked in omega (arith, r.sound.counts.group_count)
 
 pub overflow_add-self : goal.overflow_add-self
 unfolding trap
 overflow_add-self c =
     let given : State = state_of c.args.self c.args.settled.now c.args.waiting.now c.args.work.now in
-    let checked : Ready trap (given) = ready trap sync (given) c.sync_number-number.result refl refl c.sync_number-number.ensures c.if-number-ne0.false in
+    let checked : Ready trap (given) = ready trap sync (given) c.check_sync-number.result refl refl c.check_sync-number.ensures c.if-number-ne0.false in
     let r = checked in omega (arith, r.waiting, r.sound.counts.group_count)
 
 pub returns-then-fits : goal.returns-then-fits
@@ -74,34 +74,34 @@ returns-then-fits c =
     let given : State = state_of c.args.self c.args.settled.now c.args.waiting.now c.args.work.now in
     let st = given in
     let room : st.rec.logged + st.rec.grouped ≤ trap.slots = leb-true _ _ (sym c.fits.ensures ∙ c.if-fits.true) in
-    c.cost-then-fits.ensures ∙ same-figures _ st (omega arith) (omega arith) ∙ sym (sync_cost_room trap st c.if-self-eq0.false room) ∙ cost_served trap st Save.sync _ c.sync_number-number.ensures c.if-number-ne0.false
+    c.cost-then-fits.ensures ∙ same-figures _ st (omega arith) (omega arith) ∙ sym (sync_cost_room trap st c.if-self-eq0.false room) ∙ cost_served trap st Save.sync _ c.check_sync-number.ensures c.if-number-ne0.false
 
 pub overflow_add-self-2 : goal.overflow_add-self-2
 unfolding trap
 overflow_add-self-2 c =
     let given : State = state_of c.args.self c.args.settled.now c.args.waiting.now c.args.work.now in
-    let checked : Ready trap (given) = ready trap sync (given) c.sync_number-number.result refl refl c.sync_number-number.ensures c.if-number-ne0.false in
+    let checked : Ready trap (given) = ready trap sync (given) c.check_sync-number.result refl refl c.check_sync-number.ensures c.if-number-ne0.false in
     let r = checked in omega (arith, r.waiting, r.sound.counts.log_count)
 
 pub overflow_add-self-3 : goal.overflow_add-self-3
 unfolding trap
 overflow_add-self-3 c =
     let given : State = state_of c.args.self c.args.settled.now c.args.waiting.now c.args.work.now in
-    let checked : Ready trap (given) = ready trap sync (given) c.sync_number-number.result refl refl c.sync_number-number.ensures c.if-number-ne0.false in
+    let checked : Ready trap (given) = ready trap sync (given) c.check_sync-number.result refl refl c.check_sync-number.ensures c.if-number-ne0.false in
     let r = checked in omega (arith, r.sound.counts.log_count)
 
 pub overflow_add-writes-3 : goal.overflow_add-writes-3
 unfolding trap
 overflow_add-writes-3 c =
     let given : State = state_of c.args.self c.args.settled.now c.args.waiting.now c.args.work.now in
-    let checked : Ready trap (given) = ready trap sync (given) c.sync_number-number.result refl refl c.sync_number-number.ensures c.if-number-ne0.false in
+    let checked : Ready trap (given) = ready trap sync (given) c.check_sync-number.result refl refl c.check_sync-number.ensures c.if-number-ne0.false in
     let r = checked in omega (arith, r.sound.counts.group_count)
 
 pub overflow_add-self-4 : goal.overflow_add-self-4
 unfolding trap
 overflow_add-self-4 c =
     let given : State = state_of c.args.self c.args.settled.now c.args.waiting.now c.args.work.now in
-    let checked : Ready trap (given) = ready trap sync (given) c.sync_number-number.result refl refl c.sync_number-number.ensures c.if-number-ne0.false in
+    let checked : Ready trap (given) = ready trap sync (given) c.check_sync-number.result refl refl c.check_sync-number.ensures c.if-number-ne0.false in
     let r = checked in omega (arith, r.sound.counts.group_count, r.sound.counts.log_count)
 
 pub returns : goal.returns
@@ -110,4 +110,4 @@ returns c =
     let given : State = state_of c.args.self c.args.settled.now c.args.waiting.now c.args.work.now in
     let st = given in
     let over : trap.slots < st.rec.logged + st.rec.grouped = leb-false _ _ (sym c.fits.ensures ∙ c.if-fits.false) in
-    c.cost-2.ensures ∙ same-figures _ st (omega arith) c.larger-peak.ensures ∙ sym (sync_cost_full trap st c.if-self-eq0.false over) ∙ cost_served trap st Save.sync _ c.sync_number-number.ensures c.if-number-ne0.false
+    c.cost-2.ensures ∙ same-figures _ st (omega arith) c.larger-peak.ensures ∙ sym (sync_cost_full trap st c.if-self-eq0.false over) ∙ cost_served trap st Save.sync _ c.check_sync-number.ensures c.if-number-ne0.false

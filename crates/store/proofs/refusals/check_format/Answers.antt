@@ -1,4 +1,4 @@
--- `store::refusals::format_number` meets its contract.
+-- `store::refusals::check_format` meets its contract.
 use Prim.Native.Nat.{ℕ}
 use mathlib.Core.Path.{◌≡◌, ap, sym, ◌∙◌}
 use mathlib.Core.Bool.{true, false}
@@ -10,7 +10,7 @@ use Rattle.store.specs.State.{State}
 use Rattle.store.specs.CodeState.{state_of, fresh}
 use Rattle.store.specs.Causes.{wrong_sizes}
 use Rattle.store.proofs.Causes.{SizeFacts, sizes_facts}
-use Rattle.store.proofs.refusals.format_number.Goals as goal
+use Rattle.store.proofs.refusals.check_format.Goals as goal
 
 pub returns-then-wrong_sizes : goal.returns-then-wrong_sizes
 returns-then-wrong_sizes c = λ q.

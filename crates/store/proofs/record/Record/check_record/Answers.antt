@@ -1,4 +1,4 @@
--- `store::record::Record::bad_record` meets its contract.
+-- `store::record::Record::check_record` meets its contract.
 use mathlib.Core.Path.{◌≡◌, sym, ◌∙◌}
 use mathlib.Core.Bool.{false}
 use native.Mathlib.Omega.{arith}
@@ -8,7 +8,7 @@ use Rattle.store.specs.State.{State}
 use Rattle.store.specs.CodeState.{state_of}
 use Rattle.store.specs.Causes.{wrong_sizes, wrong_counts, wrong_waiting}
 use Rattle.store.proofs.Causes.{sizes_facts, any_waits, counts_facts}
-use Rattle.store.proofs.record.Record.bad_record.Goals as goal
+use Rattle.store.proofs.record.Record.check_record.Goals as goal
 
 pub returns-then-wrong_sizes : goal.returns-then-wrong_sizes
 returns-then-wrong_sizes c =
