@@ -53,10 +53,3 @@ loop-i-preserved c =
     let e = c.address-a.ensures in
     let missed = asked a.work.now a.from l.i l.seen _ _ e c.met.ensures l.invariant.2 in
     (simp length-set l.invariant.0, climb_on (again a.work.now a.from) l.i l.invariant.1 (missed ∙ c.if-met.false), mark_more (addresses a.work.now a.from) l.seen l.i _ l.invariant.0 e l.invariant.2)
-
-pub returns : goal.returns
-returns c =
-    let l = c.loop-i in
-    let a = c.args in
-    let over : l.i ≡ a.n = omega arith in
-    sym (rw over at l.invariant.1)
