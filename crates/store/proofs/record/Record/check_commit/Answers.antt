@@ -1,47 +1,36 @@
 -- `store::record::Record::check_commit` meets its contract.
-use mathlib.Core.Path.{◌≡◌, refl}
-use mathlib.Core.Bool.{false, cond}
-use native.Mathlib.Omega.{arith}
-use borrow.Author.Tests.{eq-eqb, ne_eqb, lt-ltb, le-ltb}
-use lib.Dec.{eqb}
+use Rattle.std.proofs.Common.{rules, ◌≡◌, false, refl, arith}
+use Rattle.std.specs.Prelude.{Err}
+use borrow.Author.Tests.{lt-ltb, le-ltb}
 use Rattle.journal.specs.Geometry.{trap}
-use Rattle.store.specs.State.{State}
-use Rattle.store.specs.CodeState.{state_of}
 use Rattle.store.specs.Request.{commit, abandon}
-use Rattle.store.specs.Causes.{newcomers, first, cause}
-use Rattle.store.proofs.Causes.{Checked, own_rows, cause_4, passes_sound}
+use Rattle.store.specs.Causes.{newcomers}
+use Rattle.store.proofs.Causes.{own_rows, cause_4, refused_4, passes_sound}
 use Rattle.store.proofs.record.Record.check_commit.Goals as goal
 
-pub returns-then-number-ne0 : goal.returns-then-number-ne0
-returns-then-number-ne0 c =
-    let given : State = state_of c.args.self c.args.settled.now c.args.waiting.now c.args.work.now in
-    let table_of : cause trap commit (given) ≡ cond (eqb c.check_open-number.result 0) (first (own_rows trap commit) (given)) c.check_open-number.result = cause_4 trap (given) c.check_open-number.result (own_rows trap commit) false refl c.check_open-number.ensures in
-    rw (table_of, ne_eqb _ _ c.if-number-ne0.true)
+pub returns-in_err-check_open : goal.returns-in_err-check_open
+returns-in_err-check_open c =
+    let left : c.from_residual.result ≡ Err c.in_err-check_open.field-0.0 = search rules in
+    rw left (refused_4 trap _ _ (own_rows trap commit) false refl c.in_err-check_open.ensures)
 
-pub newcomers-new-requires : goal.newcomers-new-requires
-newcomers-new-requires c =
-    let given : State = state_of c.args.self c.args.settled.now c.args.waiting.now c.args.work.now in
-    let checked : Checked trap (given) = passes_sound trap abandon (given) c.check_open-number.result refl c.check_open-number.ensures c.if-number-ne0.false in
-    let s = checked in omega arith
+pub newcomers-requires : goal.newcomers-requires
+newcomers-requires c =
+    let s = passes_sound trap abandon _ 0 refl c.in_ok-check_open.ensures refl in
+    record { trap_in_bounds = omega arith; g_le_slots = (s.counts.group_count, s.counts.open_count) }
 
 pub overflow_add-self : goal.overflow_add-self
 overflow_add-self c =
-    let given : State = state_of c.args.self c.args.settled.now c.args.waiting.now c.args.work.now in
-    let checked : Checked trap (given) = passes_sound trap abandon (given) c.check_open-number.result refl c.check_open-number.ensures c.if-number-ne0.false in
-    let s = checked in omega arith
+    let s = passes_sound trap abandon _ 0 refl c.in_ok-check_open.ensures refl in
+    omega arith
 
-pub returns-then-self-new-gt-SLOTS : goal.returns-then-self-new-gt-SLOTS
+pub returns-then-self-newcomers-gt-SLOTS : goal.returns-then-self-newcomers-gt-SLOTS
 unfolding trap
-returns-then-self-new-gt-SLOTS c =
-    let given : State = state_of c.args.self c.args.settled.now c.args.waiting.now c.args.work.now in
-    let table_of : cause trap commit (given) ≡ cond (eqb c.check_open-number.result 0) (first (own_rows trap commit) (given)) c.check_open-number.result = cause_4 trap (given) c.check_open-number.result (own_rows trap commit) false refl c.check_open-number.ensures in
-    let st = given in
-    let merged : c.newcomers-new.result ≡ newcomers trap st.work st.rec.grouped st.rec.opened = c.newcomers-new.ensures.0 in
-    rw (table_of, eq-eqb _ _ c.if-number-ne0.false, ← merged, lt-ltb _ _ c.if-self-new-gt-SLOTS.true)
+returns-then-self-newcomers-gt-SLOTS c =
+    let merged : c.newcomers.result ≡ newcomers trap c.args.work.now c.args.self.grouped c.args.self.opened = c.newcomers.ensures.0 in
+    rw (cause_4 trap _ 0 (own_rows trap commit) false refl c.in_ok-check_open.ensures, ← merged, lt-ltb _ _ c.if-self-newcomers-gt-SLOTS.true)
 
 pub returns : goal.returns
 unfolding trap
 returns c =
-    let given : State = state_of c.args.self c.args.settled.now c.args.waiting.now c.args.work.now in
-    let table_of : cause trap commit (given) ≡ cond (eqb c.check_open-number.result 0) (first (own_rows trap commit) (given)) c.check_open-number.result = cause_4 trap (given) c.check_open-number.result (own_rows trap commit) false refl c.check_open-number.ensures in
-    rw (table_of, eq-eqb _ _ c.if-number-ne0.false, ← c.newcomers-new.ensures.0, le-ltb _ _ c.if-self-new-gt-SLOTS.false)
+    let merged : c.newcomers.result ≡ newcomers trap c.args.work.now c.args.self.grouped c.args.self.opened = c.newcomers.ensures.0 in
+    rw (cause_4 trap _ 0 (own_rows trap commit) false refl c.in_ok-check_open.ensures, ← merged, le-ltb _ _ c.if-self-newcomers-gt-SLOTS.false)

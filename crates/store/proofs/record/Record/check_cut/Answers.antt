@@ -1,44 +1,36 @@
 -- `store::record::Record::check_cut` meets its contract.
-use mathlib.Core.Path.{◌≡◌, refl, ap, sym, ◌∙◌}
-use native.Mathlib.Omega.{arith}
-use mathlib.Core.Bool.{true, false, cond, not}
-use borrow.Author.Tests.{eq-eqb, ne_eqb}
-use lib.Dec.{eqb}
+use Rattle.std.proofs.Common.{rules, ◌≡◌, ◌∙◌, sym, ap, not, true, false, refl, arith}
+use Rattle.std.specs.Prelude.{Err}
 use Rattle.card.specs.Card.{queue}
 use Rattle.card.specs.Marks.{marks_fit}
 use Rattle.journal.specs.Geometry.{trap}
 use Rattle.store.specs.State.{State, card_in}
 use Rattle.store.specs.CodeState.{state_of}
 use Rattle.store.specs.Request.{power, cut}
-use Rattle.store.specs.Causes.{first, cause}
-use Rattle.store.proofs.Causes.{any_waits, own_rows, cause_2, passes_sound}
+use Rattle.store.proofs.Causes.{any_waits, own_rows, cause_2, refused_2, passes_sound}
 use Rattle.store.proofs.record.Record.check_cut.Goals as goal
 
-pub returns-then-number-ne0 : goal.returns-then-number-ne0
-returns-then-number-ne0 c =
-    let given : State = state_of c.args.self c.args.settled.now c.args.waiting.now c.args.work.now in
-    let table_of : cause trap (cut c.args.marks.now) (given) ≡ cond (eqb c.check_record-number.result 0) (first (own_rows trap (cut c.args.marks.now)) (given)) c.check_record-number.result = cause_2 trap (given) c.check_record-number.result (own_rows trap (cut c.args.marks.now)) c.check_record-number.ensures in
-    rw (table_of, ne_eqb _ _ c.if-number-ne0.true)
+pub returns-in_err-check_record : goal.returns-in_err-check_record
+returns-in_err-check_record c =
+    let left : c.from_residual.result ≡ Err c.in_err-check_record.field-0.0 = search rules in
+    rw left (refused_2 trap _ _ (own_rows trap (cut c.args.marks.now)) c.in_err-check_record.ensures)
 
 pub fit-requires : goal.fit-requires
 fit-requires c =
-    let given : State = state_of c.args.self c.args.settled.now c.args.waiting.now c.args.work.now in
-    let s = passes_sound trap (power 0) (given) c.check_record-number.result refl c.check_record-number.ensures c.if-number-ne0.false in
-    let few = any_waits trap (given) s.counts in
+    let s = passes_sound trap (power 0) _ 0 refl c.in_ok-check_record.ensures refl in
+    let few = any_waits trap _ s.counts in
     omega arith
 
 pub returns-then-not-fit : goal.returns-then-not-fit
 unfolding queue
 returns-then-not-fit c =
     let given : State = state_of c.args.self c.args.settled.now c.args.waiting.now c.args.work.now in
-    let table_of : cause trap (cut c.args.marks.now) (given) ≡ cond (eqb c.check_record-number.result 0) (first (own_rows trap (cut c.args.marks.now)) (given)) c.check_record-number.result = cause_2 trap (given) c.check_record-number.result (own_rows trap (cut c.args.marks.now)) c.check_record-number.ensures in
-    let unfit : not (marks_fit c.args.marks.now (queue (card_in (given)))) ≡ true = ap not (sym c.fit.ensures ∙ c.if-not-fit.true) in
-    rw (table_of, eq-eqb _ _ c.if-number-ne0.false, unfit)
+    let unfit : not (marks_fit c.args.marks.now (queue (card_in given))) ≡ true = ap not (sym c.fit.ensures ∙ c.if-not-fit.true) in
+    rw (cause_2 trap given 0 (own_rows trap (cut c.args.marks.now)) c.in_ok-check_record.ensures, unfit)
 
 pub returns : goal.returns
 unfolding queue
 returns c =
     let given : State = state_of c.args.self c.args.settled.now c.args.waiting.now c.args.work.now in
-    let table_of : cause trap (cut c.args.marks.now) (given) ≡ cond (eqb c.check_record-number.result 0) (first (own_rows trap (cut c.args.marks.now)) (given)) c.check_record-number.result = cause_2 trap (given) c.check_record-number.result (own_rows trap (cut c.args.marks.now)) c.check_record-number.ensures in
-    let fits : not (marks_fit c.args.marks.now (queue (card_in (given)))) ≡ false = ap not (sym c.fit.ensures ∙ c.if-not-fit.false) in
-    rw (table_of, eq-eqb _ _ c.if-number-ne0.false, fits)
+    let fits : not (marks_fit c.args.marks.now (queue (card_in given))) ≡ false = ap not (sym c.fit.ensures ∙ c.if-not-fit.false) in
+    rw (cause_2 trap given 0 (own_rows trap (cut c.args.marks.now)) c.in_ok-check_record.ensures, fits)
