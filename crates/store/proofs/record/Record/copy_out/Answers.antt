@@ -15,15 +15,6 @@ use Rattle.store.specs.Get.{waiting_from}
 use Rattle.store.proofs.Listings.{copied, met-le, copied-newest, none_out, one_out, all_out}
 use Rattle.store.proofs.record.Record.copy_out.Goals as goal
 
-pub loop-i-init : goal.loop-i-init
-loop-i-init c = none_out _ _
-
-pub slice_bounds-copy_newest-start : goal.slice_bounds-copy_newest-start
-slice_bounds-copy_newest-start c = omega (arith, c.loop-i.invariant.size)
-
-pub slice_bounds-copy_newest-end : goal.slice_bounds-copy_newest-end
-slice_bounds-copy_newest-end c = omega (arith, c.loop-i.invariant.size)
-
 pub copy_newest-requires : goal.copy_newest-requires
 copy_newest-requires c =
     let a = c.args in
@@ -55,9 +46,6 @@ loop-i-preserved c =
     let whole : length (take (512 * l.i + 512 - 512 * l.i) (drop (512 * l.i) l.blocks)) ≡ 512 = rw (length-take, length-drop) (omega (arith, l.invariant.size)) in
     let size : length c.copy_newest.new.block ≡ 512 = kept ∙ whole in
     one_out f a.blocks.now l.blocks c.copy_newest.new.block l.i (512 * l.i + 512 - 512 * l.i) l.invariant (omega arith) (omega arith) size block
-
-pub shape_of-blocks : goal.shape_of-blocks
-shape_of-blocks c = c.loop-i.invariant.size
 
 pub returns : goal.returns
 returns c =
