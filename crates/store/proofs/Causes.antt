@@ -21,6 +21,9 @@ use Rattle.journal.specs.Lookup.{last_of}
 use Rattle.journal.specs.Log.{slot_address}
 use Rattle.journal.proofs.Logs.{neither, slot_data}
 use Rattle.journal.proofs.Lookups.{Marked, unmarked}
+use Rattle.refusals.specs.Numbers.{number_of}
+use Rattle.refusals.specs.declared.Refusal.{Refusal}
+use Rattle.refusals.proofs.Nonzero.{refusal_nonzero}
 use Rattle.store.specs.State.{State, closed, open_mode, down}
 use Rattle.store.specs.Lists.{open_from, group_from, listed, find}
 use Rattle.store.specs.Request.{Request, power, abandon}
@@ -338,3 +341,14 @@ module _ (geo : Geometry) where
     -- likewise for a call that needs a closed record
     pub cause_5 : n ≡ cause_by geo (of_record false (down_row ∷ open_row ∷ [])) st → cause_by geo (of_record false (down_row ∷ open_row ∷ rest)) st ≡ cond (eqb n 0) (first rest st) n
     cause_5 e = rows_4 3 4 (wrong_sizes geo st || false) (wrong_record geo st) (eqb st.rec.mode down) (eqb st.rec.mode open_mode) n _ e
+
+-- ---- a refusal by the shared rows
+
+module _ (geo : Geometry) (st : State) (e : Refusal) (rest : List Row) where
+  -- what rows 1 and 2 refuse, each call that reads the record refuses
+  pub refused_2 : number_of e ≡ cause geo (power 0) st → number_of e ≡ cause_by geo (of_record false rest) st
+  refused_2 h = sym (cause_2 geo st (number_of e) rest h ∙ rw (refusal_nonzero e))
+
+  -- what rows 1 to 4 refuse, each call that needs an open record refuses
+  pub refused_4 : (own : Bool) → own ≡ false → number_of e ≡ cause geo abandon st → number_of e ≡ cause_by geo (of_open own rest) st
+  refused_4 own block h = sym (cause_4 geo st (number_of e) rest own block h ∙ rw (refusal_nonzero e))

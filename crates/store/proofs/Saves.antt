@@ -257,8 +257,8 @@ module _ (geo : Geometry) where
   -- n: what the rows of the record and of the mode come to
   module _ (st : State) (n : ℕ) (e : n ≡ cause_by geo (of_record false (down_row ∷ open_row ∷ [])) st) where
     -- they refuse it
-    pub recover_barred : n ≢ 0 → n ≡ cause geo recover st
-    recover_barred z = sym (cause_5 geo st n (foreign_row geo ∷ unsound_row geo ∷ []) e ∙ rw (ne_eqb _ _ z))
+    pub recover_barred : eqb n 0 ≡ false → n ≡ cause geo recover st
+    recover_barred z = sym (cause_5 geo st n (foreign_row geo ∷ unsound_row geo ∷ []) e ∙ rw z)
 
     -- they do not: its cause is that of its choice
     pub recover-cause : n ≡ 0 → cause geo recover st ≡ choice_number (choose geo st.rec.blocks st.settled)

@@ -1,0 +1,2 @@
+-- The laws of the causes' numbers that the crates above cite.
+pub mod Nonzero

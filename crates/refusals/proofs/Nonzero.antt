@@ -1,0 +1,21 @@
+-- 0 is no cause's number: it is what a call answers that is not refused.
+use Rattle.std.proofs.Common.{◌≡◌, refl}
+use Rattle.std.specs.Prelude.{false, eqb}
+use Rattle.refusals.specs.declared.Refusal.{Refusal}
+use Rattle.refusals.specs.declared.Refusal.TheVariants.{Size, Record, Closed, Down, Open, Address, Full, Foreign, Unsound, Marks, LastSave, InUse, Listed}
+use Rattle.refusals.specs.Numbers.{number_of}
+
+pub refusal_nonzero : (e : Refusal) → eqb (number_of e) 0 ≡ false
+refusal_nonzero Size = refl
+refusal_nonzero Record = refl
+refusal_nonzero Closed = refl
+refusal_nonzero Down = refl
+refusal_nonzero Open = refl
+refusal_nonzero Address = refl
+refusal_nonzero Full = refl
+refusal_nonzero Foreign = refl
+refusal_nonzero Unsound = refl
+refusal_nonzero Marks = refl
+refusal_nonzero LastSave = refl
+refusal_nonzero InUse = refl
+refusal_nonzero Listed = refl
