@@ -7,10 +7,13 @@ use mathlib.Core.Logic.{◌≢◌}
 use mathlib.Core.List.{List}
 use native.Mathlib.Omega.{arith}
 use native.Mathlib.Numerals.{add-one}
+use Rattle.std.proofs.Common.{zero-add}
 use native.Mathlib.Decide.{ℕ_discrete}
 use borrow.Author.Tests.{eq-eqb, ne_eqb, eqb-true, eqb-false, ltb-true, ltb-false, not-false}
 use lib.Dec.{eqb, ltb}
 use lib.ListN.{length, get_or}
+use Rattle.std.specs.List.{list_any, range_with_len}
+use Rattle.std.proofs.lemmas.List.Folds.{list_any-append}
 use Rattle.cells.specs.Entry.{block_bytes, entry_at}
 use Rattle.card.specs.Card.{blocks_in}
 use Rattle.card.specs.CodeQueue.{Below}
@@ -28,6 +31,7 @@ use Rattle.store.specs.State.{State, closed, open_mode, down}
 use Rattle.store.specs.Lists.{open_from, group_from, listed, find}
 use Rattle.store.specs.Request.{Request, power, abandon}
 use Rattle.store.specs.Causes.{waiting_bytes, work_bytes, most_waiting, Row, wrong_sizes, some, wrong_counts, wrong_waiting, is_found, wrong_lists, wrong_record, down_row, open_row, Rules, of_bytes, of_record, of_open, rules, own_size, wrong_block, first, cause_by, cause}
+use Rattle.store.proofs.Lookups.{range_more}
 
 -- ---- a search of n places from the last one down, i of them left
 
@@ -74,6 +78,15 @@ climb_hit f i (suc n) h e = go (ℕ_discrete i n) (λ q. climb_hit f i n q e)
 pub climb_on : (f : ℕ → Bool) (i : ℕ) → some f i ≡ false → f i ≡ false → some f (i + 1) ≡ false
 unfolding some
 climb_on f i none e = rw (add-one, none, e)
+
+-- the library's search of the places
+pub some_any : (f : ℕ → Bool) (n : ℕ) → list_any f (range_with_len 0 n) ≡ some f n
+unfolding some
+some_any f zero = refl
+some_any f (suc n) =
+    ap (list_any f) (range_more 0 n)
+    ∙ list_any-append f (range_with_len 0 n) ((0 + n) ∷ [])
+    ∙ rw (zero-add n, some_any f n, or-false (f n))
 
 -- a search that is left out where the address's bucket is not marked
 pub met-found : (f : ℕ → ℕ) (seen : List ℕ) (i a : ℕ) → Marked f seen i

@@ -1,16 +1,76 @@
 -- The laws of lookups.
-use Rattle.std.specs.Prelude.{Some}
-use Prim.Native.Nat.{ℕ, zero, suc, ◌<◌}
+use Rattle.std.specs.Prelude.{Option, Some, None}
+use Rattle.std.proofs.Common.{zero-add}
+use Rattle.std.specs.List.{range_with_len, find as find-first}
+use Rattle.std.specs.Option.{option_map}
+use Rattle.std.specs.Range.{range_steps_back}
+use Rattle.std.specs.declared.iter.Rev.{Rev}
+use Rattle.std.specs.declared.ops.Range.{Range}
+use Rattle.std.proofs.lemmas.Iterator.{YieldsList}
+use Rattle.std.proofs.lemmas.Iterator.Consumers.{YieldsList-from_shown}
+use Rattle.std.proofs.lemmas.Iterator.Adapters.{option_map_id}
+use Rattle.std.proofs.lemmas.List.FromFn.{length-range_with_len}
+use Rattle.std.proofs.lemmas.List.{reverse-append, length-reverse}
+use Prim.Native.Nat.{ℕ, zero, suc, ◌+◌, ◌-◌, ◌<◌}
 use mathlib.Core.Path.{◌≡◌, refl, ap, sym, ◌∙◌}
 use mathlib.Core.Bool.{Bool, true, false, cond}
-use mathlib.Core.List.{List}
+use mathlib.Core.List.{List, [], ◌∷◌, ◌++◌, reverse}
 use native.Mathlib.Omega.{arith}
 use native.Mathlib.Decide.{ℕ_discrete}
 use borrow.Author.Tests.{eqb-true, eqb-false}
+use mathlib.Core.Path.{subst}
 use lib.Dec.{eqb}
+use lib.ListN.{length}
 use Rattle.journal.specs.Lookup.{last_of}
 use Rattle.store.specs.Lists.{listed, find}
 use Rattle.store.specs.Causes.{is_found}
+
+-- ---- the library's search from the last place down
+
+-- one more place
+pub range_more : (a n : ℕ) → range_with_len a (suc n) ≡ range_with_len a n ++ (a + n) ∷ []
+range_more a zero = ap (λ (x : ℕ). x ∷ []) (let e : a ≡ a + 0 = omega arith in e)
+range_more a (suc n) =
+    let e : a + 1 + n ≡ a + suc n = omega arith in
+    ap (λ (xs : List ℕ). a ∷ xs) (range_more (a + 1) n ∙ ap (λ (x : ℕ). range_with_len (a + 1) n ++ x ∷ []) e)
+
+range_down : (a n : ℕ) → reverse (range_with_len a (suc n)) ≡ (a + n) ∷ reverse (range_with_len a n)
+range_down a n = ap reverse (range_more a n) ∙ reverse-append (range_with_len a n) ((a + n) ∷ [])
+
+abbrev shown : Rev (Range ℕ) → List ℕ
+shown s = reverse (range_with_len s.iter.start (s.iter.end - s.iter.start))
+
+abbrev steps_down : Rev (Range ℕ) → Option ℕ → Rev (Range ℕ) → Type 0
+steps_down s r t = range_steps_back (λ (x y : ℕ). y - x) (λ (x y : ℕ). y ≡ x + 1) s.iter r t.iter
+
+pub places_down : {s : Rev (Range ℕ)} (n : ℕ) → s.iter ≡ record { start = 0; end = n } → YieldsList steps_down (λ x. x) s (reverse (range_with_len 0 n))
+places_down {s} n e =
+    let all : shown s ≡ reverse (range_with_len 0 n) =
+        ap (λ (p : Range ℕ). reverse (range_with_len p.start (p.end - p.start))) e ∙ ap (λ (k : ℕ). reverse (range_with_len 0 k)) (let z : n - 0 ≡ n = omega arith in z) in
+    subst (YieldsList steps_down (λ x. x) s) all (YieldsList-from_shown steps_down (λ x. x) shown none some s)
+  where
+    none : (s t : Rev (Range ℕ)) → steps_down s None t → length (shown s) ≡ 0
+    none s t p = length-reverse _ ∙ length-range_with_len s.iter.start (s.iter.end - s.iter.start) ∙ p.1.0
+
+    some : (s : Rev (Range ℕ)) (x : ℕ) (t : Rev (Range ℕ)) → steps_down s (Some x) t → shown s ≡ x ∷ shown t
+    some s x t p =
+        let a = s.iter.start in
+        let m = t.iter.end - a in
+        let longer : s.iter.end - a ≡ suc m = omega (arith, p.1) in
+        let here : a + m ≡ x = omega (arith, p.1) in
+        ap (λ (k : ℕ). reverse (range_with_len a k)) longer
+        ∙ range_down a m
+        ∙ ap (λ (y : ℕ). y ∷ reverse (range_with_len a m)) here
+        ∙ ap (λ (k : ℕ). x ∷ reverse (range_with_len k (t.iter.end - k))) (sym p.0)
+
+-- its result is the lookup's
+pub last_find : (f : ℕ → ℕ) (a n : ℕ) (r : Option ℕ) → option_map (λ x. x) r ≡ find-first (λ i. eqb (f i) a) (reverse (range_with_len 0 n)) → r ≡ last_of f a n
+unfolding last_of
+last_find f a n r e = sym (option_map_id r) ∙ e ∙ same n
+  where
+    same : (n : ℕ) → find-first (λ i. eqb (f i) a) (reverse (range_with_len 0 n)) ≡ last_of f a n
+    same zero = refl
+    same (suc n) = ap (find-first (λ i. eqb (f i) a)) (range_down 0 n) ∙ rw (zero-add n, same n)
 
 -- where a lookup ends
 pub last_at : (g : ℕ → ℕ) (a n i : ℕ) → last_of g a n ≡ Some i → (i < n) × (g i ≡ a)

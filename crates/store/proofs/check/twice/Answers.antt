@@ -37,13 +37,13 @@ pub returns-then-n-lt2 : goal.returns-then-n-lt2
 returns-then-n-lt2 c = single c.args.work.now c.args.from c.args.n c.if-n-lt2.true
 
 pub loop-i-init : goal.loop-i-init
-loop-i-init c = (omega arith, refl, climb_none (again c.args.work.now c.args.from), λ j h. absurd (omega arith))
+loop-i-init c = (refl, climb_none (again c.args.work.now c.args.from), λ j h. absurd (omega arith))
 
 pub returns-then-met : goal.returns-then-met
 returns-then-met c =
     let l = c.loop-i in
     let a = c.args in
-    let hit = asked a.work.now a.from l.i l.seen _ _ c.address-a.ensures c.met.ensures l.invariant.3 in
+    let hit = asked a.work.now a.from l.i l.seen _ _ c.address-a.ensures c.met.ensures l.invariant.2 in
     climb_hit (again a.work.now a.from) l.i a.n (omega arith) (hit ∙ c.if-met.true)
 
 pub loop-i-preserved : goal.loop-i-preserved
@@ -51,12 +51,12 @@ loop-i-preserved c =
     let l = c.loop-i in
     let a = c.args in
     let e = c.address-a.ensures in
-    let missed = asked a.work.now a.from l.i l.seen _ _ e c.met.ensures l.invariant.3 in
-    (omega arith, simp length-set l.invariant.1, climb_on (again a.work.now a.from) l.i l.invariant.2 (missed ∙ c.if-met.false), mark_more (addresses a.work.now a.from) l.seen l.i _ l.invariant.1 e l.invariant.3)
+    let missed = asked a.work.now a.from l.i l.seen _ _ e c.met.ensures l.invariant.2 in
+    (simp length-set l.invariant.0, climb_on (again a.work.now a.from) l.i l.invariant.1 (missed ∙ c.if-met.false), mark_more (addresses a.work.now a.from) l.seen l.i _ l.invariant.0 e l.invariant.2)
 
 pub returns : goal.returns
 returns c =
     let l = c.loop-i in
     let a = c.args in
     let over : l.i ≡ a.n = omega arith in
-    sym (rw over at l.invariant.2)
+    sym (rw over at l.invariant.1)

@@ -1,5 +1,5 @@
 -- `store::check::twice` meets its contract. The invariant: none of the first i is there twice, and each has marked its bucket.
-use Prim.Native.Nat.{ℕ, ◌-◌, ◌≤◌}
+use Prim.Native.Nat.{ℕ}
 use mathlib.Core.Path.{◌≡◌}
 use mathlib.Core.Bool.{false}
 use mathlib.Core.List.{List}
@@ -13,7 +13,4 @@ abbrev pub addresses : List ℕ → ℕ → ℕ → ℕ
 addresses work from i = (listed work from i).address
 
 abbrev pub invariant-loop-i : goal.invariant-loop-i
-invariant-loop-i l = (l.i ≤ l.n) × (length l.seen ≡ 128) × (twice l.work l.from l.i ≡ false) × Marked (addresses l.work l.from) l.seen l.i
-
-abbrev pub decreases-loop-i : goal.decreases-loop-i
-decreases-loop-i l = l.n - l.i
+invariant-loop-i l = (length l.seen ≡ 128) × (twice l.work l.from l.i ≡ false) × Marked (addresses l.work l.from) l.seen l.i

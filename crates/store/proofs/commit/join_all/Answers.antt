@@ -13,14 +13,14 @@ use Rattle.store.proofs.commit.join_all.Goals as goal
 
 pub loop-i-init : goal.loop-i-init
 unfolding joined
-loop-i-init c = (omega arith, refl)
+loop-i-init c = refl
 
 pub join-count-requires : goal.join-count-requires
 join-count-requires c =
     let known : let a = c.args in
     Joining trap a.work.now a.g c.loop-i.i (record { work = c.loop-i.work; count = c.loop-i.count }) = let a = c.args in
     let fits = newcomers_mono trap a.work.now a.g c.loop-i.i a.n (omega arith) in
-    rw c.loop-i.invariant.1 (joining trap a.work.now (λ k. (c.slice_known-1.given k).fits) c.requires.trap_in_bounds a.g c.loop-i.i (omega arith) (omega arith)) in
+    rw c.loop-i.invariant (joining trap a.work.now (λ k. (c.slice_known-1.given k).fits) c.requires.trap_in_bounds a.g c.loop-i.i (omega arith) (omega arith)) in
     let a = c.args in
     let j = known in
     let size : length c.loop-i.work ≡ length a.work.now = j.size in
@@ -39,25 +39,23 @@ loop-i-preserved c =
     let known : let a = c.args in
     Joining trap a.work.now a.g c.loop-i.i (record { work = c.loop-i.work; count = c.loop-i.count }) = let a = c.args in
     let fits = newcomers_mono trap a.work.now a.g c.loop-i.i a.n (omega arith) in
-    rw c.loop-i.invariant.1 (joining trap a.work.now (λ k. (c.slice_known-1.given k).fits) c.requires.trap_in_bounds a.g c.loop-i.i (omega arith) (omega arith)) in
+    rw c.loop-i.invariant (joining trap a.work.now (λ k. (c.slice_known-1.given k).fits) c.requires.trap_in_bounds a.g c.loop-i.i (omega arith) (omega arith)) in
     let a = c.args in
-    let few : c.loop-i.i < trap.slots = omega arith in (
-      omega arith,
+    let few : c.loop-i.i < trap.slots = omega arith in
       c.join-count.ensures
           ∙ ap (λ (e : Entry). join trap e (record { work = c.loop-i.work; count = c.loop-i.count })) ((known).same_open c.loop-i.i few)
-          ∙ ap (join trap (listed a.work.now open_from c.loop-i.i)) c.loop-i.invariant.1
-          ∙ sym (joined_more trap c.loop-i.i (record { work = a.work.now; count = a.g })),
-    )
+          ∙ ap (join trap (listed a.work.now open_from c.loop-i.i)) c.loop-i.invariant
+          ∙ sym (joined_more trap c.loop-i.i (record { work = a.work.now; count = a.g }))
 
 pub shape_of-work : goal.shape_of-work
 shape_of-work c =
     let known : let a = c.args in
     Joining trap a.work.now a.g c.loop-i.i (record { work = c.loop-i.work; count = c.loop-i.count }) = let a = c.args in
     let fits = newcomers_mono trap a.work.now a.g c.loop-i.i a.n (omega arith) in
-    rw c.loop-i.invariant.1 (joining trap a.work.now (λ k. (c.slice_known-1.given k).fits) c.requires.trap_in_bounds a.g c.loop-i.i (omega arith) (omega arith)) in
+    rw c.loop-i.invariant (joining trap a.work.now (λ k. (c.slice_known-1.given k).fits) c.requires.trap_in_bounds a.g c.loop-i.i (omega arith) (omega arith)) in
     (known).size
 
 pub returns : goal.returns
 returns c =
     let all : c.loop-i.i ≡ c.args.n = omega arith in
-    rw (← all) c.loop-i.invariant.1
+    rw (← all) c.loop-i.invariant

@@ -10,7 +10,7 @@ use Rattle.store.specs.Lists.{listed, addresses_of}
 use Rattle.store.proofs.lists.look.Goals as goal
 
 pub loop-i-init : goal.loop-i-init
-loop-i-init c = (omega arith, refl, c.requires.met)
+loop-i-init c = (refl, c.requires.met)
 
 pub mark-requires : goal.mark-requires
 mark-requires c =
@@ -22,24 +22,20 @@ mark-requires c =
       k_lt_slots = omega arith;
     }
 
-pub overflow_add-i : goal.overflow_add-i
-unfolding trap
-overflow_add-i c = search rules
-
 pub loop-i-preserved : goal.loop-i-preserved
 loop-i-preserved c =
     let a = c.args in
     let l = c.loop-i in
     let size : length (addresses_of a.work.now a.from l.i) ≡ l.i = length-up_to (λ j. (listed a.work.now a.from j).address) l.i in
     let next : c.address.result ≡ (listed a.work.now a.from l.i).address = c.address.ensures in
-    (omega arith, c.mark.auto.met ∙ l.invariant.1, rw (add-one, ← next) (c.mark.ensures (addresses_of a.work.now a.from l.i) size l.invariant.2))
+    (c.mark.auto.met ∙ l.invariant.0, rw (add-one, ← next) (c.mark.ensures (addresses_of a.work.now a.from l.i) size l.invariant.1))
 
 pub shape_of-met : goal.shape_of-met
-shape_of-met c = c.loop-i.invariant.1
+shape_of-met c = c.loop-i.invariant.0
 
 pub returns : goal.returns
 returns c =
     let a = c.args in
     let l = c.loop-i in
     let over : l.i ≡ a.n = omega arith in
-    rw over at l.invariant.2
+    rw over at l.invariant.1

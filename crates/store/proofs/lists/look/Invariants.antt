@@ -1,5 +1,4 @@
 -- `store::lists::look` meets its contract: the first i were looked at.
-use Prim.Native.Nat.{◌-◌, ◌≤◌}
 use mathlib.Core.Path.{◌≡◌}
 use lib.ListN.{length}
 use Rattle.journal.specs.CodeWanted.{Met}
@@ -7,7 +6,4 @@ use Rattle.store.specs.Lists.{addresses_of}
 use Rattle.store.proofs.lists.look.Given as goal
 
 abbrev pub invariant-loop-i : goal.invariant-loop-i
-invariant-loop-i l = (l.i ≤ l.n) × (length l.met ≡ length l.initial.met) × Met l.list (addresses_of l.work l.from l.i) l.met
-
-abbrev pub decreases-loop-i : goal.decreases-loop-i
-decreases-loop-i l = l.n - l.i
+invariant-loop-i l = (length l.met ≡ length l.initial.met) × Met l.list (addresses_of l.work l.from l.i) l.met

@@ -11,7 +11,7 @@ use Rattle.store.proofs.refusals.newcomers.Goals.{then-not-holds, else-not-holds
 
 pub loop-i-init : goal.loop-i-init
 unfolding newcomers
-loop-i-init c = (omega arith, refl, omega arith)
+loop-i-init c = (refl, omega arith)
 
 pub holds-requires : goal.holds-requires
 unfolding trap
@@ -39,4 +39,4 @@ loop-i-preserved c =
 pub returns : goal.returns
 returns c =
     let all : c.loop-i.i ≡ c.args.n = omega arith in
-    (rw (← all) c.loop-i.invariant.1, omega arith)
+    (rw (← all) c.loop-i.invariant.0, omega arith)

@@ -1,38 +1,16 @@
--- `store::record::Record::wrong_waiting` meets its contract. The invariant: each of the first i addresses is below N.
-use Prim.Native.Nat.{◌≤◌}
-use mathlib.Core.Path.{◌≡◌, refl, sym}
-use native.Mathlib.Omega.{arith}
-use borrow.Author.Tests.{lt-ltb, le-ltb}
+-- `store::record::Record::wrong_waiting` meets its contract: `any` of the places, one by one.
+use Rattle.std.proofs.Common.{rules, tests, ◌∙◌, not, ltb, refl, arith}
+use Rattle.std.proofs.lemmas.Iterator.{YieldsList-from_range}
+use Rattle.std.proofs.lemmas.Iterator.Search.{any_from_yields_List}
 use Rattle.cells.specs.Entry.{entry_at}
 use Rattle.store.specs.Causes.{wrong_waiting}
-use Rattle.store.proofs.Causes.{climb_none, climb_hit, climb_on}
-use Rattle.store.proofs.record.Record.wrong_waiting.Invariants.{foreign}
+use Rattle.store.proofs.Causes.{some_any}
 use Rattle.store.proofs.record.Record.wrong_waiting.Goals as goal
-
-pub loop-i-init : goal.loop-i-init
-loop-i-init c =
-    let a = c.args in
-    (omega arith, refl, climb_none (foreign a.waiting.now a.self.blocks))
-
-pub returns-then-self-address : goal.returns-then-self-address
-unfolding wrong_waiting
-returns-then-self-address c =
-    let l = c.loop-i in
-    let a = c.args in
-    let here : c.address.result ≡ (entry_at a.waiting.now l.i).address = c.address.ensures in
-    let far : a.self.blocks ≤ (entry_at a.waiting.now l.i).address = omega arith in
-    λ s k. climb_hit (foreign a.waiting.now a.self.blocks) l.i a.self.waiting (omega arith) (rw (le-ltb _ _ far))
-
-pub loop-i-preserved : goal.loop-i-preserved
-loop-i-preserved c =
-    let l = c.loop-i in
-    let a = c.args in
-    (omega arith, l.invariant.1, climb_on (foreign a.waiting.now a.self.blocks) l.i l.invariant.2 (rw (← c.address.ensures, lt-ltb _ _ c.if-self-address.false)))
 
 pub returns : goal.returns
 unfolding wrong_waiting
 returns c =
-    let l = c.loop-i in
-    let a = c.args in
-    let over : l.i ≡ a.self.waiting = omega arith in
-    λ s k. sym (rw over at l.invariant.2)
+    let n = c.args.self.waiting in
+    λ s k. any_from_yields_List (λ i. not (ltb (entry_at c.args.waiting.now i).address c.args.self.blocks)) _ _ c.any.result c.any.ensures.ran (YieldsList-from_range 0 n n refl (omega arith))
+    (λ x b q k. search (rules, tests))
+    ∙ some_any _ n
