@@ -138,10 +138,8 @@ fn settle_all(settled: &mut [u8], waiting: &[u8], n: usize)
     requires below { Below (blocks_in settled.old) waiting.now n }
     ensures { settled.new ≡ Card.settle (up_to (entry_at waiting.now) n) settled.old }
 {
-    let mut i = 0;
-    while i < n {
+    for i in 0..n {
         settle_one(settled, waiting, i);
-        i += 1;
     }
 }
 
@@ -152,9 +150,7 @@ fn settle_marked(settled: &mut [u8], waiting: &[u8], marks: &[u8], n: usize)
     requires marks_len { length marks.now ≡ block_bytes * n }
     ensures { settled.new ≡ Card.settle_kept marks.now 0 (up_to (entry_at waiting.now) n) settled.old }
 {
-    let mut i = 0;
-    while i < n {
+    for i in 0..n {
         settle_bytes(settled, waiting, marks, i);
-        i += 1;
     }
 }
