@@ -52,17 +52,13 @@ fn sum_group(h: u64, work: &[u8], group: Group) -> u64
 {
     let from = group.from as usize;
     let count = group.count as usize;
-    let mut sum = h;
-    let mut i = 0;
-    while i < count {
-        sum = sum_entry(
+    (0..count).fold(h, |sum, i| {
+        sum_entry(
             sum,
             entry::address(work, from + i),
             entry::block(work, from + i),
-        );
-        i += 1;
-    }
-    sum
+        )
+    })
 }
 
 // Writes a group's addresses into a descriptor, from byte `at` on.
@@ -73,10 +69,8 @@ fn list_addresses(block: &mut [u8], at: usize, work: &[u8], group: Group)
 {
     let from = group.from as usize;
     let count = group.count as usize;
-    let mut i = 0;
-    while i < count {
+    for i in 0..count {
         write_u32(block, at + ADDRESS * i, entry::address(work, from + i));
-        i += 1;
     }
 }
 
