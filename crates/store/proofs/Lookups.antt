@@ -46,7 +46,7 @@ steps_down s r t = range_steps_back (λ (x y : ℕ). y - x) (λ (x y : ℕ). y �
 pub places_down : {s : Rev (Range ℕ)} (n : ℕ) → s.iter ≡ record { start = 0; end = n } → YieldsList steps_down (λ x. x) s (reverse (range_with_len 0 n))
 places_down {s} n e =
     let all : shown s ≡ reverse (range_with_len 0 n) =
-        ap (λ (p : Range ℕ). reverse (range_with_len p.start (p.end - p.start))) e ∙ ap (λ (k : ℕ). reverse (range_with_len 0 k)) (let z : n - 0 ≡ n = omega arith in z) in
+    ap (λ (p : Range ℕ). reverse (range_with_len p.start (p.end - p.start))) e ∙ ap (λ (k : ℕ). reverse (range_with_len 0 k)) (let z : n - 0 ≡ n = omega arith in z) in
     subst (YieldsList steps_down (λ x. x) s) all (YieldsList-from_shown steps_down (λ x. x) shown none some s)
   where
     none : (s t : Rev (Range ℕ)) → steps_down s None t → length (shown s) ≡ 0

@@ -14,12 +14,7 @@ use crate::record::Record;
 use refusals::Refusal;
 
 impl Record {
-    pub fn commit(
-        self,
-        settled: &[u8],
-        waiting: &[u8],
-        work: &mut [u8],
-    ) -> Result<Record, Refusal>
+    pub fn commit(self, settled: &[u8], waiting: &[u8], work: &mut [u8]) -> Result<Record, Refusal>
         ensures { answered result self settled.now waiting.now work.new ≡ commit_call trap (state_of self settled.now waiting.now work.old) }
     {
         self.check_commit(settled, waiting, work)?;

@@ -58,7 +58,12 @@ impl Record {
     }
 
     // The cause of a commit. Row 7 is counted before anything is copied.
-    pub(crate) fn check_commit(self, settled: &[u8], waiting: &[u8], work: &[u8]) -> Result<(), Refusal>
+    pub(crate) fn check_commit(
+        self,
+        settled: &[u8],
+        waiting: &[u8],
+        work: &[u8],
+    ) -> Result<(), Refusal>
         ensures { answer result ≡ cause trap Request.commit (state_of self settled.now waiting.now work.now) }
     {
         self.check_open(settled, waiting, work)?;
@@ -69,7 +74,13 @@ impl Record {
     }
 
     // The cause of a cut.
-    pub(crate) fn check_cut(self, settled: &[u8], waiting: &[u8], work: &[u8], marks: &[u8]) -> Result<(), Refusal>
+    pub(crate) fn check_cut(
+        self,
+        settled: &[u8],
+        waiting: &[u8],
+        work: &[u8],
+        marks: &[u8],
+    ) -> Result<(), Refusal>
         ensures { answer result ≡ cause trap (Request.cut marks.now) (state_of self settled.now waiting.now work.now) }
     {
         self.check_record(settled, waiting, work)?;

@@ -42,10 +42,10 @@ loop-i-preserved c =
     rw c.loop-i.invariant (joining trap a.work.now (λ k. (c.slice_known-1.given k).fits) c.requires.trap_in_bounds a.g c.loop-i.i (omega arith) (omega arith)) in
     let a = c.args in
     let few : c.loop-i.i < trap.slots = omega arith in
-      c.join-count.ensures
-          ∙ ap (λ (e : Entry). join trap e (record { work = c.loop-i.work; count = c.loop-i.count })) ((known).same_open c.loop-i.i few)
-          ∙ ap (join trap (listed a.work.now open_from c.loop-i.i)) c.loop-i.invariant
-          ∙ sym (joined_more trap c.loop-i.i (record { work = a.work.now; count = a.g }))
+    c.join-count.ensures
+    ∙ ap (λ (e : Entry). join trap e (record { work = c.loop-i.work; count = c.loop-i.count })) ((known).same_open c.loop-i.i few)
+    ∙ ap (join trap (listed a.work.now open_from c.loop-i.i)) c.loop-i.invariant
+    ∙ sym (joined_more trap c.loop-i.i (record { work = a.work.now; count = a.g }))
 
 pub shape_of-work : goal.shape_of-work
 shape_of-work c =
