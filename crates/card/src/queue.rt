@@ -1,10 +1,10 @@
 // The queue of waiting writes, and the orders: write, flush, and the cut that ends them.
-ghost use Rattle.std.specs.Prelude.{◌≡◌, true, false, List, [], ◌∷◌, ℕ, ◌+◌, ◌*◌, ◌-◌, ◌≤◌, ◌<◌, ltb, length};
+ghost use Rattle.std.specs.Prelude.{◌≡◌, List, [], ◌∷◌, ℕ, ◌+◌, ◌*◌, ◌-◌, ◌≤◌, ◌<◌, ltb, length, is_ok, IfOk, IfErr};
 ghost use Rattle.cells.specs.Upto.{up_to};
 ghost use Rattle.cells.specs.Entry.{block_bytes, entry_bytes, entry_at};
 ghost use Rattle.card.specs.Card as Card;
 ghost use Rattle.card.specs.Card.{most_places, blocks_in, run};
-ghost use Rattle.card.specs.CodeQueue.{card_of, Below};
+ghost use Rattle.card.specs.CodeQueue.{card_of, left_queue, Below};
 
 use crate::settled::{settle, settle_kept};
 use cells::{BLOCK, entry};
@@ -16,10 +16,9 @@ pub struct Queue {
     pub power: u32,
 }
 
-// What an order came to: whether it happened, and the queue after it.
+// The power was gone, so the order did not happen: the queue as it is left.
 #[derive(Clone, Copy)]
-pub struct Ordered {
-    pub happened: bool,
+pub struct PowerLost {
     pub queue: Queue,
 }
 
@@ -32,60 +31,45 @@ pub fn address(waiting: &[u8], i: usize) -> u32
 }
 
 impl Queue {
-    // An order at power 0 does not happen.
-    fn refused(self) -> Ordered
-        ensures { result ≡ record { happened = false; queue = self } }
+    // The queue after an order that leaves so many writes waiting. The order takes 1 of the power, and does not happen at power 0.
+    fn ordered(self, waiting: u32) -> Result<Queue, PowerLost>
+        ensures ok { IfOk result (λ queue. (0 < self.power) × (queue ≡ record { waiting = waiting; power = self.power - 1 })) }
+        ensures err { IfErr result (λ lost. (self.power ≡ 0) × (lost ≡ record { queue = self })) }
     {
-        Ordered {
-            happened: false,
-            queue: self,
+        if self.power == 0 {
+            return Err(PowerLost { queue: self });
         }
-    }
-
-    // An order that happens takes 1 of the power.
-    fn done(self, waiting: u32) -> Ordered
-        requires { 0 < self.power }
-        ensures { result ≡ record { happened = true; queue = record { waiting = waiting; power = self.power - 1 } } }
-    {
-        Ordered {
-            happened: true,
-            queue: Queue {
-                waiting,
-                power: self.power - 1,
-            },
-        }
+        Ok(Queue {
+            waiting,
+            power: self.power - 1,
+        })
     }
 
     // The order write: one more waiting write, or nothing at power 0.
-    pub fn write(self, waiting: &mut [u8], address: u32, block: &[u8]) -> Ordered
+    pub fn write(self, waiting: &mut [u8], address: u32, block: &[u8]) -> Result<Queue, PowerLost>
         requires entry_bytes_in_bounds { entry_bytes * self.waiting + entry_bytes ≤ length waiting.old }
         requires waiting_lt_most_places { self.waiting < most_places }
         requires block_len { length block.now ≡ block_bytes }
-        ensures happened_value { result.happened ≡ ltb 0 self.power }
-        ensures by_index { (s : List ℕ) → card_of s waiting.new result.queue ≡ run (Card.write (record { address = address; block = block.now }) ∷ []) (card_of s waiting.old self) }
-        ensures waiting_bound { result.queue.waiting ≤ self.waiting + 1 }
+        ensures happened_value { is_ok result ≡ ltb 0 self.power }
+        ensures by_index { (s : List ℕ) → card_of s waiting.new (left_queue result) ≡ run (Card.write (record { address = address; block = block.now }) ∷ []) (card_of s waiting.old self) }
+        ensures waiting_bound { (left_queue result).waiting ≤ self.waiting + 1 }
     {
-        if self.power == 0 {
-            return self.refused();
-        }
-        let at = self.waiting as usize;
-        entry::set(waiting, at, address, block);
-        self.done(self.waiting + 1)
+        let queue = self.ordered(self.waiting + 1)?;
+        entry::set(waiting, self.waiting as usize, address, block);
+        Ok(queue)
     }
 
     // The order flush: all waiting writes settle, oldest first, and the queue is empty; or nothing at power 0.
-    pub fn flush(self, settled: &mut [u8], waiting: &[u8]) -> Ordered
+    pub fn flush(self, settled: &mut [u8], waiting: &[u8]) -> Result<Queue, PowerLost>
         requires waiting_in_bounds { entry_bytes * self.waiting ≤ length waiting.now }
         requires below { Below (blocks_in settled.old) waiting.now self.waiting }
-        ensures happened_value { result.happened ≡ ltb 0 self.power }
-        ensures queue_after { card_of settled.new waiting.now result.queue ≡ run (Card.flush ∷ []) (card_of settled.old waiting.now self) }
-        ensures waiting_le_waiting { result.queue.waiting ≤ self.waiting }
+        ensures happened_value { is_ok result ≡ ltb 0 self.power }
+        ensures queue_after { card_of settled.new waiting.now (left_queue result) ≡ run (Card.flush ∷ []) (card_of settled.old waiting.now self) }
+        ensures waiting_le_waiting { (left_queue result).waiting ≤ self.waiting }
     {
-        if self.power == 0 {
-            return self.refused();
-        }
+        let queue = self.ordered(0)?;
         settle_all(settled, waiting, self.waiting as usize);
-        self.done(0)
+        Ok(queue)
     }
 
     // The cut: of the waiting writes, oldest first, the bytes settle whose mark is 1, and the queue is empty.
@@ -138,10 +122,8 @@ fn settle_all(settled: &mut [u8], waiting: &[u8], n: usize)
     requires below { Below (blocks_in settled.old) waiting.now n }
     ensures { settled.new ≡ Card.settle (up_to (entry_at waiting.now) n) settled.old }
 {
-    let mut i = 0;
-    while i < n {
+    for i in 0..n {
         settle_one(settled, waiting, i);
-        i += 1;
     }
 }
 
@@ -152,9 +134,7 @@ fn settle_marked(settled: &mut [u8], waiting: &[u8], marks: &[u8], n: usize)
     requires marks_len { length marks.now ≡ block_bytes * n }
     ensures { settled.new ≡ Card.settle_kept marks.now 0 (up_to (entry_at waiting.now) n) settled.old }
 {
-    let mut i = 0;
-    while i < n {
+    for i in 0..n {
         settle_bytes(settled, waiting, marks, i);
-        i += 1;
     }
 }

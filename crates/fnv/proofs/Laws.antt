@@ -1,5 +1,6 @@
 -- The laws of the checksum: it is below 2^64, and the sum of a run goes on from the sum of its first part.
 use Rattle.std.proofs.Common.{◌≡◌, ℕ, ◌+◌, ◌^◌, ◌<◌, List, [], ◌∷◌, ◌++◌, length, get_or, take, refl, mod-lt, add-one, lit<, take-suc}
+use Rattle.std.specs.List.{fold}
 use Rattle.fnv.specs.Fnv.{start, step, sum_from, sum}
 
 pub step_lt : (h b : ℕ) → step h b < 2 ^ 64
@@ -9,6 +10,12 @@ step_lt h b = mod-lt _ (lit< tt)
 pub sum_from_nil : (h : ℕ) → sum_from h [] ≡ h
 unfolding sum_from
 sum_from_nil h = refl
+
+-- a fold by the step
+pub sum_from-fold : (h : ℕ) (bs : List ℕ) → fold step h bs ≡ sum_from h bs
+unfolding sum_from
+sum_from-fold h [] = refl
+sum_from-fold h (b ∷ bs) = sum_from-fold (step h b) bs
 
 pub sum_from-append : (h : ℕ) (a b : List ℕ) → sum_from h (a ++ b) ≡ sum_from (sum_from h a) b
 unfolding sum_from

@@ -27,11 +27,5 @@ pub fn step(h: u64, b: u8) -> u64
 pub fn sum_from(h: u64, s: &[u8]) -> u64
     ensures { result ≡ sum_from h s.now }
 {
-    let mut sum = h;
-    let mut i = 0;
-    while i < s.len() {
-        sum = step(sum, s[i]);
-        i += 1;
-    }
-    sum
+    s.iter().fold(h, |sum, &b| step(sum, b))
 }

@@ -1,14 +1,18 @@
 -- The laws of the log's entries, their sum and the tests on them.
-use Prim.Native.Nat.{ℕ, ◌+◌, ◌*◌, ◌^◌, ◌≤◌, ◌<◌}
+use Prim.Native.Nat.{ℕ, zero, suc, ◌+◌, ◌*◌, ◌^◌, ◌≤◌, ◌<◌}
 use mathlib.Core.Path.{◌≡◌, refl, ap, sym, ◌∙◌}
-use mathlib.Core.Bool.{Bool, true, false, ◌&&◌, ◌||◌, and-true, true≢false}
-use mathlib.Core.List.{List, [], ◌∷◌, ◌++◌, append-nil}
+use mathlib.Core.Bool.{Bool, true, false, ◌&&◌, ◌||◌, and-true, and_assoc, true≢false}
+use mathlib.Core.List.{List, [], ◌∷◌, ◌++◌, append-nil, map}
+use native.Mathlib.Nat.{zero-add}
 use native.Mathlib.Numerals.{add-one}
 use native.Mathlib.Omega.{arith}
 use borrow.Author.Tests.{le-leb, leb-true, lt-ltb, ltb-true}
 use denote.Ref.{Bor}
 use lib.ListN.{length, drop_of_length-le}
 use lib.Seq.{sets, sets-eq}
+use Rattle.std.specs.List.{fold, range_with_len}
+use Rattle.std.proofs.lemmas.List.Folds.{fold-map}
+use Rattle.std.proofs.lemmas.List.FromFn.{map-range_with_len_more}
 use Rattle.cells.specs.Cell.{cell}
 use Rattle.cells.specs.Cell.Laws.{cell_part, length-cell, bytes-cell}
 use Rattle.cells.specs.Little.{le, num, Bytes}
@@ -47,6 +51,11 @@ block_read r s a e = ap (λ (v : View). v.bytes) e ∙ sym (cell_part block_byte
 pub listed_block : (r s : Bor (List ℕ)) (i : ℕ) → view_of r ≡ part_of s (entry_bytes * i + 4) block_bytes → r.now ≡ (entry_at s.now i).block
 listed_block r s i e = ap (λ (v : View). v.bytes) e ∙ sym (block_part s.now i)
 
+-- the sum of an entry that is read where it lies in memory
+pub sum_listed : (s r : Bor (List ℕ)) (h i a b : ℕ) → a ≡ (entry_at s.now i).address → view_of r ≡ part_of s (entry_bytes * i + 4) block_bytes
+    → b ≡ sum_of h (record { address = a; block = r.now } ∷ []) → b ≡ sum_of h (entry_at s.now i ∷ [])
+sum_listed s r h i a b p q e = rw (p, listed_block r s i q) at e
+
 -- m entries in memory that there is room for are whole
 pub length_from : (work : List ℕ) (from m : ℕ) → length (entries_from work from m) ≡ m
 length_from work from m = length-up_to (λ i. entry_at work (from + i)) m
@@ -74,6 +83,24 @@ sum_of-one h e = rw (flat-one) (sum_from-append h (le 4 e.address) e.block)
 
 pub sum_of_lt : (h : ℕ) (es : List Entry) → h < 2 ^ 64 → sum_of h es < 2 ^ 64
 sum_of_lt h es l = sum_from_lt h (flat es) l
+
+-- the elements at the first n places
+range-up_to : {A : Type 0} (f : ℕ → A) (n : ℕ) → map f (range_with_len 0 n) ≡ up_to f n
+range-up_to f zero = refl
+range-up_to {A} f (suc n) =
+    ap (λ (k : ℕ). map f (range_with_len 0 k)) (sym (add-one n))
+    ∙ map-range_with_len_more f 0 n n (zero-add n)
+    ∙ ap (λ (l : List A). l ++ (f n ∷ [])) (range-up_to f n)
+
+-- the sum as a fold over places
+pub sum_of-fold : (f : ℕ → Entry) (h n : ℕ) → fold (λ sum i. sum_of sum (f i ∷ [])) h (range_with_len 0 n) ≡ sum_of h (up_to f n)
+sum_of-fold f h n =
+    sym (fold-map (λ sum e. sum_of sum (e ∷ [])) f h (range_with_len 0 n))
+    ∙ rw (range-up_to f n) (all (up_to f n) h)
+  where
+    all : (es : List Entry) (g : ℕ) → fold (λ sum e. sum_of sum (e ∷ [])) g es ≡ sum_of g es
+    all [] g = sym (sum_of_nil g)
+    all (e ∷ es) g = all es (sum_of g (e ∷ [])) ∙ sym (sum_of-append g (e ∷ []) es)
 
 -- ---- a list of data blocks
 
@@ -110,6 +137,12 @@ module _ (geo : Geometry) where
 
   -- ---- entry by entry
 
+  -- the sum of an entry that is read where it lies
+  pub sum_slot : (s r : Bor (List ℕ)) (h i a b : ℕ) → a ≡ slot_address s.now i → view_of r ≡ part_of s (block_bytes * slot_at geo i) block_bytes
+      → b ≡ sum_of h (record { address = a; block = r.now } ∷ []) → b ≡ sum_of h (slot_entry geo s.now i ∷ [])
+  unfolding slot_entry
+  sum_slot s r h i a b p q e = rw (p, block_read r s (slot_at geo i) q) at e
+
   -- an entry with the slot's address and its block
   pub slot-entry : (s : List ℕ) (i : ℕ) (e : Entry) → e.address ≡ slot_address s i → e.block ≡ block_at s (slot_at geo i) → e ≡ slot_entry geo s i
   unfolding slot_entry
@@ -127,6 +160,16 @@ module _ (geo : Geometry) where
       rw (add-one)
       (all_data-append geo N (entries geo s i) (slot_entry geo s i ∷ [])
       ∙ ap (λ (t : Bool). all_data geo N (entries geo s i) && t) (and-true (is_data geo N (slot_address s i))))
+
+  pub data-fold : (N : ℕ) (s : List ℕ) (n : ℕ) → fold (λ all i. all && is_data geo N (slot_address s i)) true (range_with_len 0 n) ≡ all_data geo N (entries geo s n)
+  unfolding all_data slot_entry
+  data-fold N s n =
+      sym (fold-map (λ all (e : Entry). all && is_data geo N e.address) (slot_entry geo s) true (range_with_len 0 n))
+      ∙ rw (range-up_to (slot_entry geo s) n) (all (up_to (slot_entry geo s) n) true)
+    where
+      all : (es : List Entry) (t : Bool) → fold (λ all (e : Entry). all && is_data geo N e.address) t es ≡ t && all_data geo N es
+      all [] t = sym (and-true t)
+      all (e ∷ es) t = all es (t && is_data geo N e.address) ∙ and_assoc t (is_data geo N e.address) (all_data geo N es)
 
   -- ---- what the log holds is whole, and its addresses fit four bytes
 

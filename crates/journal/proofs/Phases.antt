@@ -7,13 +7,14 @@ use native.Mathlib.Omega.{arith}
 use borrow.Author.Tests.{leb-true, leb-false, le-leb, lt-leb, ltb-true, ltb-false}
 use lib.Dec.{leb, ltb}
 use lib.ListN.{length, length-map}
+use Rattle.std.specs.Prelude.{Result, Ok, is_ok}
 use Rattle.cells.specs.Upto.{up_to}
 use Rattle.cells.specs.Upto.Laws.{length-up_to, take-up_to}
 use Rattle.cells.specs.Entry.{entry_bytes, Entry}
 use Rattle.card.specs.declared.queue.Queue.{Queue}
-use Rattle.card.specs.declared.queue.Ordered.{Ordered}
+use Rattle.card.specs.declared.queue.PowerLost.{PowerLost}
 use Rattle.card.specs.Card.{Card, Order, write, flush, order, run}
-use Rattle.card.specs.CodeQueue.{card_of, Below}
+use Rattle.card.specs.CodeQueue.{card_of, left_queue, Below}
 use Rattle.card.proofs.Runs.{Whole, NarrowAddress, run_dead, run-one, run-append, run-power, writes_more, writes_take, writes_below}
 
 -- ---- two phases: the orders os are j orders a, then k orders b
@@ -43,18 +44,18 @@ module _ (os a b : List Order) (split : os ≡ a ++ b) (j k t : ℕ) (size : len
         (answered ∙ ap (leb k) left ∙ leb_shift j k c.power enough ∙ rw total, then ∙ rw (first, split, run-append a b c))
 
   -- the same of phases that only write, whatever is settled
-  module _ (w : List ℕ) (q : Queue) (w' : List ℕ) (r : Ordered) (told : r.happened ≡ leb j q.power)
-      (first : (s : List ℕ) → card_of s w' r.queue ≡ run a (card_of s w q)) where
-    pub writes_stopped : r.happened ≡ false → (r.happened ≡ leb t q.power) × ((s : List ℕ) → card_of s w' r.queue ≡ run os (card_of s w q))
+  module _ (w : List ℕ) (q : Queue) (w' : List ℕ) (r : Result Queue PowerLost) (told : is_ok r ≡ leb j q.power)
+      (first : (s : List ℕ) → card_of s w' (left_queue r) ≡ run a (card_of s w q)) where
+    pub writes_stopped : is_ok r ≡ false → (is_ok r ≡ leb t q.power) × ((s : List ℕ) → card_of s w' (left_queue r) ≡ run os (card_of s w q))
     writes_stopped e =
-        ((stopped (card_of [] w q) _ (first []) r.happened told e).0, λ s. (stopped (card_of s w q) _ (first s) r.happened told e).1)
+        ((stopped (card_of [] w q) _ (first []) (is_ok r) told e).0, λ s. (stopped (card_of s w q) _ (first s) (is_ok r) told e).1)
 
-    pub writes_resumed : r.happened ≡ true → (w'' : List ℕ) (u : Ordered)
-        → u.happened ≡ leb k r.queue.power → ((s : List ℕ) → card_of s w'' u.queue ≡ run b (card_of s w' r.queue))
-        → (u.happened ≡ leb t q.power) × ((s : List ℕ) → card_of s w'' u.queue ≡ run os (card_of s w q))
+    pub writes_resumed : is_ok r ≡ true → (w'' : List ℕ) (u : Result Queue PowerLost)
+        → is_ok u ≡ leb k (left_queue r).power → ((s : List ℕ) → card_of s w'' (left_queue u) ≡ run b (card_of s w' (left_queue r)))
+        → (is_ok u ≡ leb t q.power) × ((s : List ℕ) → card_of s w'' (left_queue u) ≡ run os (card_of s w q))
     writes_resumed e w'' u answered then = (
-      (resumed (card_of [] w q) _ (first []) r.happened told e _ _ (then []) answered).0,
-      λ s. (resumed (card_of s w q) _ (first s) r.happened told e _ _ (then s) answered).1,
+      (resumed (card_of [] w q) _ (first []) (is_ok r) told e _ _ (then []) answered).0,
+      λ s. (resumed (card_of s w q) _ (first s) (is_ok r) told e _ _ (then s) answered).1,
     )
 
 -- ---- what waits
@@ -64,15 +65,15 @@ pub below_card : (n : ℕ) (s w : List ℕ) (q : Queue) (c : Card) → card_of s
 below_card n s w q c e h = subst (λ (d : Card). Below n d.waiting d.count) (sym e) h
 
 -- one write below n more
-pub write_below : (n : ℕ) (e : Entry) (s w : List ℕ) (q : Queue) (w' : List ℕ) (r : Ordered) → card_of s w' r.queue ≡ run (write e ∷ []) (card_of s w q)
-    → entry_bytes * q.waiting + entry_bytes ≤ length w → Whole e → NarrowAddress e → e.address < n → Below n w q.waiting → Below n w' r.queue.waiting
+pub write_below : (n : ℕ) (e : Entry) (s w : List ℕ) (q : Queue) (w' : List ℕ) (r : Result Queue PowerLost) → card_of s w' (left_queue r) ≡ run (write e ∷ []) (card_of s w q)
+    → entry_bytes * q.waiting + entry_bytes ≤ length w → Whole e → NarrowAddress e → e.address < n → Below n w q.waiting → Below n w' (left_queue r).waiting
 write_below n e s w q w' r told room whole short new old =
-    below_card n s w' r.queue (run (write e ∷ []) (card_of s w q)) told
+    below_card n s w' (left_queue r) (run (write e ∷ []) (card_of s w q)) told
     (writes_below n (e ∷ []) (card_of s w q) (omega arith) (whole, tt) (short, tt) (new, tt) old)
 
 -- after a flush that happened nothing waits
-pub flushed_empty : (s w : List ℕ) (q : Queue) (s' : List ℕ) (r : Ordered) → card_of s' w r.queue ≡ run (flush ∷ []) (card_of s w q)
-    → r.happened ≡ ltb 0 q.power → r.happened ≡ true → r.queue.waiting ≡ 0
+pub flushed_empty : (s w : List ℕ) (q : Queue) (s' : List ℕ) (r : Result Queue PowerLost) → card_of s' w (left_queue r) ≡ run (flush ∷ []) (card_of s w q)
+    → is_ok r ≡ ltb 0 q.power → is_ok r ≡ true → (left_queue r).waiting ≡ 0
 unfolding order
 flushed_empty s w q s' r told h e =
     let live : 0 < q.power = ltb-true 0 q.power (sym h ∙ e) in
@@ -88,22 +89,22 @@ pub record WrittenSoFar (f : ℕ → Entry) (i : ℕ) (w₀ : List ℕ) (q₀ : 
   pub card : (s : List ℕ) → card_of s w q ≡ run (map write (up_to f i)) (card_of s w₀ q₀)
 
 -- what a write promises
-abbrev pub Wrote : Entry → List ℕ → Queue → List ℕ → Ordered → Type 0
+abbrev pub Wrote : Entry → List ℕ → Queue → List ℕ → Result Queue PowerLost → Type 0
 Wrote e w q w' r =
-    (r.happened ≡ ltb 0 q.power)
-    × (((s : List ℕ) → card_of s w' r.queue ≡ run (write e ∷ []) (card_of s w q))
-    × (r.queue.waiting ≤ q.waiting + 1))
+    (is_ok r ≡ ltb 0 q.power)
+    × (((s : List ℕ) → card_of s w' (left_queue r) ≡ run (write e ∷ []) (card_of s w q))
+    × ((left_queue r).waiting ≤ q.waiting + 1))
 
 -- what a row of k writes promises
-abbrev pub Rowed : (ℕ → Entry) → ℕ → List ℕ → Queue → List ℕ → Ordered → Type 0
+abbrev pub Rowed : (ℕ → Entry) → ℕ → List ℕ → Queue → List ℕ → Result Queue PowerLost → Type 0
 Rowed f k w q w' r =
-    (r.happened ≡ leb k q.power)
-    × (((s : List ℕ) → card_of s w' r.queue ≡ run (map write (up_to f k)) (card_of s w q))
-    × (r.queue.waiting ≤ q.waiting + k))
+    (is_ok r ≡ leb k q.power)
+    × (((s : List ℕ) → card_of s w' (left_queue r) ≡ run (map write (up_to f k)) (card_of s w q))
+    × ((left_queue r).waiting ≤ q.waiting + k))
 
 -- by another name of the row
-pub rowed_orders : (f : ℕ → Entry) (k : ℕ) (w : List ℕ) (q : Queue) (w' : List ℕ) (r : Ordered) (os : List Order) → os ≡ map write (up_to f k) → Rowed f k w q w' r
-    → (r.happened ≡ leb k q.power) × (((s : List ℕ) → card_of s w' r.queue ≡ run os (card_of s w q)) × (r.queue.waiting ≤ q.waiting + k))
+pub rowed_orders : (f : ℕ → Entry) (k : ℕ) (w : List ℕ) (q : Queue) (w' : List ℕ) (r : Result Queue PowerLost) (os : List Order) → os ≡ map write (up_to f k) → Rowed f k w q w' r
+    → (is_ok r ≡ leb k q.power) × (((s : List ℕ) → card_of s w' (left_queue r) ≡ run os (card_of s w q)) × ((left_queue r).waiting ≤ q.waiting + k))
 rowed_orders f k w q w' r os e h = (h.0, (λ s. h.1.0 s ∙ ap (λ (l : List Order). run l (card_of s w q)) (sym e), h.1.1))
 
 pub written_none : (f : ℕ → Entry) (w : List ℕ) (q : Queue) → WrittenSoFar f 0 w q w q
@@ -114,21 +115,21 @@ module _ (f : ℕ → Entry) (i : ℕ) (w₀ : List ℕ) (q₀ : Queue) (w : Lis
   left : q.power ≡ q₀.power - i
   left = ap (λ (c : Card). c.power) (before.card []) ∙ run-power (map write (up_to f i)) (card_of [] w₀ q₀) ∙ rw (length-map, length-up_to)
 
-  module _ (e : Entry) (same : e ≡ f i) (w' : List ℕ) (r : Ordered) (wrote : Wrote e w q w' r) where
-    next : (s : List ℕ) → card_of s w' r.queue ≡ run (map write (up_to f (i + 1))) (card_of s w₀ q₀)
+  module _ (e : Entry) (same : e ≡ f i) (w' : List ℕ) (r : Result Queue PowerLost) (wrote : Wrote e w q w' r) where
+    next : (s : List ℕ) → card_of s w' (left_queue r) ≡ run (map write (up_to f (i + 1))) (card_of s w₀ q₀)
     next s =
         wrote.1.0 s
         ∙ ap (λ (x : Entry). run (write x ∷ []) (card_of s w q)) same
         ∙ ap (run (write (f i) ∷ [])) (before.card s)
         ∙ sym (writes_more f i (card_of s w₀ q₀))
 
-    pub written_more : length w' ≡ length w → r.happened ≡ true → WrittenSoFar f (i + 1) w₀ q₀ w' r.queue
+    pub written_more : length w' ≡ length w → is_ok r ≡ true → WrittenSoFar f (i + 1) w₀ q₀ w' (left_queue r)
     written_more l h =
         let live : 0 < q.power = ltb-true 0 q.power (sym wrote.0 ∙ h) in
         let p : q.power ≡ q₀.power - i = left in
         record { power = omega arith; count = omega (arith, wrote.1.1, before.count); room = l ∙ before.room; card = next }
 
-    pub written_stop : (m : ℕ) → i < m → r.happened ≡ false → Rowed f m w₀ q₀ w' r
+    pub written_stop : (m : ℕ) → i < m → is_ok r ≡ false → Rowed f m w₀ q₀ w' r
     written_stop m k h =
         let dead : q.power ≤ 0 = ltb-false 0 q.power (sym wrote.0 ∙ h) in
         let p : q.power ≡ q₀.power - i = left in
@@ -138,5 +139,5 @@ module _ (f : ℕ → Entry) (i : ℕ) (w₀ : List ℕ) (q₀ : Queue) (w : Lis
         upto : (s : List ℕ) (n : ℕ) → i ≤ n → q₀.power ≡ i → run (map write (up_to f n)) (card_of s w₀ q₀) ≡ run (map write (up_to f i)) (card_of s w₀ q₀)
         upto s n k all = writes_take (up_to f n) (card_of s w₀ q₀) ∙ rw (all, take-up_to f n i k)
 
-  pub written_all : Rowed f i w₀ q₀ w (record { happened = true; queue = q })
+  pub written_all : Rowed f i w₀ q₀ w (Ok q)
   written_all = (sym (le-leb i q₀.power before.power), (before.card, before.count))

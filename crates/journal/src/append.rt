@@ -1,9 +1,9 @@
 // Appending a group of entries in work memory to the log: log blocks, the descriptor, a header, one flush.
-ghost use Rattle.std.specs.Prelude.{◌≡◌, List, [], ◌∷◌, ◌++◌, ℕ, ◌+◌, ◌*◌, ◌≤◌, ◌<◌, leb, length};
+ghost use Rattle.std.specs.Prelude.{◌≡◌, List, [], ◌∷◌, ◌++◌, ℕ, ◌+◌, ◌*◌, ◌≤◌, ◌<◌, leb, length, is_ok};
 ghost use Rattle.std.proofs.lemmas.List.Edits.{sets};
 ghost use Rattle.cells.specs.Entry.{block_bytes, entry_bytes};
 ghost use Rattle.card.specs.Card.{most_places, blocks_in, block_at, run, write};
-ghost use Rattle.card.specs.CodeQueue.{card_of, Below};
+ghost use Rattle.card.specs.CodeQueue.{card_of, left_queue, Below};
 ghost use Rattle.journal.specs.Geometry.{trap};
 ghost use Rattle.journal.specs.Layout.{descriptor_at, first_data};
 ghost use Rattle.journal.specs.Header.{header};
@@ -14,7 +14,7 @@ ghost use Rattle.journal.specs.Orders.{slot_writes, address_bytes, append_orders
 use crate::header::Header;
 use crate::log::sum_entry;
 use crate::{DESCRIPTOR_AT, FIRST_SLOT};
-use card::queue::{Ordered, Queue};
+use card::queue::{PowerLost, Queue};
 use card::settled::read;
 use cells::bytes::{copy, zero};
 use cells::number::write_u32;
@@ -45,14 +45,6 @@ pub struct Group {
     pub count: u32,
 }
 
-// What an append came to: whether all its orders happened, the queue after it, and the sum of the longer log.
-#[derive(Clone, Copy)]
-pub struct Appended {
-    pub done: bool,
-    pub queue: Queue,
-    pub sum: u64,
-}
-
 // The sum, from h on, of a group.
 fn sum_group(h: u64, work: &[u8], group: Group) -> u64
     requires { entry_bytes * (group.from + group.count) ≤ length work.now }
@@ -60,17 +52,13 @@ fn sum_group(h: u64, work: &[u8], group: Group) -> u64
 {
     let from = group.from as usize;
     let count = group.count as usize;
-    let mut sum = h;
-    let mut i = 0;
-    while i < count {
-        sum = sum_entry(
+    (0..count).fold(h, |sum, i| {
+        sum_entry(
             sum,
             entry::address(work, from + i),
             entry::block(work, from + i),
-        );
-        i += 1;
-    }
-    sum
+        )
+    })
 }
 
 // Writes a group's addresses into a descriptor, from byte `at` on.
@@ -81,10 +69,8 @@ fn list_addresses(block: &mut [u8], at: usize, work: &[u8], group: Group)
 {
     let from = group.from as usize;
     let count = group.count as usize;
-    let mut i = 0;
-    while i < count {
+    for i in 0..count {
         write_u32(block, at + ADDRESS * i, entry::address(work, from + i));
-        i += 1;
     }
 }
 
@@ -103,31 +89,22 @@ fn describe(block: &mut [u8], old: &[u8], n: u32, work: &[u8], group: Group)
 }
 
 // The writes of a group's blocks, to the slots from n on.
-fn write_slots(queue: Queue, waiting: &mut [u8], work: &[u8], group: Group, n: u32) -> Ordered
+fn write_slots(queue: Queue, waiting: &mut [u8], work: &[u8], group: Group, n: u32) -> Result<Queue, PowerLost>
     requires count_bound { n + group.count ≤ trap.slots }
     requires count_bound_2 { queue.waiting + group.count ≤ most_places }
     requires count_in_bounds { entry_bytes * (queue.waiting + group.count) ≤ length waiting.old }
     requires count_in_bounds_2 { entry_bytes * (group.from + group.count) ≤ length work.now }
-    ensures happened_value { result.happened ≡ leb group.count queue.power }
-    ensures by_index { (s : List ℕ) → card_of s waiting.new result.queue ≡ run (slot_writes trap n (entries_from work.now group.from group.count)) (card_of s waiting.old queue) }
-    ensures waiting_bound { result.queue.waiting ≤ queue.waiting + group.count }
+    ensures happened_value { is_ok result ≡ leb group.count queue.power }
+    ensures by_index { (s : List ℕ) → card_of s waiting.new (left_queue result) ≡ run (slot_writes trap n (entries_from work.now group.from group.count)) (card_of s waiting.old queue) }
+    ensures waiting_bound { (left_queue result).waiting ≤ queue.waiting + group.count }
 {
     let from = group.from as usize;
     let mut q = queue;
-    let mut i = 0;
-    while i < group.count {
+    for i in 0..group.count {
         let block = entry::block(work, from + (i as usize));
-        let w = q.write(waiting, FIRST_SLOT + (n + i), block);
-        if !w.happened {
-            return w;
-        }
-        q = w.queue;
-        i += 1;
+        q = q.write(waiting, FIRST_SLOT + (n + i), block)?;
     }
-    Ordered {
-        happened: true,
-        queue: q,
-    }
+    Ok(q)
 }
 
 // The writes of a group's blocks, and of the descriptor that lists them behind n entries.
@@ -138,26 +115,49 @@ fn write_list(
     work: &[u8],
     group: Group,
     n: u32,
-) -> Ordered
+) -> Result<Queue, PowerLost>
     requires trap_bound { first_data trap < blocks_in settled.now }
     requires count_bound { n + group.count ≤ trap.slots }
     requires count_bound_2 { queue.waiting + group.count + 1 ≤ most_places }
     requires count_in_bounds { entry_bytes * (queue.waiting + group.count + 1) ≤ length waiting.old }
     requires count_in_bounds_2 { entry_bytes * (group.from + group.count) ≤ length work.now }
-    ensures happened_value { result.happened ≡ leb (group.count + 1) queue.power }
-    ensures by_index { (s : List ℕ) → card_of s waiting.new result.queue ≡ run (slot_writes trap n (entries_from work.now group.from group.count) ++ (write (record { address = descriptor_at; block = Orders.describe (block_at settled.now descriptor_at) n (entries_from work.now group.from group.count) }) ∷ [])) (card_of s waiting.old queue) }
-    ensures waiting_bound { result.queue.waiting ≤ queue.waiting + group.count + 1 }
+    ensures happened_value { is_ok result ≡ leb (group.count + 1) queue.power }
+    ensures by_index { (s : List ℕ) → card_of s waiting.new (left_queue result) ≡ run (slot_writes trap n (entries_from work.now group.from group.count) ++ (write (record { address = descriptor_at; block = Orders.describe (block_at settled.now descriptor_at) n (entries_from work.now group.from group.count) }) ∷ [])) (card_of s waiting.old queue) }
+    ensures waiting_bound { (left_queue result).waiting ≤ queue.waiting + group.count + 1 }
 {
-    let w = write_slots(queue, waiting, work, group, n);
-    if !w.happened {
-        return w;
-    }
+    let written = write_slots(queue, waiting, work, group, n)?;
     let mut block = [0u8; BLOCK];
     describe(&mut block, read(settled, DESCRIPTOR_AT), n, work, group);
-    w.queue.write(waiting, DESCRIPTOR_AT, &block)
+    written.write(waiting, DESCRIPTOR_AT, &block)
 }
 
-// Appends a group to the log: its blocks in slot order, the descriptor, a header whose previous log is the old one, a flush.
+// The orders of an append, where the longer log's sum is given: the group's blocks in slot order, the descriptor, a header whose
+// previous log is the old one, a flush.
+fn give_orders(
+    queue: Queue,
+    settled: &mut [u8],
+    waiting: &mut [u8],
+    work: &[u8],
+    group: Group,
+    log: Log,
+    sum: u64,
+) -> Result<Queue, PowerLost>
+    requires trap_bound { first_data trap < blocks_in settled.old }
+    requires count_bound { log.count + group.count ≤ trap.slots }
+    requires count_bound_2 { queue.waiting + group.count + 2 ≤ most_places }
+    requires count_in_bounds { entry_bytes * (queue.waiting + group.count + 2) ≤ length waiting.old }
+    requires below { Below (blocks_in settled.old) waiting.old queue.waiting }
+    requires count_in_bounds_2 { entry_bytes * (group.from + group.count) ≤ length work.now }
+    requires sum_value { sum ≡ sum_of log.sum (entries_from work.now group.from group.count) }
+    ensures happened_value { is_ok result ≡ leb (group.count + 3) queue.power }
+    ensures queue_after { card_of settled.new waiting.new (left_queue result) ≡ run (append_orders trap log.blocks settled.old log.count log.sum log.save (entries_from work.now group.from group.count)) (card_of settled.old waiting.old queue) }
+{
+    let listed = write_list(queue, settled, waiting, work, group, log.count)?;
+    let h = log.header(log.count + group.count, sum);
+    h.order(listed, settled, waiting)
+}
+
+// Appends a group to the log. Returns the sum of the longer log, and whether all its orders happened.
 pub fn append(
     queue: Queue,
     settled: &mut [u8],
@@ -165,33 +165,20 @@ pub fn append(
     work: &[u8],
     group: Group,
     log: Log,
-) -> Appended
+) -> (u64, Result<Queue, PowerLost>)
     requires trap_bound { first_data trap < blocks_in settled.old }
     requires count_bound { log.count + group.count ≤ trap.slots }
     requires count_bound_2 { queue.waiting + group.count + 2 ≤ most_places }
     requires count_in_bounds { entry_bytes * (queue.waiting + group.count + 2) ≤ length waiting.old }
     requires below { Below (blocks_in settled.old) waiting.old queue.waiting }
     requires count_in_bounds_2 { entry_bytes * (group.from + group.count) ≤ length work.now }
-    ensures done_value { result.done ≡ leb (group.count + 3) queue.power }
-    ensures queue_after { card_of settled.new waiting.new result.queue ≡ run (append_orders trap log.blocks settled.old log.count log.sum log.save (entries_from work.now group.from group.count)) (card_of settled.old waiting.old queue) }
-    ensures sum_value { result.sum ≡ sum_of log.sum (entries_from work.now group.from group.count) }
+    ensures done_value { is_ok result.1 ≡ leb (group.count + 3) queue.power }
+    ensures queue_after { card_of settled.new waiting.new (left_queue result.1) ≡ run (append_orders trap log.blocks settled.old log.count log.sum log.save (entries_from work.now group.from group.count)) (card_of settled.old waiting.old queue) }
+    ensures sum_value { result.0 ≡ sum_of log.sum (entries_from work.now group.from group.count) }
 {
     let sum = sum_group(log.sum, work, group);
-    let w = write_list(queue, settled, waiting, work, group, log.count);
-    let q = w.queue;
-    if !w.happened {
-        return Appended {
-            done: false,
-            queue: q,
-            sum,
-        };
-    }
-    let h = log.header(log.count + group.count, sum);
-    let o = h.order(q, settled, waiting);
-    let after = o.queue;
-    Appended {
-        done: o.happened,
-        queue: after,
+    (
         sum,
-    }
+        give_orders(queue, settled, waiting, work, group, log, sum),
+    )
 }

@@ -1,8 +1,8 @@
 // Checkpointing: the log's blocks are written home and an empty log's header behind them.
-ghost use Rattle.std.specs.Prelude.{◌≡◌, List, map, ℕ, ◌+◌, ◌*◌, ◌≤◌, ◌<◌, leb, length};
+ghost use Rattle.std.specs.Prelude.{◌≡◌, List, map, ℕ, ◌+◌, ◌*◌, ◌≤◌, ◌<◌, leb, length, is_ok};
 ghost use Rattle.cells.specs.Entry.{entry_bytes};
 ghost use Rattle.card.specs.Card.{most_places, blocks_in, run, write};
-ghost use Rattle.card.specs.CodeQueue.{card_of, Below};
+ghost use Rattle.card.specs.CodeQueue.{card_of, left_queue, Below};
 ghost use Rattle.journal.specs.Geometry.{trap};
 ghost use Rattle.journal.specs.Layout.{first_data};
 ghost use Rattle.journal.specs.Log.{slot_address, entries};
@@ -10,32 +10,23 @@ ghost use Rattle.journal.specs.Orders.{checkpoint_orders};
 
 use crate::header::Header;
 use crate::log::{slot_address, slot_block};
-use card::queue::{Ordered, Queue};
+use card::queue::{PowerLost, Queue};
 
 // The writes of the log's blocks to their home addresses, in slot order.
-fn write_homes(queue: Queue, settled: &[u8], waiting: &mut [u8], n: u32) -> Ordered
+fn write_homes(queue: Queue, settled: &[u8], waiting: &mut [u8], n: u32) -> Result<Queue, PowerLost>
     requires trap_bound { first_data trap < blocks_in settled.now }
     requires n_le_slots { n ≤ trap.slots }
     requires n_bound { queue.waiting + n ≤ most_places }
     requires n_in_bounds { entry_bytes * (queue.waiting + n) ≤ length waiting.old }
-    ensures happened_value { result.happened ≡ leb n queue.power }
-    ensures by_index { (s : List ℕ) → card_of s waiting.new result.queue ≡ run (map write (entries trap settled.now n)) (card_of s waiting.old queue) }
-    ensures waiting_bound { result.queue.waiting ≤ queue.waiting + n }
+    ensures happened_value { is_ok result ≡ leb n queue.power }
+    ensures by_index { (s : List ℕ) → card_of s waiting.new (left_queue result) ≡ run (map write (entries trap settled.now n)) (card_of s waiting.old queue) }
+    ensures waiting_bound { (left_queue result).waiting ≤ queue.waiting + n }
 {
     let mut q = queue;
-    let mut i = 0;
-    while i < n {
-        let w = q.write(waiting, slot_address(settled, i), slot_block(settled, i));
-        if !w.happened {
-            return w;
-        }
-        q = w.queue;
-        i += 1;
+    for i in 0..n {
+        q = q.write(waiting, slot_address(settled, i), slot_block(settled, i))?;
     }
-    Ordered {
-        happened: true,
-        queue: q,
-    }
+    Ok(q)
 }
 
 // Writes the first n entries home: their blocks in slot order, a flush, an empty log's header with a save number, a flush.
@@ -46,7 +37,7 @@ pub fn checkpoint(
     blocks: u32,
     n: u32,
     save: u64,
-) -> Ordered
+) -> Result<Queue, PowerLost>
     requires trap_bound { first_data trap < blocks_in settled.old }
     requires n_le_slots { n ≤ trap.slots }
     requires by_index { (i : ℕ) → i < n → slot_address settled.old i < blocks_in settled.old }
@@ -54,16 +45,10 @@ pub fn checkpoint(
     requires n_in_bounds { entry_bytes * (queue.waiting + n) ≤ length waiting.old }
     requires entry_bytes_in_bounds { entry_bytes ≤ length waiting.old }
     requires below { Below (blocks_in settled.old) waiting.old queue.waiting }
-    ensures happened_value { result.happened ≡ leb (n + 3) queue.power }
-    ensures queue_after { card_of settled.new waiting.new result.queue ≡ run (checkpoint_orders blocks save (entries trap settled.old n)) (card_of settled.old waiting.old queue) }
+    ensures happened_value { is_ok result ≡ leb (n + 3) queue.power }
+    ensures queue_after { card_of settled.new waiting.new (left_queue result) ≡ run (checkpoint_orders blocks save (entries trap settled.old n)) (card_of settled.old waiting.old queue) }
 {
-    let w = write_homes(queue, settled, waiting, n);
-    if !w.happened {
-        return w;
-    }
-    let f = w.queue.flush(settled, waiting);
-    if !f.happened {
-        return f;
-    }
-    Header::empty(blocks, save).order(f.queue, settled, waiting)
+    let written = write_homes(queue, settled, waiting, n)?;
+    let flushed = written.flush(settled, waiting)?;
+    Header::empty(blocks, save).order(flushed, settled, waiting)
 }

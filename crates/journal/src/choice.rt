@@ -24,32 +24,18 @@ pub enum Choice {
 pub fn is_foreign(h: Header, blocks: u32) -> bool
     ensures { result ≡ Spec.foreign trap blocks h }
 {
-    if h.format != FORMAT {
-        return true;
-    }
-    if h.blocks != blocks {
-        return true;
-    }
-    if SLOTS < h.count {
-        return true;
-    }
-    if h.count < h.previous {
-        return true;
-    }
-    unnumbered(h)
+    h.format != FORMAT
+        || h.blocks != blocks
+        || SLOTS < h.count
+        || h.count < h.previous
+        || unnumbered(h)
 }
 
 // Whether a header has save number 0 and unlike counts or sums.
 fn unnumbered(h: Header) -> bool
     ensures { result ≡ Spec.unnumbered h }
 {
-    if h.save != 0 {
-        return false;
-    }
-    if h.previous != h.count {
-        return true;
-    }
-    h.presum != h.sum
+    h.save == 0 && (h.previous != h.count || h.presum != h.sum)
 }
 
 // The header of a card.
@@ -85,8 +71,5 @@ pub fn in_use(settled: &[u8], blocks: u32) -> bool
     ensures { result ≡ Spec.in_use trap blocks settled.now }
 {
     let head = header_of(settled);
-    if is_foreign(head, blocks) {
-        return false;
-    }
-    0 < head.count
+    !is_foreign(head, blocks) && 0 < head.count
 }

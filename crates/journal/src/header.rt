@@ -1,13 +1,13 @@
 // Block 0: format number, N, the previous count p and the count n, the sums of the first p and the first n entries, the save number.
-ghost use Rattle.std.specs.Prelude.{◌≡◌, [], ◌∷◌, ◌+◌, ◌*◌, ◌≤◌, ◌<◌, leb, length};
+ghost use Rattle.std.specs.Prelude.{◌≡◌, [], ◌∷◌, ◌+◌, ◌*◌, ◌≤◌, ◌<◌, leb, length, is_ok};
 ghost use Rattle.cells.specs.Entry.{block_bytes, entry_bytes};
 ghost use Rattle.card.specs.Card.{most_places, blocks_in, run, flush};
-ghost use Rattle.card.specs.CodeQueue.{card_of, Below};
+ghost use Rattle.card.specs.CodeQueue.{card_of, left_queue, Below};
 ghost use Rattle.journal.specs.Header.{encode, decode, header, empty_header};
 ghost use Rattle.journal.specs.Orders.{header_write};
 
 use crate::HEADER_AT;
-use card::queue::{Ordered, Queue};
+use card::queue::{PowerLost, Queue};
 use cells::BLOCK;
 use cells::bytes::zero;
 use cells::number::{read_u32, read_u64, write_u32, write_u64};
@@ -16,7 +16,7 @@ use cells::number::{read_u32, read_u64, write_u32, write_u64};
 pub const FORMAT: u32 = 2;
 
 // The largest save number.
-pub const LAST_SAVE: u64 = 18446744073709551615;
+pub const LAST_SAVE: u64 = u64::MAX;
 
 #[derive(Clone, Copy)]
 pub struct Header {
@@ -84,20 +84,17 @@ impl Header {
     }
 
     // The orders that make this the card's header: one write of block 0, then a flush.
-    pub fn order(self, q: Queue, settled: &mut [u8], waiting: &mut [u8]) -> Ordered
+    pub fn order(self, q: Queue, settled: &mut [u8], waiting: &mut [u8]) -> Result<Queue, PowerLost>
         requires settled_nonzero { 0 < blocks_in settled.old }
         requires waiting_lt_most_places { q.waiting < most_places }
         requires entry_bytes_in_bounds { entry_bytes * q.waiting + entry_bytes ≤ length waiting.old }
         requires below { Below (blocks_in settled.old) waiting.old q.waiting }
-        ensures happened_value { result.happened ≡ leb 2 q.power }
-        ensures queue_after { card_of settled.new waiting.new result.queue ≡ run (header_write self ∷ flush ∷ []) (card_of settled.old waiting.old q) }
+        ensures happened_value { is_ok result ≡ leb 2 q.power }
+        ensures queue_after { card_of settled.new waiting.new (left_queue result) ≡ run (header_write self ∷ flush ∷ []) (card_of settled.old waiting.old q) }
     {
         let mut block = [0u8; BLOCK];
         self.fill(&mut block);
-        let w = q.write(waiting, HEADER_AT, &block);
-        if !w.happened {
-            return w;
-        }
-        w.queue.flush(settled, waiting)
+        let written = q.write(waiting, HEADER_AT, &block)?;
+        written.flush(settled, waiting)
     }
 }

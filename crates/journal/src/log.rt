@@ -54,13 +54,9 @@ pub fn sum_entries(settled: &[u8], n: u32) -> u64
     requires n_le_slots { n ≤ trap.slots }
     ensures { result ≡ sum_of start (entries trap settled.now n) }
 {
-    let mut sum = fnv::START;
-    let mut i = 0;
-    while i < n {
-        sum = sum_entry(sum, slot_address(settled, i), slot_block(settled, i));
-        i += 1;
-    }
-    sum
+    (0..n).fold(fnv::START, |sum, i| {
+        sum_entry(sum, slot_address(settled, i), slot_block(settled, i))
+    })
 }
 
 // Whether each of the first n addresses is that of a data block. They are looked at to the last, so that their loop compiles to
@@ -70,13 +66,9 @@ pub fn all_data(settled: &[u8], blocks: u32, n: u32) -> bool
     requires n_le_slots { n ≤ trap.slots }
     ensures { result ≡ all_data trap blocks (entries trap settled.now n) }
 {
-    let mut all = true;
-    let mut i = 0;
-    while i < n {
-        all = all & is_data(blocks, slot_address(settled, i));
-        i += 1;
-    }
-    all
+    (0..n).fold(true, |all, i| {
+        all & is_data(blocks, slot_address(settled, i))
+    })
 }
 
 // Whether the first n entries are good: they have this sum, and each address is that of a data block.

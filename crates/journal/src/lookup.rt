@@ -13,9 +13,7 @@ pub fn last_slot(settled: &[u8], a: u32, n: u32) -> Option<u32>
     requires n_le_slots { n ≤ trap.slots }
     ensures { result ≡ last_slot settled.now a n }
 {
-    let mut i = n;
-    while 0 < i {
-        i -= 1;
+    for i in (0..n).rev() {
         if slot_address(settled, i) == a {
             return Some(i);
         }

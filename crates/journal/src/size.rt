@@ -11,12 +11,6 @@ use cells::BLOCK;
 pub fn wrong_size(settled: &[u8]) -> bool
     ensures { result ≡ wrong_size trap settled.now }
 {
-    if settled.len() % BLOCK != 0 {
-        return true;
-    }
     let blocks = blocks_in(settled);
-    if blocks < LEAST {
-        return true;
-    }
-    MOST < blocks
+    settled.len() % BLOCK != 0 || blocks < LEAST || MOST < blocks
 }

@@ -35,13 +35,10 @@ pub fn chain(list: &[u8], last: &mut [u8], before: &mut [u8])
     requires list_in_bounds { (wanted_count list.now ≤ length before.old) × (wanted_count list.now < 256) }
     ensures { Chained list.now last.new before.new (wanted_count list.now) }
 {
-    let n = count(list);
-    let mut i = 0;
-    while i < n {
+    for i in 0..count(list) {
         let bucket = wanted(list, i) as usize % BUCKETS;
         before[i] = last[bucket];
-        i += 1;
-        last[bucket] = i as u8;
+        last[bucket] = (i + 1) as u8;
     }
 }
 
@@ -49,10 +46,7 @@ pub fn chain(list: &[u8], last: &mut [u8], before: &mut [u8])
 fn latest(hit: bool, newer: u32, older: u32) -> u32
     ensures { result ≡ cond hit newer older }
 {
-    if hit {
-        return newer;
-    }
-    older
+    if hit { newer } else { older }
 }
 
 // The k-th address read is a: at each place of the list that has it, k is the last met.
@@ -83,10 +77,8 @@ pub fn walk(settled: &[u8], n: u32, list: &[u8], last: &[u8], before: &[u8], met
     ensures met_2 { Met list.now (walked settled.now n) met.new }
     ensures value { result ≡ length (walked settled.now n) }
 {
-    let mut read = 0;
-    while read < n {
-        mark(list, last, before, read, slot_address(settled, read), met);
-        read += 1;
+    for k in 0..n {
+        mark(list, last, before, k, slot_address(settled, k), met);
     }
-    read
+    n
 }

@@ -24,14 +24,13 @@ use Rattle.journal.specs.Orders.{barrier, checkpoint_orders, append_orders, fall
 use Rattle.journal.specs.Choice.{choice_number, choose, recover_orders}
 use Rattle.journal.proofs.OrderLists.{header_entry, append_writes, append-writes, fallback_writes, length-append_orders, length-checkpoint, length_fallback}
 use Rattle.journal.proofs.Peaks.{peak-append, peak-checkpoint, peak_fallback}
-use Rattle.store.specs.declared.cost.Cost.{Cost}
 use Rattle.store.specs.State.{State, card_in}
 use Rattle.store.specs.Save.{Save}
 use Rattle.store.specs.Request.{save, recover}
-use Rattle.store.specs.Causes.{cause}
+use Rattle.store.specs.Causes.{down_row, open_row, of_record, cause_by, cause}
 use Rattle.store.specs.Saves.{group_of, save_orders, applies}
-use Rattle.store.specs.Cost.{behind_flush, goes_on, checkpoint_first, figures, no_figures, cost_of}
-use Rattle.store.proofs.Saves.{barrier_none, barrier-some, group_size}
+use Rattle.store.specs.Cost.{Cost, behind_flush, goes_on, checkpoint_first, figures, no_figures, cost_of}
+use Rattle.store.proofs.Saves.{barrier_none, barrier-some, group_size, recover-cause}
 
 -- ---- whether a checkpoint comes first
 
@@ -224,3 +223,7 @@ module _ (geo : Geometry) (st : State) where
       sym (fallback_cost st.rec.blocks p h c st) ∙ ap (λ (x : Choice). figures (recover_orders st.rec.blocks x) (card_in st)) (sym e) ∙ cost_served geo st Save.recover 0 (sym k) refl
   recover-cost Foreign e k = cost_refused geo st Save.recover 8 (sym k) (eqb-false 8 0 refl)
   recover-cost Neither e k = cost_refused geo st Save.recover 9 (sym k) (eqb-false 9 0 refl)
+
+  -- the figures of its choice, where neither the record nor its mode refuses it
+  pub chosen_cost : (x : Choice) → 0 ≡ cause_by geo (of_record false (down_row ∷ open_row ∷ [])) st → choose geo st.rec.blocks st.settled ≡ x → cost_by x st ≡ cost_of geo Save.recover st
+  chosen_cost x e taken = recover-cost x taken (recover-cause geo st 0 e refl ∙ ap choice_number taken)

@@ -1,5 +1,6 @@
 -- The laws of calls that give orders.
 use Prim.Native.Nat.{ℕ, ◌+◌, ◌-◌, ◌≤◌, ◌<◌, min}
+use Rattle.std.specs.Prelude.{Result, is_ok}
 use mathlib.Core.Path.{◌≡◌, refl, ap, ap₂, sym, ◌∙◌}
 use mathlib.Core.Bool.{Bool, true, false, cond, not}
 use mathlib.Core.Logic.{◌≢◌}
@@ -13,10 +14,10 @@ use Rattle.cells.specs.Upto.Laws.{length-up_to}
 use Rattle.cells.specs.Entry.{Entry, entry_at}
 use Rattle.fnv.specs.Fnv.{start}
 use Rattle.card.specs.declared.queue.Queue.{Queue}
-use Rattle.card.specs.declared.queue.Ordered.{Ordered}
+use Rattle.card.specs.declared.queue.PowerLost.{PowerLost}
 use Rattle.card.specs.Card as Card
 use Rattle.card.specs.Card.{Card, Order, write, flush, order, run, blocks_in}
-use Rattle.card.specs.CodeQueue.{card_of, Below}
+use Rattle.card.specs.CodeQueue.{card_of, left_queue, Below}
 use Rattle.card.proofs.Runs.{run_nil, run-one, run-append, run-power}
 use Rattle.journal.specs.Geometry.{Geometry}
 use Rattle.journal.specs.declared.choice.Choice.{Choice}
@@ -43,14 +44,14 @@ use Rattle.store.proofs.Places.{data_lt}
 -- ---- orders that the card carried out
 
 -- the state that they leave: q is the queue that they were given, o what they came to, d the record if all of them happened
-pub given : (os : List Order) (j : ℕ) (done gone : Record) (st : State) (q : Queue) (s w : List ℕ) (o : Ordered) (d r : Record)
+pub given : (os : List Order) (j : ℕ) (done gone : Record) (st : State) (q : Queue) (s w : List ℕ) (o : Result Queue PowerLost) (d r : Record)
     → length os ≡ j → q ≡ record { waiting = st.rec.waiting; power = st.rec.power }
-    → o.happened ≡ leb j q.power → card_of s w o.queue ≡ run os (card_of st.settled st.waiting q)
-    → d ≡ done → r ≡ with_queue o.queue.waiting o.queue.power (cond o.happened d (with_mode down gone))
+    → is_ok o ≡ leb j q.power → card_of s w (left_queue o) ≡ run os (card_of st.settled st.waiting q)
+    → d ≡ done → r ≡ with_queue (left_queue o).waiting (left_queue o).power (cond (is_ok o) d (with_mode down gone))
     → state_of r s w st.work ≡ (carried os done gone st).state
 unfolding carried
 given os j done gone st q s w o d r size queue told card whole e =
-    let all : o.happened ≡ leb (length os) st.rec.power = told ∙ ap₂ leb (sym size) (ap (λ (x : Queue). x.power) queue) in
+    let all : is_ok o ≡ leb (length os) st.rec.power = told ∙ ap₂ leb (sym size) (ap (λ (x : Queue). x.power) queue) in
     rw (e, whole, all)
     (ap (λ (c : Card). with_card c (with_record (cond (leb (length os) st.rec.power) done (with_mode down gone)) st))
     (card ∙ ap (λ (x : Queue). run os (card_of st.settled st.waiting x)) queue))
@@ -257,8 +258,8 @@ module _ (geo : Geometry) where
   -- n: what the rows of the record and of the mode come to
   module _ (st : State) (n : ℕ) (e : n ≡ cause_by geo (of_record false (down_row ∷ open_row ∷ [])) st) where
     -- they refuse it
-    pub recover_barred : n ≢ 0 → n ≡ cause geo recover st
-    recover_barred z = sym (cause_5 geo st n (foreign_row geo ∷ unsound_row geo ∷ []) e ∙ rw (ne_eqb _ _ z))
+    pub recover_barred : eqb n 0 ≡ false → n ≡ cause geo recover st
+    recover_barred z = sym (cause_5 geo st n (foreign_row geo ∷ unsound_row geo ∷ []) e ∙ rw z)
 
     -- they do not: its cause is that of its choice
     pub recover-cause : n ≡ 0 → cause geo recover st ≡ choice_number (choose geo st.rec.blocks st.settled)

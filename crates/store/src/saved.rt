@@ -1,10 +1,11 @@
 // What a call that gives orders hands back: a direct write, sync, apply, recover.
-ghost use Rattle.std.specs.Prelude.{◌≡◌, cond, List, ℕ, ◌-◌, ◌≤◌, eqb};
+ghost use Rattle.std.specs.Prelude.{◌≡◌, cond, List, ℕ, ◌-◌, ◌≤◌, eqb, is_ok};
+ghost use Rattle.card.specs.CodeQueue.{left_queue};
 ghost use Rattle.store.specs.State.{down, with_mode, with_queue};
 ghost use Rattle.store.specs.CodeState.{outcome_of, saved_as};
 
 use crate::record::{DOWN, Record};
-use card::queue::Ordered;
+use card::queue::{PowerLost, Queue};
 use refusals::Refusal;
 
 // The orders carried out, and the record then.
@@ -33,14 +34,13 @@ impl From<Refusal> for Stopped {
 
 impl Record {
     // The record once orders were given: `done` if all of them happened, else down; with the queue that they left.
-    pub(crate) fn after(self, ordered: Ordered, done: Record) -> Record
-        ensures { result ≡ with_queue ordered.queue.waiting ordered.queue.power (cond ordered.happened done (with_mode down self)) }
+    pub(crate) fn after(self, ordered: Result<Queue, PowerLost>, done: Record) -> Record
+        ensures { result ≡ with_queue (left_queue ordered).waiting (left_queue ordered).power (cond (is_ok ordered) done (with_mode down self)) }
     {
-        let queue = ordered.queue;
-        if ordered.happened {
-            return done.with_queue(queue);
+        match ordered {
+            Ok(queue) => done.with_queue(queue),
+            Err(lost) => self.with_mode(DOWN).with_queue(lost.queue),
         }
-        self.with_mode(DOWN).with_queue(queue)
     }
 
     // The end of a call that made `last` of the record: power was gone if it is down. The power used up is the orders carried out.

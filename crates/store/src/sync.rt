@@ -17,7 +17,6 @@ ghost use Rattle.store.specs.Saves.{carried, appending, syncing, sync_call};
 use crate::lists::GROUP;
 use crate::record::{DOWN, Record};
 use crate::saved::{Saved, Stopped};
-use card::queue::Ordered;
 use journal::SLOTS;
 use journal::append::{Group, Log, append};
 use journal::header::LAST_SAVE;
@@ -119,15 +118,10 @@ impl Record {
             from: GROUP as u32,
             count: self.grouped,
         };
-        let a = append(self.queue(), settled, waiting, work, group, log);
-        let queue = a.queue;
-        let ordered = Ordered {
-            happened: a.done,
-            queue,
-        };
+        let (sum, ordered) = append(self.queue(), settled, waiting, work, group, log);
         let done = self
             .with_save(save)
-            .with_log(self.logged + self.grouped, a.sum)
+            .with_log(self.logged + self.grouped, sum)
             .with_grouped(0);
         self.after(ordered, done)
     }

@@ -5,9 +5,18 @@ use Rattle.std.proofs.Math.Bool.{and-false, and-eq-true_iff}
 use Rattle.std.proofs.lemmas.Bool.{false≢true}
 use Rattle.std.proofs.Math.Decide.{ℕ_discrete}
 use Rattle.std.proofs.Math.Seq.{drop-length}
+use Rattle.std.specs.Str.{bytes_eq}
 use Rattle.cells.specs.Little.{num, Bytes}
 use Rattle.cells.specs.Little.Laws.{num_cons}
 use Rattle.cells.specs.Same.{same, same_from}
+
+-- what `==` says of two slices
+pub same-bytes_eq : (s t : List ℕ) → bytes_eq s t ≡ same s t
+unfolding same
+same-bytes_eq [] [] = refl
+same-bytes_eq [] (y ∷ t) = refl
+same-bytes_eq (x ∷ s) [] = refl
+same-bytes_eq (x ∷ s) (y ∷ t) = ap (λ (b : Bool). eqb x y && b) (same-bytes_eq s t)
 
 -- ---- byte by byte
 

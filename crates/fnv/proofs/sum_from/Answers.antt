@@ -1,13 +1,11 @@
--- `fnv::sum_from` meets its contract. The loop's invariant: the sum so far is that of the first i bytes.
-use Rattle.std.proofs.Common.{sym, arith, take_all}
-use Rattle.fnv.proofs.Laws.{sum_from_nil, sum_from-next}
+-- `fnv::sum_from` meets its contract: the fold is the sum's own recursion.
+use Rattle.std.proofs.Common.{rules, ◌≡◌, ◌∙◌}
+use Rattle.std.specs.List.{fold}
+use Rattle.fnv.specs.Fnv.{step}
+use Rattle.fnv.proofs.Laws.{sum_from-fold}
 use Rattle.fnv.proofs.sum_from.Goals as goal
 
-pub loop-i-init : goal.loop-i-init
-loop-i-init c = (omega arith, sym (sum_from_nil _))
-
-pub loop-i-preserved : goal.loop-i-preserved
-loop-i-preserved c = (omega arith, rw (sum_from-next _ _ _ c.loop-i-test.true, ← c.loop-i.invariant.1) c.step-sum.ensures)
-
 pub returns : goal.returns
-returns c = rw (take_all _ _ c.loop-i-test.false) at c.loop-i.invariant.1
+returns c =
+    let all : c.fold.result ≡ fold step c.args.h c.args.s.now = search rules in
+    all ∙ sum_from-fold _ _

@@ -11,12 +11,12 @@ use Rattle.card.proofs.queue.settle_all.Goals as goal
 
 pub loop-i-init : goal.loop-i-init
 unfolding settle
-loop-i-init c = (omega arith, refl)
+loop-i-init c = refl
 
 pub settle_one-requires : goal.settle_one-requires
 settle_one-requires c =
     let same : length c.loop-i.settled ≡ length c.args.settled.now = let a = c.args in
-    ap length c.loop-i.invariant.1 ∙ length-settle (up_to (entry_at a.waiting.now) c.loop-i.i) a.settled.now in
+    ap length c.loop-i.invariant ∙ length-settle (up_to (entry_at a.waiting.now) c.loop-i.i) a.settled.now in
     let size = same in
     record {
       entry_bytes_in_bounds = omega arith;
@@ -27,16 +27,16 @@ pub loop-i-preserved : goal.loop-i-preserved
 loop-i-preserved c =
     let a = c.args in
     let f = entry_at a.waiting.now in
-    (omega arith, c.settle_one.ensures ∙ ap (settle (f c.loop-i.i ∷ [])) c.loop-i.invariant.1 ∙ sym (settle_more f c.loop-i.i a.settled.now))
+    c.settle_one.ensures ∙ ap (settle (f c.loop-i.i ∷ [])) c.loop-i.invariant ∙ sym (settle_more f c.loop-i.i a.settled.now)
 
 pub shape_of-settled : goal.shape_of-settled
 shape_of-settled c =
     let same : length c.loop-i.settled ≡ length c.args.settled.now = let a = c.args in
-    ap length c.loop-i.invariant.1 ∙ length-settle (up_to (entry_at a.waiting.now) c.loop-i.i) a.settled.now in
+    ap length c.loop-i.invariant ∙ length-settle (up_to (entry_at a.waiting.now) c.loop-i.i) a.settled.now in
     same
 
 pub returns : goal.returns
 returns c =
     let a = c.args in
     let all : c.loop-i.i ≡ a.n = omega arith in
-    c.loop-i.invariant.1 ∙ rw all
+    c.loop-i.invariant ∙ rw all

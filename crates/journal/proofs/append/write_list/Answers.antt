@@ -1,10 +1,6 @@
 -- `journal::append::write_list` meets its contract.
-use Prim.Native.Nat.{ℕ}
-use mathlib.Core.Path.{refl, ◌≡◌, ap, ◌∙◌}
-use mathlib.Core.List.{List, [], ◌∷◌}
-use native.Mathlib.Omega.{arith}
-use borrow.Author.Tests.{not-true, not-false}
-use lib.ListN.{length}
+use Rattle.std.proofs.Common.{rules, ◌≡◌, refl, ap, ◌∙◌, arith, length, ℕ, List, [], ◌∷◌}
+use Rattle.std.specs.Prelude.{Ok, Err}
 use Rattle.card.specs.Card.{run, block_at, write}
 use Rattle.card.specs.CodeQueue.{card_of}
 use Rattle.journal.specs.Geometry.{trap}
@@ -19,17 +15,15 @@ use Rattle.journal.proofs.append.write_list.Goals as goal
 orders : (n : ℕ) (work : List ℕ) (from m : ℕ) → length (slot_writes trap n (entries_from work from m)) ≡ m
 orders n work from m = length-slot_writes trap n (entries_from work from m) ∙ length_from work from m
 
-pub returns-then-not-w : goal.returns-then-not-w
-returns-then-not-w c =
+pub returns-in_err-written : goal.returns-in_err-written
+returns-in_err-written c =
     let a = c.args in
     let es = entries_from a.work.now a.group.from a.group.count in
+    let w = c.in_err-written.ensures in
+    let same : c.from_residual.result ≡ Err c.in_err-written.field-0.0 = search rules in
     let o = writes_stopped _ (slot_writes trap a.n es) (write (one_descriptor a.settled.now a.n es) ∷ []) refl a.group.count 1 _ (orders a.n a.work.now a.group.from a.group.count) refl
-    a.waiting.now a.queue c.write_slots-w.new.waiting c.write_slots-w.result c.write_slots-w.ensures.happened_value c.write_slots-w.ensures.by_index (not-true _ c.if-not-w.true) in
-    record {
-      happened_value = o.0;
-      by_index = o.1;
-      waiting_bound = omega arith;
-    }
+    a.waiting.now a.queue c.write_slots.new.waiting (Err c.in_err-written.field-0.0) w.happened_value w.by_index refl in
+    rw same (record { happened_value = o.0; by_index = o.1; waiting_bound = omega (arith, w.waiting_bound); })
 
 pub describe-requires : goal.describe-requires
 describe-requires c =
@@ -45,14 +39,10 @@ pub returns : goal.returns
 returns c =
     let a = c.args in
     let es = entries_from a.work.now a.group.from a.group.count in
+    let w = c.in_ok-written.ensures in
     let new : c.describe.new.block ≡ describe (block_at a.settled.now descriptor_at) a.n es =
     c.describe.ensures ∙ ap (λ (old : List ℕ). describe old a.n es) (block_read c.read.result a.settled descriptor_at c.read.ensures) in
     let o = writes_resumed _ (slot_writes trap a.n es) (write (one_descriptor a.settled.now a.n es) ∷ []) refl a.group.count 1 _ (orders a.n a.work.now a.group.from a.group.count) refl
-    a.waiting.now a.queue c.write_slots-w.new.waiting c.write_slots-w.result c.write_slots-w.ensures.happened_value c.write_slots-w.ensures.by_index (not-false _ c.if-not-w.false)
-    c.write.new.waiting c.write.result c.write.ensures.happened_value
-    (λ s. c.write.ensures.by_index s ∙ ap (λ (block : List ℕ). run (write (record { address = descriptor_at; block = block }) ∷ []) (card_of s c.write_slots-w.new.waiting c.write_slots-w.result.queue)) new) in
-    record {
-      happened_value = o.0;
-      by_index = o.1;
-      waiting_bound = omega arith;
-    }
+    a.waiting.now a.queue c.write_slots.new.waiting (Ok c.in_ok-written.written) w.happened_value w.by_index refl
+    c.write.new.waiting c.write.result c.write.ensures.happened_value (rw new at c.write.ensures.by_index) in
+    record { happened_value = o.0; by_index = o.1; waiting_bound = omega (arith, w.waiting_bound, c.write.ensures.waiting_bound); }

@@ -1,22 +1,20 @@
--- `journal::append::write_slots` meets its contract. The invariant: the first i writes have been given, and have happened.
-use Prim.Native.Nat.{ℕ, ◌+◌}
-use mathlib.Core.Path.{◌≡◌, ap, ◌∙◌}
-use mathlib.Core.Bool.{true}
-use native.Mathlib.Omega.{arith}
-use borrow.Author.Tests.{not-true, not-false}
-use lib.ListN.{length}
+-- `journal::append::write_slots` meets its contract.
+use Rattle.std.proofs.Common.{rules, ◌≡◌, refl, ap, ◌∙◌, sym, arith, length, ℕ, ◌+◌, List}
+use Rattle.std.specs.Prelude.{Ok, Err}
 use Rattle.cells.specs.Entry.{Entry, entry_at}
 use Rattle.cells.specs.Entry.Laws.{entry_eq, length_block}
-use Rattle.journal.specs.Geometry.Laws.{trap-first}
+use Rattle.card.specs.Card.{Order, run}
+use Rattle.card.specs.CodeQueue.{card_of}
 use Rattle.journal.specs.Geometry.{trap}
+use Rattle.journal.specs.Geometry.Laws.{trap-first}
 use Rattle.journal.proofs.Logs.{listed_block}
 use Rattle.journal.proofs.OrderLists.{slot_writes-up_to}
-use Rattle.journal.proofs.Phases.{rowed_orders, written_none, written_more, written_stop, written_all}
+use Rattle.journal.proofs.Phases.{rowed_orders, written_none, written_more, written_stop}
 use Rattle.journal.proofs.append.write_slots.Invariants.{row}
 use Rattle.journal.proofs.append.write_slots.Goals as goal
 
 pub loop-i-init : goal.loop-i-init
-loop-i-init c = (omega arith, written_none _ _ _)
+loop-i-init c = written_none _ _ _
 
 pub overflow_add-n : goal.overflow_add-n
 overflow_add-n c = omega (arith, trap.addressed)
@@ -24,53 +22,38 @@ overflow_add-n c = omega (arith, trap.addressed)
 pub overflow_add-n-in-loop-i : goal.overflow_add-n-in-loop-i
 overflow_add-n-in-loop-i c = omega (arith, trap.addressed)
 
-pub write-w-requires : goal.write-w-requires
-write-w-requires c =
-    let l = c.loop-i in
+pub write-requires-clause-block_len : goal.write-requires-clause-block_len
+write-requires-clause-block_len c =
     let a = c.args in
-    record {
-      entry_bytes_in_bounds = omega arith;
-      waiting_lt_most_places = omega arith;
-      block_len = ap length (listed_block c.block-block.result a.work (a.group.from + l.i) c.block-block.ensures) ∙ length_block a.work.now (a.group.from + l.i) (omega arith);
-    }
+    let k = a.group.from + c.loop-i.i in
+    ap length (listed_block c.block-block.result a.work k c.block-block.ensures) ∙ length_block a.work.now k (omega arith)
 
-pub returns-then-not-w : goal.returns-then-not-w
-returns-then-not-w c =
-    let sent : ◌≡◌ {A = Entry} (record { address = 2 + (c.args.n + c.loop-i.i); block = c.block-block.result.now })
-    (row c.args.work.now c.args.n c.args.group.from c.loop-i.i) = let l = c.loop-i in
-    let a = c.args in
-    entry_eq (ap (λ (k : ℕ). k + (a.n + l.i)) trap-first) (listed_block c.block-block.result a.work (a.group.from + l.i) c.block-block.ensures) in
+pub returns-in_err-q : goal.returns-in_err-q
+returns-in_err-q c =
     let l = c.loop-i in
     let a = c.args in
     let f = row a.work.now a.n a.group.from in
-    let both = rowed_orders f a.group.count a.waiting.now a.queue c.write-w.new.waiting c.write-w.result _ (slot_writes-up_to trap a.n (λ k. entry_at a.work.now (a.group.from + k)) a.group.count)
-    (written_stop f l.i a.waiting.now a.queue l.waiting l.q l.invariant.1 _ (sent) c.write-w.new.waiting c.write-w.result (c.write-w.ensures.happened_value, (c.write-w.ensures.by_index, c.write-w.ensures.waiting_bound)) a.group.count (omega arith) (not-true _ c.if-not-w.true)) in
-    record {
-      happened_value = both.0;
-      by_index = both.1.0;
-      waiting_bound = both.1.1;
-    }
+    let sent : ◌≡◌ {A = Entry} (record { address = 2 + (a.n + l.i); block = c.block-block.result.now }) (f l.i) =
+    entry_eq (ap (λ (k : ℕ). k + (a.n + l.i)) trap-first) (listed_block c.block-block.result a.work (a.group.from + l.i) c.block-block.ensures) in
+    let w = c.in_err-q.ensures in
+    let same : c.from_residual.result ≡ Err c.in_err-q.field-0.0 = search rules in
+    let all = rowed_orders f a.group.count a.waiting.now a.queue c.write.new.waiting (Err c.in_err-q.field-0.0) _ (slot_writes-up_to trap a.n (λ k. entry_at a.work.now (a.group.from + k)) a.group.count)
+    (written_stop f l.i a.waiting.now a.queue l.waiting l.q l.invariant _ sent c.write.new.waiting (Err c.in_err-q.field-0.0) (w.happened_value, (w.by_index, w.waiting_bound)) a.group.count (omega arith) refl) in
+    rw same (record { happened_value = all.0; by_index = all.1.0; waiting_bound = all.1.1; })
 
 pub loop-i-preserved : goal.loop-i-preserved
 loop-i-preserved c =
-    let sent : ◌≡◌ {A = Entry} (record { address = 2 + (c.args.n + c.loop-i.i); block = c.block-block.result.now })
-    (row c.args.work.now c.args.n c.args.group.from c.loop-i.i) = let l = c.loop-i in
-    let a = c.args in
-    entry_eq (ap (λ (k : ℕ). k + (a.n + l.i)) trap-first) (listed_block c.block-block.result a.work (a.group.from + l.i) c.block-block.ensures) in
-    let l = c.loop-i in
-    let a = c.args in
-    (omega arith, written_more (row a.work.now a.n a.group.from) l.i a.waiting.now a.queue l.waiting l.q l.invariant.1 _ (sent) c.write-w.new.waiting c.write-w.result (c.write-w.ensures.happened_value, (c.write-w.ensures.by_index, c.write-w.ensures.waiting_bound)) (omega arith) (not-false _ c.if-not-w.false))
-
-pub returns : goal.returns
-returns c =
     let l = c.loop-i in
     let a = c.args in
     let f = row a.work.now a.n a.group.from in
+    let sent : ◌≡◌ {A = Entry} (record { address = 2 + (a.n + l.i); block = c.block-block.result.now }) (f l.i) =
+    entry_eq (ap (λ (k : ℕ). k + (a.n + l.i)) trap-first) (listed_block c.block-block.result a.work (a.group.from + l.i) c.block-block.ensures) in
+    let w = c.in_ok-q.ensures in
+    written_more f l.i a.waiting.now a.queue l.waiting l.q l.invariant _ sent c.write.new.waiting (Ok c.in_ok-q.q) (w.happened_value, (w.by_index, w.waiting_bound)) (omega arith) refl
+
+pub returns-clause-by_index : goal.returns-clause-by_index
+returns-clause-by_index c =
+    let l = c.loop-i in
+    let a = c.args in
     let all : l.i ≡ a.group.count = omega arith in
-    let both = rowed_orders f a.group.count a.waiting.now a.queue l.waiting (record { happened = true; queue = l.q }) _ (slot_writes-up_to trap a.n (λ k. entry_at a.work.now (a.group.from + k)) a.group.count)
-    (rw (← all) (written_all f l.i a.waiting.now a.queue l.waiting l.q l.invariant.1)) in
-    record {
-      happened_value = both.0;
-      by_index = both.1.0;
-      waiting_bound = both.1.1;
-    }
+    λ s. (rw all at l.invariant.card s) ∙ ap (λ (os : List Order). run os (card_of s a.waiting.now a.queue)) (sym (slot_writes-up_to trap a.n (λ k. entry_at a.work.now (a.group.from + k)) a.group.count))

@@ -12,7 +12,5 @@ abbrev pub row : List ℕ → ℕ → ℕ → ℕ → Entry
 row work n from k = slot_block trap (n + k) (entry_at work (from + k))
 
 abbrev pub invariant-loop-i : goal.invariant-loop-i
-invariant-loop-i l = (l.i ≤ l.group.count) × WrittenSoFar (row l.work l.n l.from) l.i l.initial.waiting l.initial.q l.waiting l.q
+invariant-loop-i l = WrittenSoFar (row l.work l.n l.from) l.i l.initial.waiting l.initial.q l.waiting l.q
 
-abbrev pub decreases-loop-i : goal.decreases-loop-i
-decreases-loop-i l = l.group.count - l.i

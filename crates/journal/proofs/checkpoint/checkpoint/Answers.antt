@@ -1,11 +1,7 @@
 -- `journal::checkpoint::checkpoint` meets its contract.
-use Prim.Native.Nat.{ℕ, ◌+◌}
-use mathlib.Core.Path.{◌≡◌, refl, ap, ◌∙◌}
-use mathlib.Core.List.{List, [], ◌∷◌, ◌++◌, map}
-use native.Mathlib.Omega.{arith}
-use borrow.Author.Tests.{not-true, not-false}
-use lib.Dec.{leb}
-use lib.ListN.{length, length-append, length-map}
+use Rattle.std.proofs.Common.{rules, ◌≡◌, refl, true, false, ap, ◌∙◌, arith, length, ℕ, ◌+◌, List, [], ◌∷◌, ◌++◌, map, leb}
+use Rattle.std.specs.Prelude.{Ok, Err, Result, is_ok}
+use lib.ListN.{length-append, length-map}
 use Rattle.cells.specs.Upto.Laws.{length-up_to}
 use Rattle.card.specs.Card.{Order, write, flush, run, blocks_in}
 use Rattle.card.specs.CodeQueue.{card_of}
@@ -30,55 +26,49 @@ homes s n = rw (length-map) (length-up_to (slot_entry trap s) n)
 homes_flush : (s : List ℕ) (n : ℕ) → length (map write (entries trap s n) ++ (flush ∷ [])) ≡ n + 1
 homes_flush s n = rw (length-append, homes s n)
 
-pub returns-then-not-w : goal.returns-then-not-w
+pub returns-in_err-written : goal.returns-in_err-written
 unfolding checkpoint_orders
-returns-then-not-w c =
+returns-in_err-written c =
     let a = c.args in
-    let both = stopped _ (map write (entries trap a.settled.now a.n)) (flush ∷ last a.blocks a.save) refl a.n 3 _ (homes a.settled.now a.n) refl
-    (card_of a.settled.now a.waiting.now a.queue) _ (c.write_homes-w.ensures.by_index a.settled.now) _ c.write_homes-w.ensures.happened_value (not-true _ c.if-not-w.true) in
-    record {
-      happened_value = both.0;
-      queue_after = both.1;
-    }
+    let w = c.in_err-written.ensures in
+    let same : c.from_residual.result ≡ Err c.in_err-written.field-0.0 = search rules in
+    let o = stopped _ (map write (entries trap a.settled.now a.n)) (flush ∷ last a.blocks a.save) refl a.n 3 _ (homes a.settled.now a.n) refl
+    (card_of a.settled.now a.waiting.now a.queue) _ (w.by_index a.settled.now) false w.happened_value refl in
+    rw same (record { happened_value = o.0; queue_after = o.1; })
 
-pub flush-f-requires : goal.flush-f-requires
-flush-f-requires c =
+pub flush-requires : goal.flush-requires
+flush-requires c =
     let a = c.args in
     let s = a.settled.now in
+    let w = c.in_ok-written.ensures in
     let m : length (entries trap s a.n) ≡ a.n = length-up_to (slot_entry trap s) a.n in
     let below = writes_below (blocks_in s) (entries trap s a.n) (card_of s a.waiting.now a.queue) (omega arith)
     (entries_whole trap s a.n (omega arith) (omega arith)) (entries-short trap s a.n (λ i. (c.slice_known-1.given i).fits) (omega arith) (omega arith))
     (entries_below trap (blocks_in s) s a.n c.requires.by_index) c.requires.below in
     record {
-      waiting_in_bounds = omega arith;
-      below = below_card (blocks_in s) s c.write_homes-w.new.waiting c.write_homes-w.result.queue _ (c.write_homes-w.ensures.by_index s) below;
+      waiting_in_bounds = omega (arith, w.waiting_bound);
+      below = below_card (blocks_in s) s c.write_homes.new.waiting c.in_ok-written.written _ (w.by_index s) below;
     }
 
-pub returns-then-not-f : goal.returns-then-not-f
-returns-then-not-f c =
-    let flushed : (c.flush-f.result.happened ≡ leb (c.args.n + 1) c.args.queue.power)
-    × (card_of c.flush-f.new.settled c.write_homes-w.new.waiting c.flush-f.result.queue
-    ≡ run (map write (entries trap c.args.settled.now c.args.n) ++ (flush ∷ [])) (card_of c.args.settled.now c.args.waiting.now c.args.queue)) = let a = c.args in
-    resumed _ (map write (entries trap a.settled.now a.n)) (flush ∷ []) refl a.n 1 _ (homes a.settled.now a.n) refl
-    (card_of a.settled.now a.waiting.now a.queue) _ (c.write_homes-w.ensures.by_index a.settled.now) _ c.write_homes-w.ensures.happened_value (not-false _ c.if-not-w.false)
-    _ _ c.flush-f.ensures.queue_after c.flush-f.ensures.happened_value in
+pub returns-in_err-flushed : goal.returns-in_err-flushed
+returns-in_err-flushed c =
     let a = c.args in
-    let both = stopped _ (map write (entries trap a.settled.now a.n) ++ (flush ∷ [])) (last a.blocks a.save) (checkpoint_writes a.blocks a.save (entries trap a.settled.now a.n)) (a.n + 1) 2 (a.n + 3) (homes_flush a.settled.now a.n) (omega arith)
-    (card_of a.settled.now a.waiting.now a.queue) _ (flushed).1 _ (flushed).0 (not-true _ c.if-not-f.true) in
-    record {
-      happened_value = both.0;
-      queue_after = both.1;
-    }
+    let s = a.settled.now in
+    let w = c.in_ok-written.ensures in
+    let f = c.in_err-flushed.ensures in
+    let same : c.from_residual-in_err-flushed.result ≡ Err c.in_err-flushed.field-0.0 = search rules in
+    let first = resumed _ (map write (entries trap s a.n)) (flush ∷ []) refl a.n 1 _ (homes s a.n) refl
+    (card_of s a.waiting.now a.queue) _ (w.by_index s) true w.happened_value refl _ false f.queue_after f.happened_value in
+    let o = stopped _ (map write (entries trap s a.n) ++ (flush ∷ [])) (last a.blocks a.save) (checkpoint_writes a.blocks a.save (entries trap s a.n)) (a.n + 1) 2 (a.n + 3) (homes_flush s a.n) (omega arith)
+    (card_of s a.waiting.now a.queue) _ first.1 false first.0 refl in
+    rw same (record { happened_value = o.0; queue_after = o.1; })
 
 pub order-requires : goal.order-requires
 order-requires c =
     let s = c.args.settled.now in
-    let empty : c.flush-f.result.queue.waiting ≡ 0 =
-    flushed_empty s c.write_homes-w.new.waiting c.write_homes-w.result.queue c.flush-f.new.settled c.flush-f.result c.flush-f.ensures.queue_after c.flush-f.ensures.happened_value (not-false _ c.if-not-f.false) in
-    let same : length c.flush-f.new.settled ≡ length s = c.flush-f.auto.settled in
-    let room : length c.write_homes-w.new.waiting ≡ length c.args.waiting.now = c.write_homes-w.auto.waiting in
-    let large = c.requires.trap_bound in
-    let one = c.requires.entry_bytes_in_bounds in
+    let f = c.in_ok-flushed.ensures in
+    let empty : c.in_ok-flushed.flushed.waiting ≡ 0 =
+    flushed_empty s c.write_homes.new.waiting c.in_ok-written.written c.flush.new.settled (Ok c.in_ok-flushed.flushed) f.queue_after f.happened_value refl in
     record {
       settled_nonzero = omega arith;
       waiting_lt_most_places = omega arith;
@@ -88,17 +78,13 @@ order-requires c =
 
 pub returns : goal.returns
 returns c =
-    let flushed : (c.flush-f.result.happened ≡ leb (c.args.n + 1) c.args.queue.power)
-    × (card_of c.flush-f.new.settled c.write_homes-w.new.waiting c.flush-f.result.queue
-    ≡ run (map write (entries trap c.args.settled.now c.args.n) ++ (flush ∷ [])) (card_of c.args.settled.now c.args.waiting.now c.args.queue)) = let a = c.args in
-    resumed _ (map write (entries trap a.settled.now a.n)) (flush ∷ []) refl a.n 1 _ (homes a.settled.now a.n) refl
-    (card_of a.settled.now a.waiting.now a.queue) _ (c.write_homes-w.ensures.by_index a.settled.now) _ c.write_homes-w.ensures.happened_value (not-false _ c.if-not-w.false)
-    _ _ c.flush-f.ensures.queue_after c.flush-f.ensures.happened_value in
     let a = c.args in
-    let both = resumed _ (map write (entries trap a.settled.now a.n) ++ (flush ∷ [])) (last a.blocks a.save) (checkpoint_writes a.blocks a.save (entries trap a.settled.now a.n)) (a.n + 1) 2 (a.n + 3) (homes_flush a.settled.now a.n) (omega arith)
-    (card_of a.settled.now a.waiting.now a.queue) _ (flushed).1 _ (flushed).0 (not-false _ c.if-not-f.false)
-    _ _ (c.order.ensures.queue_after ∙ ap (λ (x : Header). run (header_write x ∷ flush ∷ []) (card_of c.flush-f.new.settled c.write_homes-w.new.waiting c.flush-f.result.queue)) c.empty.ensures) c.order.ensures.happened_value in
-    record {
-      happened_value = both.0;
-      queue_after = both.1;
-    }
+    let s = a.settled.now in
+    let w = c.in_ok-written.ensures in
+    let f = c.in_ok-flushed.ensures in
+    let first = resumed _ (map write (entries trap s a.n)) (flush ∷ []) refl a.n 1 _ (homes s a.n) refl
+    (card_of s a.waiting.now a.queue) _ (w.by_index s) true w.happened_value refl _ true f.queue_after f.happened_value in
+    let o = resumed _ (map write (entries trap s a.n) ++ (flush ∷ [])) (last a.blocks a.save) (checkpoint_writes a.blocks a.save (entries trap s a.n)) (a.n + 1) 2 (a.n + 3) (homes_flush s a.n) (omega arith)
+    (card_of s a.waiting.now a.queue) _ first.1 true first.0 refl
+    _ _ (c.order.ensures.queue_after ∙ ap (λ (x : Header). run (header_write x ∷ flush ∷ []) (card_of c.flush.new.settled c.write_homes.new.waiting c.in_ok-flushed.flushed)) c.empty.ensures) c.order.ensures.happened_value in
+    record { happened_value = o.0; queue_after = o.1; }

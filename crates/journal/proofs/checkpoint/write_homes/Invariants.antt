@@ -6,7 +6,5 @@ use Rattle.journal.proofs.Phases.{WrittenSoFar}
 use Rattle.journal.proofs.checkpoint.write_homes.Given as goal
 
 abbrev pub invariant-loop-i : goal.invariant-loop-i
-invariant-loop-i l = (l.i ≤ l.n) × WrittenSoFar (slot_entry trap l.settled) l.i l.initial.waiting l.initial.q l.waiting l.q
+invariant-loop-i l = WrittenSoFar (slot_entry trap l.settled) l.i l.initial.waiting l.initial.q l.waiting l.q
 
-abbrev pub decreases-loop-i : goal.decreases-loop-i
-decreases-loop-i l = l.n - l.i

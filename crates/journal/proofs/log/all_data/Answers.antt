@@ -1,25 +1,16 @@
--- `journal::log::all_data` meets its contract. The invariant: whether the first i addresses are data blocks.
-use mathlib.Core.Path.{◌≡◌, refl, sym}
-use native.Mathlib.Omega.{arith}
+-- `journal::log::all_data` meets its contract.
+use Rattle.std.proofs.Common.{rules, tests, ◌≡◌, refl, ◌∙◌, true, ◌&&◌, arith}
+use Rattle.std.proofs.lemmas.Iterator.{YieldsList-from_range}
+use Rattle.std.proofs.lemmas.Iterator.Consumers.{fold_from_yields_List}
 use Rattle.journal.specs.Geometry.{trap}
-use Rattle.journal.specs.Log.{all_data}
-use Rattle.journal.proofs.Logs.{data_more}
+use Rattle.journal.specs.Layout.{is_data}
+use Rattle.journal.specs.Log.{slot_address}
+use Rattle.journal.proofs.Logs.{data-fold}
 use Rattle.journal.proofs.log.all_data.Goals as goal
 
--- src/log.rt:78:5
-pub loop-i-init : goal.loop-i-init
-unfolding all_data
-loop-i-init c = (omega arith, refl)
-
--- src/log.rt:78:5
-pub loop-i-preserved : goal.loop-i-preserved
-loop-i-preserved c =
-    let l = c.loop-i in
-    let a = c.args in
-    (omega arith, rw (l.invariant.1, c.is_data-all.ensures, c.slot_address.ensures) (sym (data_more trap a.blocks a.settled.now l.i)))
-
--- src/log.rt:71:1
 pub returns : goal.returns
 returns c =
-    let all : c.loop-i.i ≡ c.args.n = omega arith in
-    rw (← all) c.loop-i.invariant.1
+    let a = c.args in
+    fold_from_yields_List _ (λ all i. all && is_data trap a.blocks (slot_address a.settled.now i)) true c.fold.result c.fold.ensures.ran (YieldsList-from_range 0 a.n a.n refl (omega arith))
+    (λ all i b q k. search (rules, tests))
+    ∙ data-fold trap a.blocks a.settled.now a.n

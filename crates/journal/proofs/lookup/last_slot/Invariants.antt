@@ -5,7 +5,5 @@ use Rattle.journal.specs.Lookup.{last_slot}
 use Rattle.journal.proofs.lookup.last_slot.Given as goal
 
 abbrev pub invariant-loop-i : goal.invariant-loop-i
-invariant-loop-i l = (l.i ≤ l.n) × (last_slot l.settled l.a l.i ≡ last_slot l.settled l.a l.n)
+invariant-loop-i l = last_slot l.settled l.a l.i ≡ last_slot l.settled l.a l.n
 
-abbrev pub decreases-loop-i : goal.decreases-loop-i
-decreases-loop-i l = l.i

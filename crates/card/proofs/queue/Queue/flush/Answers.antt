@@ -1,33 +1,17 @@
 -- `card::queue::Queue::flush` meets its contract.
-use Prim.Native.Nat.{◌<◌}
-use mathlib.Core.Path.{◌≡◌, refl}
-use mathlib.Core.List.{[], ◌∷◌}
-use native.Mathlib.Omega.{arith}
-use borrow.Author.Tests.{lt-ltb, le-ltb}
+use Rattle.std.proofs.Common.{rules, ◌≡◌, [], ◌∷◌, sym}
 use Rattle.card.specs.Card.{flush, queue, order}
-use Rattle.card.specs.CodeQueue.{card_of}
+use Rattle.card.specs.CodeQueue.{card_of, left_queue}
 use Rattle.card.proofs.Runs.{run_dead, run-one}
 use Rattle.card.proofs.queue.Queue.flush.Goals as goal
 
-pub returns-then-self-eq0 : goal.returns-then-self-eq0
-returns-then-self-eq0 c =
-    let a = c.args in
-    let none : a.self.power ≡ 0 = c.if-self-eq0.true in
-    rw (c.refused.ensures, le-ltb 0 a.self.power (omega arith), run_dead (flush ∷ []) (card_of a.settled.now a.waiting.now a.self) none)
-    (record {
-      happened_value = refl;
-      queue_after = refl;
-      waiting_le_waiting = omega arith;
-    })
+pub returns-in_err-queue-clause-queue_after : goal.returns-in_err-queue-clause-queue_after
+returns-in_err-queue-clause-queue_after c =
+    let left : left_queue c.from_residual.result ≡ c.args.self = search rules in
+    rw left (sym (run_dead (flush ∷ []) (card_of c.args.settled.now c.args.waiting.now c.args.self) c.in_err-queue.ensures.err.0))
 
-pub returns : goal.returns
+pub returns-clause-queue_after : goal.returns-clause-queue_after
 unfolding queue order
-returns c =
-    let a = c.args in
-    let live : 0 < a.self.power = omega (arith, c.if-self-eq0.false) in
-    rw (c.done.ensures, lt-ltb 0 a.self.power live, c.settle_all.ensures, run-one flush (card_of a.settled.now a.waiting.now a.self) live)
-    (record {
-      happened_value = refl;
-      queue_after = refl;
-      waiting_le_waiting = omega arith;
-    })
+returns-clause-queue_after c =
+    let live = c.in_ok-queue.ensures.ok in
+    rw (live.1, c.settle_all.ensures) (sym (run-one flush (card_of c.args.settled.now c.args.waiting.now c.args.self) live.0))

@@ -20,9 +20,9 @@ use Rattle.store.proofs.record.Record.appended.Goals as goal
 pub overflow_add-save : goal.overflow_add-save
 overflow_add-save c = let free = c.requires.save_nonzero in omega arith
 
-pub append-a-requires : goal.append-a-requires
+pub append-sum-requires : goal.append-sum-requires
 unfolding trap
-append-a-requires c =
+append-sum-requires c =
     let same : c.queue.result.waiting ≡ c.args.self.waiting = ap (λ (q : Queue). q.waiting) c.queue.ensures in
     let few = c.requires.waiting_le_direct in
     record {
@@ -48,8 +48,8 @@ returns c =
     let size : length (append_orders trap a.self.blocks a.settled.now a.self.logged a.self.sum (a.self.save + 1) (group_of trap st)) ≡ a.self.grouped + 3 =
     length-append_orders trap a.self.blocks a.settled.now a.self.logged a.self.sum (a.self.save + 1) (group_of trap st) ∙ (omega (arith, trap-descriptors, group_size trap st)) in
     let whole = c.with_grouped-done.ensures
-    ∙ ap (with_grouped 0) (c.with_log.ensures ∙ ap₂ (λ (h : ℕ) (x : Record). with_log (a.self.logged + a.self.grouped) h x) c.append-a.ensures.sum_value c.with_save.ensures) in
+    ∙ ap (with_grouped 0) (c.with_log.ensures ∙ ap₂ (λ (h : ℕ) (x : Record). with_log (a.self.logged + a.self.grouped) h x) c.append-sum.ensures.sum_value c.with_save.ensures) in
     given (append_orders trap a.self.blocks a.settled.now a.self.logged a.self.sum (a.self.save + 1) (group_of trap st)) (a.self.grouped + 3)
     (with_grouped 0 (with_log (a.self.logged + a.self.grouped) (sum_of a.self.sum (group_of trap st)) (with_save (a.self.save + 1) a.self))) a.self st
-    _ _ _ (record { happened = c.append-a.result.done; queue = c.append-a.result.queue }) _ _ size c.queue.ensures
-    c.append-a.ensures.done_value c.append-a.ensures.queue_after whole c.after.ensures
+    _ _ _ c.append-sum.result.1 _ _ size c.queue.ensures
+    c.append-sum.ensures.done_value c.append-sum.ensures.queue_after whole c.after.ensures

@@ -16,13 +16,13 @@ use Rattle.store.proofs.Listings.{copied, met-le, copied-newest, none_out, one_o
 use Rattle.store.proofs.record.Record.copy_out.Goals as goal
 
 pub loop-i-init : goal.loop-i-init
-loop-i-init c = (omega arith, c.count-n.ensures, none_out _ _)
+loop-i-init c = none_out _ _
 
 pub slice_bounds-copy_newest-start : goal.slice_bounds-copy_newest-start
-slice_bounds-copy_newest-start c = omega (arith, c.loop-i.invariant.2.size)
+slice_bounds-copy_newest-start c = omega (arith, c.loop-i.invariant.size)
 
 pub slice_bounds-copy_newest-end : goal.slice_bounds-copy_newest-end
-slice_bounds-copy_newest-end c = omega (arith, c.loop-i.invariant.2.size)
+slice_bounds-copy_newest-end c = omega (arith, c.loop-i.invariant.size)
 
 pub copy_newest-requires : goal.copy_newest-requires
 copy_newest-requires c =
@@ -40,7 +40,7 @@ copy_newest-requires c =
       opened_le_slots = omega arith;
       waited_in_bounds = omega arith;
       address_bound = below;
-      block_len = rw (length-take, length-drop) (omega (arith, l.invariant.2.size));
+      block_len = rw (length-take, length-drop) (omega (arith, l.invariant.size));
     }
 
 pub loop-i-preserved : goal.loop-i-preserved
@@ -50,19 +50,19 @@ loop-i-preserved c =
     let f = copied a.settled.now a.waiting.now a.work.now a.list.now a.opened.now a.grouped.now a.logged.now a.waited.now in
     let block : c.copy_newest.new.block ≡ f l.i = rw (← c.wanted.ensures) (c.copy_newest.ensures (found_as (get_or a.opened.now l.i 0)) (found_as (get_or a.grouped.now l.i 0)) (found_as (get_or a.logged.now l.i 0)) (found_as (get_or a.waited.now l.i 0)) (fresh 0) (numbered-found _) (numbered-found _) (numbered-found _) (numbered-found _)) in
     let total : length a.blocks.now ≡ 512 * wanted_count a.list.now = c.requires.blocks_len in
-    let here : l.i < wanted_count a.list.now = omega (arith, c.loop-i-test.true, l.invariant.1) in
+    let here : l.i < wanted_count a.list.now = omega arith in
     let kept : length c.copy_newest.new.block ≡ length (take (512 * l.i + 512 - 512 * l.i) (drop (512 * l.i) l.blocks)) = c.copy_newest.auto.block in
-    let whole : length (take (512 * l.i + 512 - 512 * l.i) (drop (512 * l.i) l.blocks)) ≡ 512 = rw (length-take, length-drop) (omega (arith, l.invariant.2.size)) in
+    let whole : length (take (512 * l.i + 512 - 512 * l.i) (drop (512 * l.i) l.blocks)) ≡ 512 = rw (length-take, length-drop) (omega (arith, l.invariant.size)) in
     let size : length c.copy_newest.new.block ≡ 512 = kept ∙ whole in
-    (omega arith, l.invariant.1, one_out f a.blocks.now l.blocks c.copy_newest.new.block l.i (512 * l.i + 512 - 512 * l.i) l.invariant.2 (omega arith) (omega arith) size block)
+    one_out f a.blocks.now l.blocks c.copy_newest.new.block l.i (512 * l.i + 512 - 512 * l.i) l.invariant (omega arith) (omega arith) size block
 
 pub shape_of-blocks : goal.shape_of-blocks
-shape_of-blocks c = c.loop-i.invariant.2.size
+shape_of-blocks c = c.loop-i.invariant.size
 
 pub returns : goal.returns
 returns c =
     let a = c.args in
     let l = c.loop-i in
     let over : l.i ≡ wanted_count a.list.now = omega arith in
-    all_out _ a.blocks.now l.blocks _ (rw over at l.invariant.2) c.requires.blocks_len
+    all_out _ a.blocks.now l.blocks _ (rw over at l.invariant) c.requires.blocks_len
     ∙ ext_joined _ _ (wanted_count a.list.now) (λ i h. copied-newest a.self a.settled.now a.waiting.now a.work.now a.list.now a.opened.now a.grouped.now a.logged.now a.waited.now i c.requires.met.0 c.requires.met.1 c.requires.met_2.0 c.requires.met_2.1 h)

@@ -1,13 +1,6 @@
 -- `store::record::Record::copy_out` meets its contract: i blocks are copied out.
-use Prim.Native.Nat.{◌-◌, ◌≤◌}
-use mathlib.Core.Path.{◌≡◌}
-use Rattle.journal.specs.Wanted.{wanted_count}
 use Rattle.store.proofs.Listings.{copied, CopiedOut}
 use Rattle.store.proofs.record.Record.copy_out.Given as goal
 
 abbrev pub invariant-loop-i : goal.invariant-loop-i
-invariant-loop-i l =
-    (l.i ≤ l.n) × (l.n ≡ wanted_count l.list) × CopiedOut (copied l.settled l.waiting l.work l.list l.opened l.grouped l.logged l.waited) l.initial.blocks l.blocks l.i
-
-abbrev pub decreases-loop-i : goal.decreases-loop-i
-decreases-loop-i l = l.n - l.i
+invariant-loop-i l = CopiedOut (copied l.settled l.waiting l.work l.list l.opened l.grouped l.logged l.waited) l.initial.blocks l.blocks l.i

@@ -1,4 +1,6 @@
 -- `store::record::Record::cut` meets its contract.
+use Rattle.std.proofs.Common.{rules}
+use Rattle.std.specs.Prelude.{Err}
 use Prim.Native.Nat.{◌*◌, ◌<◌}
 use mathlib.Core.Path.{◌≡◌, refl, ap, ◌∙◌}
 use native.Mathlib.Omega.{arith}
@@ -20,17 +22,19 @@ use Rattle.store.proofs.Causes.{any_waits, cause_passes, passes_sound}
 use Rattle.store.proofs.Saves.{cut_state}
 use Rattle.store.proofs.record.Record.cut.Goals as goal
 
-pub returns-then-number-ne0 : goal.returns-then-number-ne0
+pub returns-in_err-check_cut : goal.returns-in_err-check_cut
 unfolding cut_call
-returns-then-number-ne0 c = rw c.answer.ensures (call_refused _ _ _ _ c.check_cut-number.ensures c.if-number-ne0.true)
+returns-in_err-check_cut c =
+    let left : c.from_residual.result ≡ Err c.in_err-check_cut.field-0.0 = search rules in
+    rw left (call_refused _ _ _ _ c.in_err-check_cut.ensures)
 
 pub cut-queue-requires : goal.cut-queue-requires
 unfolding queue
 cut-queue-requires c =
     let given : State = state_of c.args.self c.args.settled.now c.args.waiting.now c.args.work.now in
     let st = given in
-    let p = cause_passes trap (cut c.args.marks.now) st c.check_cut-number.result c.check_cut-number.ensures c.if-number-ne0.false in
-    let s = passes_sound trap (cut c.args.marks.now) st c.check_cut-number.result refl c.check_cut-number.ensures c.if-number-ne0.false in
+    let p = cause_passes trap (cut c.args.marks.now) st 0 c.in_ok-check_cut.ensures refl in
+    let s = passes_sound trap (cut c.args.marks.now) st 0 refl c.in_ok-check_cut.ensures refl in
     let few = any_waits trap st s.counts in
     let waits : length (queue (card_in st)) ≡ c.args.self.waiting = length-up_to (entry_at c.args.waiting.now) c.args.self.waiting in
     let many : length c.args.marks.now ≡ block_bytes * length (queue (card_in st)) = fits_length c.args.marks.now (queue (card_in st)) (not-false _ p.own.0) in
@@ -47,6 +51,5 @@ unfolding cut_call
 returns c =
     let given : State = state_of c.args.self c.args.settled.now c.args.waiting.now c.args.work.now in
     let a = c.args in
-    rw c.answer-2.ensures
-    (ap completed (cut_state a.marks.now _ (given) _ _ c.cut-queue.result _ _ c.queue.ensures c.cut-queue.ensures c.shut.ensures c.with_queue.ensures)
-    ∙ call_done _ _ _ _ c.check_cut-number.ensures c.if-number-ne0.false)
+        (ap completed (cut_state a.marks.now _ (given) _ _ c.cut-queue.result _ _ c.queue.ensures c.cut-queue.ensures c.shut.ensures c.with_queue.ensures)
+    ∙ call_done _ _ _ _ c.in_ok-check_cut.ensures refl)

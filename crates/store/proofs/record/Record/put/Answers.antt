@@ -1,4 +1,6 @@
 -- `store::record::Record::put` meets its contract.
+use Rattle.std.proofs.Common.{rules}
+use Rattle.std.specs.Prelude.{Err}
 use Rattle.std.specs.Prelude.{Option, None}
 use Prim.Native.Nat.{ℕ, ◌<◌}
 use mathlib.Core.Path.{◌≡◌, refl, ap, ◌∙◌}
@@ -21,16 +23,18 @@ use Rattle.store.proofs.record.Record.put.Goals as goal
 room_put : (f : Option ℕ) (n : ℕ) → not (is_found f) && leb trap.slots n ≡ false → f ≡ None → n < trap.slots
 room_put f n e absent = leb-false _ _ (rw absent at e)
 
-pub returns-then-number-ne0 : goal.returns-then-number-ne0
+pub returns-in_err-check_put : goal.returns-in_err-check_put
 unfolding put_call
-returns-then-number-ne0 c = rw c.answer.ensures (call_refused _ _ _ _ c.check_put-number.ensures c.if-number-ne0.true)
+returns-in_err-check_put c =
+    let left : c.from_residual.result ≡ Err c.in_err-check_put.field-0.0 = search rules in
+    rw left (call_refused _ _ _ _ c.in_err-check_put.ensures)
 
 pub put_entry-requires : goal.put_entry-requires
 put_entry-requires c =
     let a = c.args in
     let st = state_of a.self a.settled.now a.waiting.now a.work.now in
-    let p = cause_passes trap (put a.address a.block.now) st c.check_put-number.result c.check_put-number.ensures c.if-number-ne0.false in
-    let s = passes_sound trap (put a.address a.block.now) st c.check_put-number.result refl c.check_put-number.ensures c.if-number-ne0.false in
+    let p = cause_passes trap (put a.address a.block.now) st 0 c.in_ok-check_put.ensures refl in
+    let s = passes_sound trap (put a.address a.block.now) st 0 refl c.in_ok-check_put.ensures refl in
     record {
       block_len = eqb-true _ _ (not-false _ p.block);
       slots_in_bounds = omega arith;
@@ -40,4 +44,4 @@ put_entry-requires c =
 
 pub returns : goal.returns
 unfolding put_call
-returns c = rw c.answer-2.ensures (ap completed (c.put_entry.ensures _ _) ∙ call_done _ _ _ _ c.check_put-number.ensures c.if-number-ne0.false)
+returns c = (ap completed (c.put_entry.ensures _ _) ∙ call_done _ _ _ _ c.in_ok-check_put.ensures refl)

@@ -1,35 +1,35 @@
 -- `store::record::Record::recover` meets its contract.
-use mathlib.Core.Path.{ap, ◌∙◌}
-use native.Mathlib.Omega.{arith}
+use Rattle.std.proofs.Common.{rules, arith, Err, ◌≡◌, refl, ap, ◌∙◌}
 use Rattle.journal.specs.Geometry.{trap}
 use Rattle.journal.specs.declared.choice.Choice.{Choice}
 use Rattle.journal.specs.Choice.{choice_number}
+use Rattle.refusals.proofs.Nonzero.{refusal_nonzero}
+use Rattle.store.specs.declared.saved.Stopped.TheVariants.{Refused}
 use Rattle.store.specs.State.{State}
 use Rattle.store.specs.CodeState.{state_of}
 use Rattle.store.specs.Outcomes.{unless}
 use Rattle.store.specs.Saves.{recovering, recover_call}
 use Rattle.store.proofs.Calls.{call_refused}
-use Rattle.store.proofs.Saves.{Unopened, unopened, recover_barred, recover-call}
+use Rattle.store.proofs.Saves.{unopened, recover_barred, recover-call}
 use Rattle.store.proofs.record.Record.recover.Goals as goal
 
-pub returns-then-number-ne0 : goal.returns-then-number-ne0
+pub returns-in_err-check_closed : goal.returns-in_err-check_closed
 unfolding recover_call
-returns-then-number-ne0 c =
-    let given : State = state_of c.args.self c.args.settled.now c.args.waiting.now c.args.work.now in
-    rw c.refused.ensures
-    (call_refused _ _ _ _ (recover_barred trap (given) c.check_closed-number.result c.check_closed-number.ensures c.if-number-ne0.true) c.if-number-ne0.true)
+returns-in_err-check_closed c =
+    let refusal = c.in_err-check_closed.field-0.0 in
+    let left : c.from_residual.result ≡ Err (Refused refusal) = search rules in
+    rw left (call_refused refusal _ _ _ (recover_barred trap _ _ c.in_err-check_closed.ensures (refusal_nonzero refusal)))
 
 pub choose-choice-requires : goal.choose-choice-requires
 choose-choice-requires c =
     let given : State = state_of c.args.self c.args.settled.now c.args.waiting.now c.args.work.now in
-    let checked : Unopened trap (given) = unopened trap (given) c.check_closed-number.result c.check_closed-number.ensures c.if-number-ne0.false in
-    let s = (checked).sound in omega arith
+    let s = (unopened trap given 0 c.in_ok-check_closed.ensures refl).sound in
+    omega arith
 
 pub recovered-requires : goal.recovered-requires
 recovered-requires c =
     let given : State = state_of c.args.self c.args.settled.now c.args.waiting.now c.args.work.now in
-    let checked : Unopened trap (given) = unopened trap (given) c.check_closed-number.result c.check_closed-number.ensures c.if-number-ne0.false in
-    let u = checked in
+    let u = unopened trap given 0 c.in_ok-check_closed.ensures refl in
     let s = u.sound in
     record {
       trap_bound = omega arith;
@@ -40,6 +40,5 @@ recovered-requires c =
 pub returns : goal.returns
 returns c =
     let given : State = state_of c.args.self c.args.settled.now c.args.waiting.now c.args.work.now in
-    let st = given in
-    c.recovered.ensures st.work ∙ ap (λ (x : Choice). unless (choice_number x) st (recovering x st)) c.choose-choice.ensures
-    ∙ recover-call trap st c.check_closed-number.result c.check_closed-number.ensures c.if-number-ne0.false
+    c.recovered.ensures given.work ∙ ap (λ (x : Choice). unless (choice_number x) given (recovering x given)) c.choose-choice.ensures
+    ∙ recover-call trap given 0 c.in_ok-check_closed.ensures refl

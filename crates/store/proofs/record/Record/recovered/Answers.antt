@@ -1,8 +1,5 @@
 -- `store::record::Record::recovered` meets its contract.
-use Prim.Native.Nat.{ℕ}
-use mathlib.Core.Path.{◌≡◌, ap, refl, sym, ◌∙◌}
-use mathlib.Core.List.{List, []}
-use native.Mathlib.Omega.{arith}
+use Rattle.std.proofs.Common.{rules, arith, ℕ, List, [], ◌≡◌, refl, ap, sym, ◌∙◌}
 use borrow.Author.Tests.{eqb-false}
 use Rattle.card.specs.declared.queue.Queue.{Queue}
 use Rattle.journal.specs.Geometry.{trap}
@@ -58,10 +55,10 @@ returns-in-Whole c =
     let a = c.in-Whole in
     λ k.
     let st = given k in
-    rw c.saved.ensures
-    (carried_ends [] (reopened a.n a.sum a.save st.rec) st.rec st (eqb-false open_mode down refl) _ _ _ _
+    c.saved.ensures _ _ _
+    ∙ carried_ends [] (reopened a.n a.sum a.save st.rec) st.rec st (eqb-false open_mode down refl) _ _ _ _
     (ap (λ (r : Record). state_of r st.settled st.waiting k) c.reopened.ensures ∙ sym (ap (λ (o : Outcome). o.state) (carried_none (reopened a.n a.sum a.save st.rec) st.rec st)))
-    ∙ ap (by st) (sym a.is))
+    ∙ ap (by st) (sym a.is)
 
 pub returns-in-Fallback : goal.returns-in-Fallback
 returns-in-Fallback c =
@@ -74,16 +71,6 @@ returns-in-Fallback c =
     _ _ _ c.fallback-ordered.result _ _ (length_fallback a.self.blocks x.p x.sum x.save) c.queue.ensures
     c.fallback-ordered.ensures.happened_value c.fallback-ordered.ensures.queue_after c.reopened-in-Fallback.ensures c.after.ensures in
     λ k.
-    rw c.saved-in-Fallback.ensures
-    (carried_ends _ _ _ (given k) (eqb-false open_mode down refl) _ _ _ _ (fell k)
-    ∙ ap (by (given k)) (sym c.in-Fallback.is))
-
-pub returns-in-Foreign : goal.returns-in-Foreign
-returns-in-Foreign c =
-    let given : List ℕ → State = λ k. state_of c.args.self c.args.settled.now c.args.waiting.now k in
-    λ k. rw c.refused.ensures (ap (by (given k)) (sym c.in-Foreign.is))
-
-pub returns-in-Neither : goal.returns-in-Neither
-returns-in-Neither c =
-    let given : List ℕ → State = λ k. state_of c.args.self c.args.settled.now c.args.waiting.now k in
-    λ k. rw c.refused-in-Neither.ensures (ap (by (given k)) (sym c.in-Neither.is))
+    c.saved-in-Fallback.ensures _ _ _
+    ∙ carried_ends _ _ _ (given k) (eqb-false open_mode down refl) _ _ _ _ (fell k)
+    ∙ ap (by (given k)) (sym c.in-Fallback.is)

@@ -1,10 +1,7 @@
--- `journal::append::append` meets its contract.
-use Prim.Native.Nat.{ℕ, ◌+◌}
-use mathlib.Core.Path.{◌≡◌, ap, ap₂, sym, ◌∙◌}
-use mathlib.Core.List.{List, [], ◌∷◌, ◌++◌, map}
-use native.Mathlib.Omega.{arith}
-use borrow.Author.Tests.{not-true, not-false}
-use lib.ListN.{length, length-append}
+-- `journal::append::give_orders` meets its contract.
+use Rattle.std.proofs.Common.{rules, ◌≡◌, refl, true, false, ap, ap₂, ◌∙◌, sym, arith, length, ℕ, ◌+◌, List, [], ◌∷◌, ◌++◌, map}
+use Rattle.std.specs.Prelude.{Ok, Err}
+use lib.ListN.{length-append}
 use Rattle.cells.specs.Entry.{block_bytes, Entry}
 use Rattle.card.specs.Card.{Order, write, flush, run, block_at, blocks_in}
 use Rattle.card.specs.CodeQueue.{card_of}
@@ -20,7 +17,7 @@ use Rattle.journal.proofs.Logs.{length-block_at, length_from, from_whole}
 use Rattle.journal.proofs.Descriptors.{length-describe}
 use Rattle.journal.proofs.OrderLists.{one_descriptor, one-descriptor, length-slot_writes, append_split, list_below}
 use Rattle.journal.proofs.Phases.{stopped, resumed}
-use Rattle.journal.proofs.append.append.Goals as goal
+use Rattle.journal.proofs.append.give_orders.Goals as goal
 
 -- the two phases
 abbrev listed : List ℕ → ℕ → List Entry → List Order
@@ -37,45 +34,40 @@ split l s es =
 size : (s : List ℕ) (n : ℕ) (es : List Entry) (m : ℕ) → length es ≡ m → length (listed s n es) ≡ m + 1
 size s n es m e = rw (length-append, length-slot_writes trap, e)
 
-pub returns-then-not-w : goal.returns-then-not-w
-returns-then-not-w c =
+pub returns-in_err-listed : goal.returns-in_err-listed
+returns-in_err-listed c =
     let a = c.args in
     let es = entries_from a.work.now a.group.from a.group.count in
-    let e = not-true _ c.if-not-w.true in
+    let w = c.in_err-listed.ensures in
+    let same : c.from_residual.result ≡ Err c.in_err-listed.field-0.0 = search rules in
     let o = stopped _ (listed a.settled.now a.log.count es) (last a.log es) (split a.log a.settled.now es) (a.group.count + 1) 2 (a.group.count + 3) (size a.settled.now a.log.count es a.group.count (length_from a.work.now a.group.from a.group.count)) (omega arith)
-    (card_of a.settled.now a.waiting.now a.queue) _ (c.write_list-w.ensures.by_index a.settled.now) _ c.write_list-w.ensures.happened_value e in
-    record {
-      done_value = sym e ∙ o.0;
-      queue_after = o.1;
-      sum_value = c.sum_group-sum.ensures;
-    }
+    (card_of a.settled.now a.waiting.now a.queue) _ (w.by_index a.settled.now) false w.happened_value refl in
+    rw same (record { happened_value = o.0; queue_after = o.1; })
 
 pub overflow_add-log : goal.overflow_add-log
 overflow_add-log c = omega (arith, trap.addressed)
 
-pub order-o-requires : goal.order-o-requires
-order-o-requires c =
+pub order-requires : goal.order-requires
+order-requires c =
     let a = c.args in
     let es = entries_from a.work.now a.group.from a.group.count in
+    let w = c.in_ok-listed.ensures in
     let m : length es ≡ a.group.count = length_from a.work.now a.group.from a.group.count in
     let old : length (block_at a.settled.now descriptor_at) ≡ block_bytes = length-block_at a.settled.now descriptor_at (omega arith) in record {
       settled_nonzero = omega arith;
-      waiting_lt_most_places = omega arith;
-      entry_bytes_in_bounds = omega arith;
-      below = list_below trap (blocks_in a.settled.now) a.settled.now a.waiting.now a.queue c.write_list-w.new.waiting c.write_list-w.result.queue a.log.count es (one_descriptor a.settled.now a.log.count es ∷ []) (c.write_list-w.ensures.by_index a.settled.now) (omega arith) (from_whole a.work.now a.group.from a.group.count (omega arith)) (length-describe (block_at a.settled.now descriptor_at) a.log.count es, tt) (omega (arith, trap-descriptors), tt) (omega arith) (omega arith) c.requires.below;
+      waiting_lt_most_places = omega (arith, w.waiting_bound);
+      entry_bytes_in_bounds = omega (arith, w.waiting_bound);
+      below = list_below trap (blocks_in a.settled.now) a.settled.now a.waiting.now a.queue c.write_list.new.waiting c.in_ok-listed.listed a.log.count es (one_descriptor a.settled.now a.log.count es ∷ []) (w.by_index a.settled.now) (omega arith) (from_whole a.work.now a.group.from a.group.count (omega arith)) (length-describe (block_at a.settled.now descriptor_at) a.log.count es, tt) (omega (arith, trap-descriptors), tt) (omega arith) (omega arith) c.requires.below;
     }
 
 pub returns : goal.returns
 returns c =
     let a = c.args in
     let es = entries_from a.work.now a.group.from a.group.count in
+    let w = c.in_ok-listed.ensures in
     let new : c.header-h.result ≡ header a.log.blocks a.log.count a.log.sum (a.log.count + length es) (sum_of a.log.sum es) a.log.save =
-    c.header-h.ensures ∙ ap₂ (λ (k x : ℕ). header a.log.blocks a.log.count a.log.sum (a.log.count + k) x a.log.save) (sym (length_from a.work.now a.group.from a.group.count)) c.sum_group-sum.ensures in
-    let p = resumed _ (listed a.settled.now a.log.count es) (last a.log es) (split a.log a.settled.now es) (a.group.count + 1) 2 (a.group.count + 3) (size a.settled.now a.log.count es a.group.count (length_from a.work.now a.group.from a.group.count)) (omega arith)
-    (card_of a.settled.now a.waiting.now a.queue) _ (c.write_list-w.ensures.by_index a.settled.now) _ c.write_list-w.ensures.happened_value (not-false _ c.if-not-w.false)
-    _ _ (c.order-o.ensures.queue_after ∙ ap (λ (x : Header). run (header_write x ∷ flush ∷ []) (card_of a.settled.now c.write_list-w.new.waiting c.write_list-w.result.queue)) new) c.order-o.ensures.happened_value in
-    record {
-      done_value = p.0;
-      queue_after = p.1;
-      sum_value = c.sum_group-sum.ensures;
-    }
+    c.header-h.ensures ∙ ap₂ (λ (k x : ℕ). header a.log.blocks a.log.count a.log.sum (a.log.count + k) x a.log.save) (sym (length_from a.work.now a.group.from a.group.count)) c.requires.sum_value in
+    let o = resumed _ (listed a.settled.now a.log.count es) (last a.log es) (split a.log a.settled.now es) (a.group.count + 1) 2 (a.group.count + 3) (size a.settled.now a.log.count es a.group.count (length_from a.work.now a.group.from a.group.count)) (omega arith)
+    (card_of a.settled.now a.waiting.now a.queue) _ (w.by_index a.settled.now) true w.happened_value refl
+    _ _ (c.order.ensures.queue_after ∙ ap (λ (x : Header). run (header_write x ∷ flush ∷ []) (card_of a.settled.now c.write_list.new.waiting c.in_ok-listed.listed)) new) c.order.ensures.happened_value in
+    record { happened_value = o.0; queue_after = o.1; }
