@@ -10,16 +10,12 @@ use Rattle.store.specs.Direct.{direct_write}
 use Rattle.store.proofs.Directs.{direct_room, direct_full, direct_given}
 use Rattle.store.proofs.record.Record.give_orders.Goals as goal
 
-pub write-requires : goal.write-requires
+pub write-requires-clause-entry_bytes_in_bounds : goal.write-requires-clause-entry_bytes_in_bounds
 unfolding trap
-write-requires c =
+write-requires-clause-entry_bytes_in_bounds c =
     let same : c.queue.result.waiting ≡ c.args.self.waiting = ap (λ (q : Queue). q.waiting) c.queue.ensures in
     let few = c.requires.waiting_le_direct in
-    record {
-      entry_bytes_in_bounds = omega arith;
-      waiting_lt_most_places = omega arith;
-      block_len = c.requires.block_len;
-    }
+    omega arith
 
 pub returns-then-self-lt-DIRECT : goal.returns-then-self-lt-DIRECT
 unfolding trap
@@ -32,15 +28,12 @@ returns-then-self-lt-DIRECT c =
     _ _ _ c.write.result c.queue.ensures w.happened_value (w.by_index a.settled.now) in
     record { happened_value = λ k. (both k).0; queue_after = λ k. (both k).1; }
 
-pub flush-requires : goal.flush-requires
+pub flush-requires-clause-waiting_in_bounds : goal.flush-requires-clause-waiting_in_bounds
 unfolding trap
-flush-requires c =
+flush-requires-clause-waiting_in_bounds c =
     let same : c.queue-2.result.waiting ≡ c.args.self.waiting = ap (λ (q : Queue). q.waiting) c.queue-2.ensures in
     let few = c.requires.waiting_le_direct in
-    record {
-      waiting_in_bounds = omega arith;
-      below = rw same c.requires.below;
-    }
+    omega arith
 
 pub returns-in_err-flushed : goal.returns-in_err-flushed
 unfolding trap
