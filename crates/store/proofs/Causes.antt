@@ -11,7 +11,7 @@ use Rattle.std.proofs.Common.{zero-add}
 use native.Mathlib.Decide.{ℕ_discrete}
 use borrow.Author.Tests.{eq-eqb, ne_eqb, eqb-true, eqb-false, ltb-true, ltb-false, not-false}
 use lib.Dec.{eqb, ltb}
-use lib.ListN.{length, get_or}
+use lib.ListN.{length}
 use Rattle.std.specs.List.{list_any, range_with_len}
 use Rattle.std.proofs.lemmas.List.Folds.{list_any-append}
 use Rattle.cells.specs.Entry.{block_bytes, entry_at}
@@ -20,10 +20,8 @@ use Rattle.card.specs.CodeQueue.{Below}
 use Rattle.card.proofs.All.{All}
 use Rattle.journal.specs.Geometry.{Geometry}
 use Rattle.journal.specs.Layout.{is_data, least_blocks, most_blocks, wrong_size}
-use Rattle.journal.specs.Lookup.{last_of}
 use Rattle.journal.specs.Log.{slot_address}
 use Rattle.journal.proofs.Logs.{neither, slot_data}
-use Rattle.journal.proofs.Lookups.{Marked, unmarked}
 use Rattle.refusals.specs.Numbers.{number_of}
 use Rattle.refusals.specs.declared.Refusal.{Refusal}
 use Rattle.refusals.proofs.Nonzero.{refusal_nonzero}
@@ -58,8 +56,6 @@ pub search_over : (f : ℕ → Bool) (i n : ℕ) → some f i ≡ some f n → i
 unfolding some
 search_over f i n rest e = ap (some f) (sym e) ∙ rest
 
--- ---- tests that fail, as plain facts
-
 -- ---- a search from the first place up: none of the first i passed
 
 pub climb_none : (f : ℕ → Bool) → some f 0 ≡ false
@@ -87,15 +83,6 @@ some_any f (suc n) =
     ap (list_any f) (range_more 0 n)
     ∙ list_any-append f (range_with_len 0 n) ((0 + n) ∷ [])
     ∙ rw (zero-add n, some_any f n, or-false (f n))
-
--- a search that is left out where the address's bucket is not marked
-pub met-found : (f : ℕ → ℕ) (seen : List ℕ) (i a : ℕ) → Marked f seen i
-    → cond (eqb (get_or seen (a % 128) 0) 0) false (is_found (last_of f a i)) ≡ is_found (last_of f a i)
-met-found f seen i a marked = go (eqb (get_or seen (a % 128) 0) 0) refl
-  where
-    go : (t : Bool) → eqb (get_or seen (a % 128) 0) 0 ≡ t → cond t false (is_found (last_of f a i)) ≡ is_found (last_of f a i)
-    go true e = ap is_found (sym (unmarked f seen i a marked (eqb-true _ _ e)))
-    go false e = refl
 
 -- of two tests that do not both pass, one passes
 pub other : (a b : Bool) → a && b ≡ false → a ≡ true → b ≡ false
