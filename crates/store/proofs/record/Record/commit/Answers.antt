@@ -1,8 +1,6 @@
 -- `store::record::Record::commit` meets its contract.
-use Rattle.std.proofs.Common.{rules, ◌≡◌}
+use Rattle.std.proofs.Common.{rules, arith, ◌≡◌, ◌∙◌, refl, ap}
 use Rattle.std.specs.Prelude.{Err}
-use mathlib.Core.Path.{refl, ap, ◌∙◌}
-use native.Mathlib.Omega.{arith}
 use borrow.Author.Tests.{ltb-false}
 use Rattle.journal.specs.Geometry.{trap}
 use Rattle.store.specs.State.{with_opened, with_grouped, with_record, with_work}

@@ -1,13 +1,7 @@
 -- `store::record::Record::put` meets its contract.
-use Rattle.std.proofs.Common.{rules}
-use Rattle.std.specs.Prelude.{Err}
-use Rattle.std.specs.Prelude.{Option, None}
-use Prim.Native.Nat.{ℕ, ◌<◌}
-use mathlib.Core.Path.{◌≡◌, refl, ap, ◌∙◌}
-use mathlib.Core.Bool.{false, not, ◌&&◌}
-use native.Mathlib.Omega.{arith}
+use Rattle.std.proofs.Common.{rules, arith, ◌≡◌, ◌∙◌, refl, ap}
+use Rattle.std.specs.Prelude.{Option, None, Err, Bool, false, not, ◌&&◌, ℕ, ◌<◌, leb}
 use borrow.Author.Tests.{eqb-true, leb-false, not-false}
-use lib.Dec.{leb}
 use Rattle.journal.specs.Geometry.{trap}
 use Rattle.store.specs.CodeState.{state_of}
 use Rattle.store.specs.Lists.{open_from, find}
@@ -44,4 +38,4 @@ put_entry-requires c =
 
 pub returns : goal.returns
 unfolding put_call
-returns c = (ap completed (c.put_entry.ensures _ _) ∙ call_done _ _ _ _ c.in_ok-check_put.ensures refl)
+returns c = ap completed (c.put_entry.ensures _ _) ∙ call_done _ _ _ _ c.in_ok-check_put.ensures refl
