@@ -21,7 +21,7 @@ use cells::number::write_u32;
 use cells::{ADDRESS, BLOCK, entry};
 
 // The log as it stands: the card's blocks, how many entries, their sum, and the save number of the header to come.
-#[derive(Clone, Copy)]
+#[derive(Clone, Copy, PartialEq, Eq, Debug)]
 pub struct Log {
     pub blocks: u32,
     pub count: u32,
@@ -39,7 +39,7 @@ impl Log {
 }
 
 // Entries in work memory: count of them, from place `from` on.
-#[derive(Clone, Copy)]
+#[derive(Clone, Copy, PartialEq, Eq, Debug)]
 pub struct Group {
     pub from: u32,
     pub count: u32,

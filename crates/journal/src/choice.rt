@@ -12,7 +12,7 @@ use crate::{HEADER_AT, SLOTS};
 use card::settled::read;
 
 // The list that a recovery takes: its count, its sum and its save number.
-#[derive(Clone, Copy)]
+#[derive(Clone, Copy, PartialEq, Eq, Debug)]
 pub enum Choice {
     Whole(u32, u64, u64),
     Fallback(u32, u64, u64),
