@@ -89,7 +89,13 @@ fn describe(block: &mut [u8], old: &[u8], n: u32, work: &[u8], group: Group)
 }
 
 // The writes of a group's blocks, to the slots from n on.
-fn write_slots(queue: Queue, waiting: &mut [u8], work: &[u8], group: Group, n: u32) -> Result<Queue, PowerLost>
+fn write_slots(
+    queue: Queue,
+    waiting: &mut [u8],
+    work: &[u8],
+    group: Group,
+    n: u32,
+) -> Result<Queue, PowerLost>
     requires count_bound { n + group.count ≤ trap.slots }
     requires count_bound_2 { queue.waiting + group.count ≤ most_places }
     requires count_in_bounds { entry_bytes * (queue.waiting + group.count) ≤ length waiting.old }

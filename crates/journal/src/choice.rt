@@ -12,6 +12,7 @@ use crate::{HEADER_AT, SLOTS};
 use card::settled::read;
 
 // The list that a recovery takes: its count, its sum and its save number.
+// Stays an enum of four: two lists and two refusals, each with its number (`choice_number`), are neither an Option nor a Result.
 #[derive(Clone, Copy, PartialEq, Eq, Debug)]
 pub enum Choice {
     Whole(u32, u64, u64),

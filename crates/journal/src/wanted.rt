@@ -52,7 +52,7 @@ pub fn mark(list: &[u8], last: &[u8], before: &[u8], k: u32, a: u32, met: &mut [
 {
     let place = k + 1;
     let mut i = last[a as usize % BUCKETS] as usize;
-    // Stays a while: the places are a chain, each leads to the one before it in its bucket.
+    // Stays a `while`: each place leads to the one before it in its bucket, so no index is counted.
     while 0 < i {
         i -= 1;
         if a == wanted(list, i) {

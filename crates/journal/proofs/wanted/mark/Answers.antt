@@ -35,7 +35,7 @@ loop-i-preserved c =
     let here : p < length l.met = omega (arith, l.invariant.inside, l.invariant.size) in
     let on = compared_on a.list.now a.last.now a.before.now a.a (a.k + 1) a.met.now c.requires.chained l.met in
     elim c.if-a-wanted.branch [
-      then-a-wanted w ↦ rw w.met-is (on (set l.met p (a.k + 1)) l.i _ (omega arith) l.invariant (length-set l.met p (a.k + 1)) (λ j h. get_or-set_other l.met p j (a.k + 1) 0 h) (get_or-set_same l.met p (a.k + 1) 0 here ∙ rw (eq-eqb _ _ (w.if-a-wanted.true ∙ c.wanted.ensures))) refl)
+      | then-a-wanted w ↦ rw w.met-is (on (set l.met p (a.k + 1)) l.i _ (omega arith) l.invariant (length-set l.met p (a.k + 1)) (λ j h. get_or-set_other l.met p j (a.k + 1) 0 h) (get_or-set_same l.met p (a.k + 1) 0 here ∙ rw (eq-eqb _ _ (w.if-a-wanted.true ∙ c.wanted.ensures))) refl)
       | else-a-wanted w ↦ rw w.met-is (on l.met l.i _ (omega arith) l.invariant refl (λ j h. refl) (rw (ne_eqb _ _ (λ e. w.if-a-wanted.false (e ∙ sym c.wanted.ensures)))) refl)
     ]
 
