@@ -1,7 +1,7 @@
 -- `store::record::Record::give_orders` meets its contract.
-use Rattle.std.proofs.Common.{rules, arith, Err, ℕ, ◌≤◌, ◌≡◌, List, [], ◌∷◌, true, false, refl, ap}
+use Rattle.std.proofs.Common.{rules, arith, Err, ℕ, ◌≡◌, List, [], ◌∷◌, true, false, refl, ap}
 use Rattle.card.specs.declared.queue.Queue.{Queue}
-use Rattle.card.specs.Card.{Order, flush}
+use Rattle.card.specs.Card.{flush}
 use Rattle.journal.specs.Geometry.{trap}
 use Rattle.journal.proofs.Phases.{stopped, resumed}
 use Rattle.store.specs.State.{State}
@@ -26,7 +26,7 @@ returns-then-self-lt-DIRECT c =
     let both = λ (k : List ℕ).
     direct_given trap a.address a.block.now (given k) (direct_write a.address a.block.now ∷ []) (direct_room trap a.address a.block.now (given k) c.if-self-lt-DIRECT.true)
     _ _ _ c.write.result c.queue.ensures w.happened_value (w.by_index a.settled.now) in
-    record { happened_value = λ k. (both k).0; queue_after = λ k. (both k).1; }
+    record { happened_value = λ k. (both k).0; queue_after = λ k. (both k).1 }
 
 pub flush-requires-clause-waiting_in_bounds : goal.flush-requires-clause-waiting_in_bounds
 unfolding trap
@@ -47,7 +47,7 @@ returns-in_err-flushed c =
     let both = λ (k : List ℕ).
     direct_given trap a.address a.block.now (given k) (flush ∷ w ∷ []) (direct_full trap a.address a.block.now (given k) c.requires.waiting_le_direct c.if-self-lt-DIRECT.false)
     _ _ _ (Err c.in_err-flushed.field-0.0) c.queue-2.ensures end.0 end.1 in
-    rw same (record { happened_value = λ k. (both k).0; queue_after = λ k. (both k).1; })
+    rw same (record { happened_value = λ k. (both k).0; queue_after = λ k. (both k).1 })
 
 pub write-requires-2 : goal.write-requires-2
 unfolding trap
@@ -73,4 +73,4 @@ returns c =
     let both = λ (k : List ℕ).
     direct_given trap a.address a.block.now (given k) (flush ∷ w ∷ []) (direct_full trap a.address a.block.now (given k) c.requires.waiting_le_direct c.if-self-lt-DIRECT.false)
     _ _ _ c.write-2.result c.queue-2.ensures end.0 end.1 in
-    record { happened_value = λ k. (both k).0; queue_after = λ k. (both k).1; }
+    record { happened_value = λ k. (both k).0; queue_after = λ k. (both k).1 }

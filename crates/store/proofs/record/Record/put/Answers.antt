@@ -1,6 +1,6 @@
 -- `store::record::Record::put` meets its contract.
 use Rattle.std.proofs.Common.{rules, arith, ◌≡◌, ◌∙◌, refl, ap}
-use Rattle.std.specs.Prelude.{Option, None, Err, Bool, false, not, ◌&&◌, ℕ, ◌<◌, leb}
+use Rattle.std.specs.Prelude.{Option, None, Err, false, not, ◌&&◌, ℕ, ◌<◌, leb}
 use borrow.Author.Tests.{eqb-true, leb-false, not-false}
 use Rattle.journal.specs.Geometry.{trap}
 use Rattle.store.specs.CodeState.{state_of}

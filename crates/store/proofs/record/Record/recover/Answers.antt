@@ -1,9 +1,8 @@
 -- `store::record::Record::recover` meets its contract.
-use Rattle.std.proofs.Common.{rules, arith, Err, ◌≡◌, refl, ap, ◌∙◌}
+use Rattle.std.proofs.Common.{rules, arith, Err, ◌≡◌, ap, ◌∙◌}
 use Rattle.journal.specs.Geometry.{trap}
 use Rattle.journal.specs.declared.choice.Choice.{Choice}
 use Rattle.journal.specs.Choice.{choice_number}
-use Rattle.refusals.proofs.Nonzero.{refusal_nonzero}
 use Rattle.store.specs.declared.saved.Stopped.TheVariants.{Refused}
 use Rattle.store.specs.State.{State}
 use Rattle.store.specs.CodeState.{state_of}

@@ -1,5 +1,5 @@
 -- `store::record::Record::recover_cost` meets its contract.
-use Rattle.std.proofs.Common.{rules, arith, Err, ◌≡◌, refl, sym, ◌∙◌}
+use Rattle.std.proofs.Common.{rules, arith, Err, ◌≡◌, sym, ◌∙◌}
 use borrow.Author.Tests.{eqb-false}
 use Rattle.journal.specs.Geometry.{trap}
 use Rattle.refusals.proofs.Nonzero.{refusal_nonzero}

@@ -1,5 +1,5 @@
 -- `store::record::Record::recovered` meets its contract.
-use Rattle.std.proofs.Common.{rules, arith, ℕ, List, [], ◌≡◌, refl, ap, sym, ◌∙◌}
+use Rattle.std.proofs.Common.{arith, [], ◌≡◌, refl, ap, sym, ◌∙◌}
 use borrow.Author.Tests.{eqb-false}
 use Rattle.card.specs.declared.queue.Queue.{Queue}
 use Rattle.journal.specs.Geometry.{trap}
@@ -11,7 +11,7 @@ use Rattle.store.specs.declared.record.Record.{Record}
 use Rattle.store.specs.State.{State, Outcome, open_mode, down}
 use Rattle.store.specs.CodeState.{state_of}
 use Rattle.store.specs.Outcomes.{unless}
-use Rattle.store.specs.Saves.{carried, reopened, recovering}
+use Rattle.store.specs.Saves.{reopened, recovering}
 use Rattle.store.proofs.Saves.{given, carried-power, carried_ends, carried_none}
 use Rattle.store.proofs.record.Record.recovered.Goals as goal
 
