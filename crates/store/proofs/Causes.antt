@@ -23,7 +23,6 @@ use Rattle.journal.specs.Layout.{is_data, least_blocks, most_blocks, wrong_size}
 use Rattle.journal.specs.Lookup.{last_of}
 use Rattle.journal.specs.Log.{slot_address}
 use Rattle.journal.proofs.Logs.{neither, slot_data}
-use Rattle.journal.proofs.Lookups.{Marked, unmarked}
 use Rattle.refusals.specs.Numbers.{number_of}
 use Rattle.refusals.specs.declared.Refusal.{Refusal}
 use Rattle.refusals.proofs.Nonzero.{refusal_nonzero}
@@ -87,15 +86,6 @@ some_any f (suc n) =
     ap (list_any f) (range_more 0 n)
     ∙ list_any-append f (range_with_len 0 n) ((0 + n) ∷ [])
     ∙ rw (zero-add n, some_any f n, or-false (f n))
-
--- a search that is left out where the address's bucket is not marked
-pub met-found : (f : ℕ → ℕ) (seen : List ℕ) (i a : ℕ) → Marked f seen i
-    → cond (eqb (get_or seen (a % 128) 0) 0) false (is_found (last_of f a i)) ≡ is_found (last_of f a i)
-met-found f seen i a marked = go (eqb (get_or seen (a % 128) 0) 0) refl
-  where
-    go : (t : Bool) → eqb (get_or seen (a % 128) 0) 0 ≡ t → cond t false (is_found (last_of f a i)) ≡ is_found (last_of f a i)
-    go true e = ap is_found (sym (unmarked f seen i a marked (eqb-true _ _ e)))
-    go false e = refl
 
 -- of two tests that do not both pass, one passes
 pub other : (a b : Bool) → a && b ≡ false → a ≡ true → b ≡ false

@@ -11,17 +11,20 @@ use Rattle.std.proofs.lemmas.Iterator.Consumers.{YieldsList-from_shown}
 use Rattle.std.proofs.lemmas.Iterator.Adapters.{option_map_id}
 use Rattle.std.proofs.lemmas.List.FromFn.{length-range_with_len}
 use Rattle.std.proofs.lemmas.List.{reverse-append, length-reverse}
-use Prim.Native.Nat.{ℕ, zero, suc, ◌+◌, ◌-◌, ◌<◌}
+use Prim.Native.Nat.{ℕ, zero, suc, ◌+◌, ◌-◌, ◌%◌, ◌<◌}
 use mathlib.Core.Path.{◌≡◌, refl, ap, sym, ◌∙◌}
-use mathlib.Core.Bool.{Bool, true, false, cond}
+use mathlib.Core.Bool.{Bool, true, false, cond, ◌&&◌, true≢false}
+use mathlib.Core.Logic.{◌≢◌}
 use mathlib.Core.List.{List, [], ◌∷◌, ◌++◌, reverse}
 use native.Mathlib.Omega.{arith}
 use native.Mathlib.Decide.{ℕ_discrete}
 use borrow.Author.Tests.{eqb-true, eqb-false}
 use mathlib.Core.Path.{subst}
 use lib.Dec.{eqb}
-use lib.ListN.{length}
+use lib.ListN.{length, get_or, set}
+use lib.Seq.{get_or-set_same, get_or-set_other}
 use Rattle.journal.specs.Lookup.{last_of}
+use Rattle.journal.proofs.Lookups.{Means, last_means}
 use Rattle.store.specs.Lists.{listed, find}
 use Rattle.store.specs.Causes.{is_found}
 
@@ -101,3 +104,30 @@ last_some g a (suc n) i h e = go (eqb (g n) a) refl (last_some g a n i)
 
 pub find-some : (work : List ℕ) (from n a i : ℕ) → i < n → (listed work from i).address ≡ a → is_found (find work from n a) ≡ true
 find-some work from n a i h e = last_some (λ j. (listed work from j).address) a n i h e
+
+-- ---- buckets: each of the first n places has marked the bucket of its address, of 128
+
+abbrev pub Marked : (ℕ → ℕ) → List Bool → ℕ → Type 0
+Marked f marks n = (j : ℕ) → j < n → get_or marks (f j % 128) false ≡ true
+
+-- one more, of address a
+pub mark_more : (f : ℕ → ℕ) (marks : List Bool) (i a : ℕ) → length marks ≡ 128 → a ≡ f i → Marked f marks i
+    → Marked f (set marks (a % 128) true) (i + 1)
+mark_more f marks i a size e before j h = go (ℕ_discrete (f j % 128) (a % 128))
+  where
+    go : Dec (f j % 128 ≡ a % 128) → get_or (set marks (a % 128) true) (f j % 128) false ≡ true
+    go (yes p) =
+        let inside : a % 128 < length marks = omega arith in
+        rw (p, get_or-set_same marks (a % 128) true false inside)
+    go (no p) =
+        let earlier : j ≢ i = λ z. p (ap (λ (x : ℕ). f x % 128) z ∙ ap (λ (x : ℕ). x % 128) (sym e)) in
+        rw (get_or-set_other marks (a % 128) (f j % 128) true false p) (before j (omega arith))
+
+-- an address whose bucket is not marked is none of theirs, so the search may be left out
+pub met-found : (f : ℕ → ℕ) (seen : List Bool) (i a : ℕ) → Marked f seen i → (get_or seen (a % 128) false && is_found (last_of f a i)) ≡ is_found (last_of f a i)
+met-found f seen i a marked = go (get_or seen (a % 128) false) refl (last_of f a i) (last_means f a i)
+  where
+    go : (t : Bool) → get_or seen (a % 128) false ≡ t → (r : Option ℕ) → Means f a i r → (t && is_found r) ≡ is_found r
+    go true e r m = refl
+    go false e (Some k) m = absurd (true≢false (sym (marked k m.inside) ∙ ap (λ (x : ℕ). get_or seen (x % 128) false) m.here ∙ e))
+    go false e None m = refl

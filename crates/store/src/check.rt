@@ -1,5 +1,5 @@
 // The table of causes: rows 1 to 4, shared by the calls.
-ghost use Rattle.std.specs.Prelude.{◌≡◌, false, cond, List, ℕ, ◌+◌, ◌*◌, ◌≤◌, ◌<◌, eqb, length};
+ghost use Rattle.std.specs.Prelude.{◌≡◌, ◌&&◌, List, ℕ, ◌+◌, ◌*◌, ◌≤◌, ◌<◌, length};
 ghost use Rattle.cells.specs.Entry.{entry_bytes};
 ghost use Rattle.card.specs.Card.{blocks_in};
 ghost use Rattle.journal.specs.Geometry.{trap};
@@ -40,11 +40,11 @@ fn strays(work: &[u8], blocks: u32, from: usize, n: u32) -> bool
 }
 
 // Whether its first i have the address a; none has where none of them was seen in its bucket.
-fn met(seen: u8, work: &[u8], from: usize, i: u32, a: u32) -> bool
+fn met(seen: bool, work: &[u8], from: usize, i: u32, a: u32) -> bool
     requires { entry_bytes * (from + i) ≤ length work.now }
-    ensures { result ≡ cond (eqb seen 0) false (is_found (Lists.find work.now from i a)) }
+    ensures { result ≡ (seen && is_found (Lists.find work.now from i a)) }
 {
-    seen != 0 && holds(work, from, i, a)
+    seen && holds(work, from, i, a)
 }
 
 // Row 2, a list in work memory: an address twice. Each address marks its bucket; only where that is marked is the list searched.
@@ -56,14 +56,14 @@ fn twice(work: &[u8], from: usize, n: u32) -> bool
     if n < 2 {
         return false;
     }
-    let mut seen = [0u8; BUCKETS];
+    let mut seen = [false; BUCKETS];
     for i in 0..n {
         let a = address(work, from, i);
         let bucket = a as usize % BUCKETS;
         if met(seen[bucket], work, from, i, a) {
             return true;
         }
-        seen[bucket] = 1;
+        seen[bucket] = true;
     }
     false
 }

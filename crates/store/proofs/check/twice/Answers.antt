@@ -1,14 +1,13 @@
 -- `store::check::twice` meets its contract. The invariant: none of the first i is there twice, and each has marked its bucket.
 use Prim.Native.Nat.{ℕ, zero, suc, ◌%◌, ◌<◌}
 use mathlib.Core.Path.{◌≡◌, refl, ap, sym, ◌∙◌}
-use mathlib.Core.Bool.{Bool, false, cond}
+use mathlib.Core.Bool.{Bool, false, ◌&&◌}
 use mathlib.Core.List.{List}
 use native.Mathlib.Omega.{arith}
-use lib.Dec.{eqb}
 use lib.ListN.{get_or, length-set}
 use Rattle.journal.specs.Lookup.{last_of}
-use Rattle.journal.proofs.Lookups.{Marked, mark_more}
-use Rattle.store.proofs.Causes.{climb_none, climb_hit, climb_on, met-found}
+use Rattle.store.proofs.Lookups.{Marked, mark_more, met-found}
+use Rattle.store.proofs.Causes.{climb_none, climb_hit, climb_on}
 use Rattle.store.specs.Lists.{find}
 use Rattle.store.specs.Causes.{is_found, some, twice}
 use Rattle.store.proofs.check.twice.Invariants.{addresses}
@@ -18,9 +17,9 @@ abbrev again : List ℕ → ℕ → ℕ → Bool
 again work from i = is_found (find work from i (addresses work from i))
 
 -- what the search by buckets answers
-asked : (work : List ℕ) (from i : ℕ) (seen : List ℕ) (a : ℕ) (r : Bool)
+asked : (work : List ℕ) (from i : ℕ) (seen : List Bool) (a : ℕ) (r : Bool)
     → a ≡ addresses work from i
-    → r ≡ cond (eqb (get_or seen (a % 128) 0) 0) false (is_found (find work from i a))
+    → r ≡ (get_or seen (a % 128) false && is_found (find work from i a))
     → Marked (addresses work from) seen i
     → again work from i ≡ r
 asked work from i seen a r e f marked =
@@ -53,10 +52,3 @@ loop-i-preserved c =
     let e = c.address-a.ensures in
     let missed = asked a.work.now a.from l.i l.seen _ _ e c.met.ensures l.invariant.2 in
     (simp length-set l.invariant.0, climb_on (again a.work.now a.from) l.i l.invariant.1 (missed ∙ c.if-met.false), mark_more (addresses a.work.now a.from) l.seen l.i _ l.invariant.0 e l.invariant.2)
-
-pub returns : goal.returns
-returns c =
-    let l = c.loop-i in
-    let a = c.args in
-    let over : l.i ≡ a.n = omega arith in
-    sym (rw over at l.invariant.1)

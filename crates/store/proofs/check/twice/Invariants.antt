@@ -4,7 +4,7 @@ use mathlib.Core.Path.{◌≡◌}
 use mathlib.Core.Bool.{false}
 use mathlib.Core.List.{List}
 use lib.ListN.{length}
-use Rattle.journal.proofs.Lookups.{Marked}
+use Rattle.store.proofs.Lookups.{Marked}
 use Rattle.store.specs.Lists.{listed}
 use Rattle.store.specs.Causes.{twice}
 use Rattle.store.proofs.check.twice.Given as goal

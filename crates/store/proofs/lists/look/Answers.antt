@@ -9,19 +9,6 @@ use Rattle.journal.specs.Geometry.{trap}
 use Rattle.store.specs.Lists.{listed, addresses_of}
 use Rattle.store.proofs.lists.look.Goals as goal
 
-pub loop-i-init : goal.loop-i-init
-loop-i-init c = (refl, c.requires.met)
-
-pub mark-requires : goal.mark-requires
-mark-requires c =
-    let l = c.loop-i in
-    record {
-      last_len = c.requires.last_len;
-      list_in_bounds = (omega arith);
-      chained = c.requires.chained;
-      k_lt_slots = omega arith;
-    }
-
 pub loop-i-preserved : goal.loop-i-preserved
 loop-i-preserved c =
     let a = c.args in
@@ -29,13 +16,3 @@ loop-i-preserved c =
     let size : length (addresses_of a.work.now a.from l.i) ≡ l.i = length-up_to (λ j. (listed a.work.now a.from j).address) l.i in
     let next : c.address.result ≡ (listed a.work.now a.from l.i).address = c.address.ensures in
     (c.mark.auto.met ∙ l.invariant.0, rw (add-one, ← next) (c.mark.ensures (addresses_of a.work.now a.from l.i) size l.invariant.1))
-
-pub shape_of-met : goal.shape_of-met
-shape_of-met c = c.loop-i.invariant.0
-
-pub returns : goal.returns
-returns c =
-    let a = c.args in
-    let l = c.loop-i in
-    let over : l.i ≡ a.n = omega arith in
-    rw over at l.invariant.1

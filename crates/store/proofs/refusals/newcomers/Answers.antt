@@ -35,8 +35,3 @@ loop-i-preserved c =
           let none = rw old at more in
           omega arith
     ]
-
-pub returns : goal.returns
-returns c =
-    let all : c.loop-i.i ≡ c.args.n = omega arith in
-    (rw (← all) c.loop-i.invariant.0, omega arith)
