@@ -29,14 +29,7 @@ pub fn fit(marks: &[u8], waiting: &[u8], count: u32) -> bool
 fn over_one(marks: &[u8]) -> bool
     ensures { result ≡ over_one marks.now }
 {
-    let mut i = 0;
-    while i < marks.len() {
-        if 1 < marks[i] {
-            return true;
-        }
-        i += 1;
-    }
-    false
+    marks.iter().any(|&mark| 1 < mark)
 }
 
 // Whether the marks of each write to block 0 are all 0 or all 1.
@@ -44,14 +37,7 @@ fn headers_whole(marks: &[u8], waiting: &[u8], n: usize) -> bool
     requires { (entry_bytes * n ≤ length waiting.now) × (block_bytes * n ≡ length marks.now) }
     ensures { result ≡ headers_whole marks.now 0 (up_to (entry_at waiting.now) n) }
 {
-    let mut i = 0;
-    while i < n {
-        if !accepts(marks, waiting, i) {
-            return false;
-        }
-        i += 1;
-    }
-    true
+    (0..n).all(|i| accepts(marks, waiting, i))
 }
 
 // Whether the i-th write goes to another block, or its marks are all 1 or all 0.
@@ -81,14 +67,7 @@ fn whole(marks: &[u8], i: usize) -> bool
 fn filled(marks: &[u8], mark: u8) -> bool
     ensures { result ≡ Same.same marks.now (replicate (length marks.now) mark) }
 {
-    let mut i = 0;
-    while i < marks.len() {
-        if marks[i] != mark {
-            return false;
-        }
-        i += 1;
-    }
-    true
+    marks.iter().all(|&each| each == mark)
 }
 
 // The byte that a mark leaves.
@@ -106,9 +85,7 @@ pub fn copy_kept(dst: &mut [u8], src: &[u8], marks: &[u8])
     requires { (length dst.old ≡ length src.now) × (length dst.old ≡ length marks.now) }
     ensures { dst.new ≡ torn marks.now src.now dst.old }
 {
-    let mut i = 0;
-    while i < src.len() {
-        dst[i] = left(marks[i], src[i], dst[i]);
-        i += 1;
+    for (i, to) in dst.iter_mut().enumerate() {
+        *to = left(marks[i], src[i], *to);
     }
 }
