@@ -16,13 +16,8 @@ pub fn fit(marks: &[u8], waiting: &[u8], count: u32) -> bool
     requires { entry_bytes * count ≤ length waiting.now }
     ensures { result ≡ marks_fit marks.now (up_to (entry_at waiting.now) count) }
 {
-    if marks.len() != BLOCK * (count as usize) {
-        return false;
-    }
-    if over_one(marks) {
-        return false;
-    }
-    headers_whole(marks, waiting, count as usize)
+    let n = count as usize;
+    marks.len() == BLOCK * n && !over_one(marks) && headers_whole(marks, waiting, n)
 }
 
 // Whether a mark is over 1.
@@ -45,10 +40,7 @@ fn accepts(marks: &[u8], waiting: &[u8], i: usize) -> bool
     requires { (entry_bytes * i + entry_bytes ≤ length waiting.now) × (block_bytes * i + block_bytes ≤ length marks.now) }
     ensures { result ≡ not (eqb (entry_at waiting.now i).address whole_block) || whole_at marks.now i }
 {
-    if entry::address(waiting, i) != WHOLE {
-        return true;
-    }
-    whole(marks, i)
+    entry::address(waiting, i) != WHOLE || whole(marks, i)
 }
 
 // Whether the marks of the i-th write are all 1 or all 0.
@@ -57,10 +49,8 @@ fn whole(marks: &[u8], i: usize) -> bool
     ensures { result ≡ whole_at marks.now i }
 {
     let at = BLOCK * i;
-    if filled(&marks[at..at + BLOCK], 1) {
-        return true;
-    }
-    filled(&marks[at..at + BLOCK], 0)
+    let part = &marks[at..at + BLOCK];
+    filled(part, 1) || filled(part, 0)
 }
 
 // Whether every mark of a part is this one.
@@ -74,10 +64,7 @@ fn filled(marks: &[u8], mark: u8) -> bool
 fn left(mark: u8, new: u8, old: u8) -> u8
     ensures { result ≡ cond (eqb mark 1) new old }
 {
-    if mark == 1 {
-        return new;
-    }
-    old
+    if mark == 1 { new } else { old }
 }
 
 // Copies the bytes of src whose mark is 1 over dst; all three are as long.
