@@ -27,12 +27,6 @@ unfolding sum_from
 sum_from_lt h [] l = l
 sum_from_lt h (b ∷ bs) l = sum_from_lt (step h b) bs (step_lt h b)
 
--- one more byte of s
-pub sum_from-next : (h : ℕ) (s : List ℕ) (i : ℕ) → i < length s
-    → sum_from h (take (i + 1) s) ≡ step (sum_from h (take i s)) (get_or s i 0)
-unfolding sum_from
-sum_from-next h s i l = rw (add-one, take-suc s i 0) (sum_from-append h (take i s) (get_or s i 0 ∷ []))
-
 pub sum_nil : sum [] ≡ start
 unfolding sum sum_from
 sum_nil = refl
