@@ -1,4 +1,6 @@
 // Little-endian numbers of 4 and 8 bytes at an offset of a slice.
+// Stays twice, for u32 and u64: `from_le_bytes` and `to_le_bytes` are of each type and of no trait, so one generic function would need a
+// trait of our own with two impls.
 ghost use Rattle.std.specs.Prelude.{◌≡◌, ◌+◌, ◌≤◌, length, take, drop};
 ghost use Rattle.std.proofs.lemmas.List.Edits.{sets};
 ghost use Rattle.cells.specs.Little.{le, num};

@@ -1,5 +1,5 @@
 -- The laws of the checksum: it is below 2^64, and the sum of a run goes on from the sum of its first part.
-use Rattle.std.proofs.Common.{◌≡◌, ℕ, ◌+◌, ◌^◌, ◌<◌, List, [], ◌∷◌, ◌++◌, length, get_or, take, refl, mod-lt, add-one, lit<, take-suc}
+use Rattle.std.proofs.Common.{◌≡◌, ℕ, ◌^◌, ◌<◌, List, [], ◌∷◌, ◌++◌, refl, mod-lt, lit<}
 use Rattle.std.specs.List.{fold}
 use Rattle.fnv.specs.Fnv.{start, step, sum_from, sum}
 

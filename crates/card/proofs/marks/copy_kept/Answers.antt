@@ -1,13 +1,13 @@
 -- `card::marks::copy_kept` meets its contract. The invariant: before i every byte is as the marks leave it, from i on as it was.
 use Prim.Native.Nat.{ℕ, ◌+◌, ◌<◌}
-use mathlib.Core.Path.{◌≡◌, refl, ap, sym, ◌∙◌}
+use mathlib.Core.Path.{◌≡◌, ap, sym, ◌∙◌}
 use mathlib.Core.Bool.{cond}
 use mathlib.Core.List.{List}
 use native.Mathlib.Nat.{add-zero}
 use native.Mathlib.Numerals.{add-one}
 use native.Mathlib.Omega.{arith}
 use lib.Dec.{eqb}
-use lib.ListN.{length, take, drop, set, get_or, length-set}
+use lib.ListN.{length, take, drop, set, get_or}
 use lib.Seq.{take-suc, take-suc-set, take_all, drop-set-lt, drop-drop, get_or-drop}
 use Rattle.card.specs.Card.{torn}
 use Rattle.card.proofs.Torn.{length-torn, get_or-torn}

@@ -1,6 +1,5 @@
 -- `card::marks::fit` meets its contract.
 use Rattle.std.proofs.Common.{◌≡◌, ◌*◌, ◌∙◌, length, eq-eqb, ne_eqb, arith}
-use Rattle.cells.specs.Upto.{up_to}
 use Rattle.cells.specs.Upto.Laws.{length-up_to}
 use Rattle.cells.specs.Entry.{block_bytes, entry_at}
 use Rattle.card.specs.Marks.{marks_for, marks_fit}

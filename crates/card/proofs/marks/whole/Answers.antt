@@ -1,5 +1,5 @@
 -- `card::marks::whole` meets its contract.
-use Rattle.std.proofs.Common.{◌≡◌, ◌∙◌, ℕ, ◌+◌, ◌*◌, ◌-◌, ◌≤◌, Bool, List, length, take, drop, replicate, ap, sym, arith}
+use Rattle.std.proofs.Common.{◌≡◌, ◌∙◌, ℕ, ◌+◌, ◌*◌, ◌≤◌, Bool, List, length, take, drop, replicate, ap, sym, arith}
 use Rattle.cells.specs.Cell.Laws.{cell_part, length-cell}
 use Rattle.cells.specs.Same.{same}
 use Rattle.cells.specs.Entry.{block_bytes}
