@@ -158,30 +158,29 @@ module _ (xs last before : List ℕ) (a place : ℕ) (old : List ℕ) (c : Chain
       }
 
   -- one place, and on to the one before it in its bucket
-  pub compared_on : (met : List ℕ) (i v k : ℕ) → 0 < i → wanted_count xs ≤ length old → Compared xs a place old met i
-      → v ≡ compared xs a place met (i - 1)
+  pub compared_on : (met new : List ℕ) (i k : ℕ) → 0 < i → Compared xs a place old met i
+      → length new ≡ length met
+      → ((j : ℕ) → j ≢ i - 1 → get_or new j 0 ≡ get_or met j 0)
+      → get_or new (i - 1) 0 ≡ compared xs a place met (i - 1)
       → k ≡ get_or before (i - 1) 0
-      → Compared xs a place old (set met (i - 1) v) k
-  compared_on met i v k pos room q ev ek =
+      → Compared xs a place old new k
+  compared_on met new i k pos q size others ev ek =
       let p = i - 1 in
       let here : p < wanted_count xs = omega (arith, q.inside) in
-      let inside : p < length met = omega (arith, q.size) in
       let b : bucket_at xs p ≡ a % buckets = q.bucket (λ z. omega arith) in
       let ek' : k ≡ numbered (last_of (bucket_at xs) (bucket_at xs p) p) = ek ∙ c.befores p here in
       let le : k ≤ p = rw ek' (numbered-le (bucket_at xs) (bucket_at xs p) p) in
       record {
         inside = omega arith;
         bucket = rw ek' (λ z. numbered_here (bucket_at xs) (bucket_at xs p) p z ∙ b);
-        size = simp lib.ListN.length-set q.size;
-        below = λ j h. get_or-set_other met p j v 0 (λ z. omega arith) ∙ q.below j (omega arith);
+        size = size ∙ q.size;
+        below = λ j h. others j (λ z. omega arith) ∙ q.below j (omega arith);
         from = λ j h less. go j h less (ℕ_discrete j p);
       }
     where
-      go : (j : ℕ) → k ≤ j → j < wanted_count xs → Dec (j ≡ i - 1) → get_or (set met (i - 1) v) j 0 ≡ compared xs a place old j
-      go j h less (yes e) =
-          let inside : i - 1 < length met = omega (arith, q.size, q.inside) in
-          rw e (get_or-set_same met (i - 1) v 0 inside ∙ ev ∙ rw (q.below (i - 1) (omega arith)))
-      go j h less (no e) = get_or-set_other met (i - 1) j v 0 e ∙ later (native.Mathlib.Decide.dec_lt j (i - 1))
+      go : (j : ℕ) → k ≤ j → j < wanted_count xs → Dec (j ≡ i - 1) → get_or new j 0 ≡ compared xs a place old j
+      go j h less (yes e) = rw e (ev ∙ rw (q.below (i - 1) (omega arith)))
+      go j h less (no e) = others j e ∙ later (native.Mathlib.Decide.dec_lt j (i - 1))
         where
           later : Dec (j < i - 1) → get_or met j 0 ≡ compared xs a place old j
           later (yes l) =

@@ -21,7 +21,7 @@ use cells::number::write_u32;
 use cells::{ADDRESS, BLOCK, entry};
 
 // The log as it stands: the card's blocks, how many entries, their sum, and the save number of the header to come.
-#[derive(Clone, Copy)]
+#[derive(Clone, Copy, PartialEq, Eq, Debug)]
 pub struct Log {
     pub blocks: u32,
     pub count: u32,
@@ -39,7 +39,7 @@ impl Log {
 }
 
 // Entries in work memory: count of them, from place `from` on.
-#[derive(Clone, Copy)]
+#[derive(Clone, Copy, PartialEq, Eq, Debug)]
 pub struct Group {
     pub from: u32,
     pub count: u32,
@@ -89,7 +89,13 @@ fn describe(block: &mut [u8], old: &[u8], n: u32, work: &[u8], group: Group)
 }
 
 // The writes of a group's blocks, to the slots from n on.
-fn write_slots(queue: Queue, waiting: &mut [u8], work: &[u8], group: Group, n: u32) -> Result<Queue, PowerLost>
+fn write_slots(
+    queue: Queue,
+    waiting: &mut [u8],
+    work: &[u8],
+    group: Group,
+    n: u32,
+) -> Result<Queue, PowerLost>
     requires count_bound { n + group.count ≤ trap.slots }
     requires count_bound_2 { queue.waiting + group.count ≤ most_places }
     requires count_in_bounds { entry_bytes * (queue.waiting + group.count) ≤ length waiting.old }

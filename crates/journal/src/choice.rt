@@ -12,7 +12,8 @@ use crate::{HEADER_AT, SLOTS};
 use card::settled::read;
 
 // The list that a recovery takes: its count, its sum and its save number.
-#[derive(Clone, Copy)]
+// Stays an enum of four: two lists and two refusals, each with its number (`choice_number`), are neither an Option nor a Result.
+#[derive(Clone, Copy, PartialEq, Eq, Debug)]
 pub enum Choice {
     Whole(u32, u64, u64),
     Fallback(u32, u64, u64),

@@ -18,7 +18,7 @@ pub const FORMAT: u32 = 2;
 // The largest save number.
 pub const LAST_SAVE: u64 = u64::MAX;
 
-#[derive(Clone, Copy)]
+#[derive(Clone, Copy, PartialEq, Eq, Debug)]
 pub struct Header {
     pub format: u32,
     pub blocks: u32,

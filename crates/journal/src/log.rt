@@ -59,8 +59,8 @@ pub fn sum_entries(settled: &[u8], n: u32) -> u64
     })
 }
 
-// Whether each of the first n addresses is that of a data block. They are looked at to the last, so that their loop compiles to
-// vectors.
+// Whether each of the first n addresses is that of a data block.
+// Stays an `&` over all, not `all`, which ends at the first wrong one: so it compiles to vectors.
 pub fn all_data(settled: &[u8], blocks: u32, n: u32) -> bool
     requires trap_bound { first_data trap < blocks_in settled.now }
     requires n_le_slots { n ≤ trap.slots }

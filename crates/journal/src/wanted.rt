@@ -1,6 +1,6 @@
 // A list of wanted addresses, and the walk of the descriptor that looks for them. The wanted addresses are chained by their low bits, so
 // that an address read is compared with those of its bucket alone.
-ghost use Rattle.std.specs.Prelude.{◌≡◌, cond, List, [], ◌∷◌, ◌++◌, ℕ, ◌≤◌, ◌<◌, length, replicate};
+ghost use Rattle.std.specs.Prelude.{◌≡◌, List, [], ◌∷◌, ◌++◌, ℕ, ◌≤◌, ◌<◌, length, replicate};
 ghost use Rattle.card.specs.Card.{blocks_in};
 ghost use Rattle.journal.specs.Geometry.{trap};
 ghost use Rattle.journal.specs.Layout.{first_data};
@@ -42,13 +42,6 @@ pub fn chain(list: &[u8], last: &mut [u8], before: &mut [u8])
     }
 }
 
-// The newer place if the address was met there, else the older one.
-fn latest(hit: bool, newer: u32, older: u32) -> u32
-    ensures { result ≡ cond hit newer older }
-{
-    if hit { newer } else { older }
-}
-
 // The k-th address read is a: at each place of the list that has it, k is the last met.
 pub fn mark(list: &[u8], last: &[u8], before: &[u8], k: u32, a: u32, met: &mut [u32])
     requires last_len { length last.now ≡ buckets }
@@ -59,9 +52,12 @@ pub fn mark(list: &[u8], last: &[u8], before: &[u8], k: u32, a: u32, met: &mut [
 {
     let place = k + 1;
     let mut i = last[a as usize % BUCKETS] as usize;
+    // Stays a `while`: each place leads to the one before it in its bucket, so no index is counted.
     while 0 < i {
         i -= 1;
-        met[i] = latest(a == wanted(list, i), place, met[i]);
+        if a == wanted(list, i) {
+            met[i] = place;
+        }
         i = before[i] as usize;
     }
 }

@@ -1,6 +1,6 @@
 -- `journal::append::give_orders` meets its contract.
 use Rattle.std.proofs.Common.{rules, ◌≡◌, refl, true, false, ap, ap₂, ◌∙◌, sym, arith, length, ℕ, ◌+◌, List, [], ◌∷◌, ◌++◌, map}
-use Rattle.std.specs.Prelude.{Ok, Err}
+use Rattle.std.specs.Prelude.{Err}
 use lib.ListN.{length-append}
 use Rattle.cells.specs.Entry.{block_bytes, Entry}
 use Rattle.card.specs.Card.{Order, write, flush, run, block_at, blocks_in}
@@ -42,7 +42,7 @@ returns-in_err-listed c =
     let same : c.from_residual.result ≡ Err c.in_err-listed.field-0.0 = search rules in
     let o = stopped _ (listed a.settled.now a.log.count es) (last a.log es) (split a.log a.settled.now es) (a.group.count + 1) 2 (a.group.count + 3) (size a.settled.now a.log.count es a.group.count (length_from a.work.now a.group.from a.group.count)) (omega arith)
     (card_of a.settled.now a.waiting.now a.queue) _ (w.by_index a.settled.now) false w.happened_value refl in
-    rw same (record { happened_value = o.0; queue_after = o.1; })
+    rw same (record { happened_value = o.0; queue_after = o.1 })
 
 pub overflow_add-log : goal.overflow_add-log
 overflow_add-log c = omega (arith, trap.addressed)
@@ -70,4 +70,4 @@ returns c =
     let o = resumed _ (listed a.settled.now a.log.count es) (last a.log es) (split a.log a.settled.now es) (a.group.count + 1) 2 (a.group.count + 3) (size a.settled.now a.log.count es a.group.count (length_from a.work.now a.group.from a.group.count)) (omega arith)
     (card_of a.settled.now a.waiting.now a.queue) _ (w.by_index a.settled.now) true w.happened_value refl
     _ _ (c.order.ensures.queue_after ∙ ap (λ (x : Header). run (header_write x ∷ flush ∷ []) (card_of a.settled.now c.write_list.new.waiting c.in_ok-listed.listed)) new) c.order.ensures.happened_value in
-    record { happened_value = o.0; queue_after = o.1; }
+    record { happened_value = o.0; queue_after = o.1 }

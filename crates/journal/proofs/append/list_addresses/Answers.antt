@@ -1,5 +1,5 @@
 -- `journal::append::list_addresses` meets its contract.
-use Rattle.std.proofs.Common.{ℕ, ◌+◌, refl, ◌∙◌, arith}
+use Rattle.std.proofs.Common.{ℕ, ◌+◌, refl, ◌∙◌}
 use Rattle.cells.specs.Entry.{Entry, entry_at}
 use Rattle.journal.specs.Orders.{address_bytes}
 use Rattle.journal.proofs.Descriptors.{addresses_more}

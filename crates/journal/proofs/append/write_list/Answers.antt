@@ -1,8 +1,7 @@
 -- `journal::append::write_list` meets its contract.
 use Rattle.std.proofs.Common.{rules, ◌≡◌, refl, ap, ◌∙◌, arith, length, ℕ, List, [], ◌∷◌}
 use Rattle.std.specs.Prelude.{Ok, Err}
-use Rattle.card.specs.Card.{run, block_at, write}
-use Rattle.card.specs.CodeQueue.{card_of}
+use Rattle.card.specs.Card.{block_at, write}
 use Rattle.journal.specs.Geometry.{trap}
 use Rattle.journal.specs.Orders.{slot_writes, describe}
 use Rattle.journal.specs.Layout.{descriptor_at}
@@ -23,7 +22,7 @@ returns-in_err-written c =
     let same : c.from_residual.result ≡ Err c.in_err-written.field-0.0 = search rules in
     let o = writes_stopped _ (slot_writes trap a.n es) (write (one_descriptor a.settled.now a.n es) ∷ []) refl a.group.count 1 _ (orders a.n a.work.now a.group.from a.group.count) refl
     a.waiting.now a.queue c.write_slots.new.waiting (Err c.in_err-written.field-0.0) w.happened_value w.by_index refl in
-    rw same (record { happened_value = o.0; by_index = o.1; waiting_bound = omega (arith, w.waiting_bound); })
+    rw same (record { happened_value = o.0; by_index = o.1; waiting_bound = omega (arith, w.waiting_bound) })
 
 pub describe-requires : goal.describe-requires
 describe-requires c =
@@ -45,4 +44,4 @@ returns c =
     let o = writes_resumed _ (slot_writes trap a.n es) (write (one_descriptor a.settled.now a.n es) ∷ []) refl a.group.count 1 _ (orders a.n a.work.now a.group.from a.group.count) refl
     a.waiting.now a.queue c.write_slots.new.waiting (Ok c.in_ok-written.written) w.happened_value w.by_index refl
     c.write.new.waiting c.write.result c.write.ensures.happened_value (rw new at c.write.ensures.by_index) in
-    record { happened_value = o.0; by_index = o.1; waiting_bound = omega (arith, w.waiting_bound, c.write.ensures.waiting_bound); }
+    record { happened_value = o.0; by_index = o.1; waiting_bound = omega (arith, w.waiting_bound, c.write.ensures.waiting_bound) }

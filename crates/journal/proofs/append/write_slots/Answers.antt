@@ -39,7 +39,7 @@ returns-in_err-q c =
     let same : c.from_residual.result ≡ Err c.in_err-q.field-0.0 = search rules in
     let all = rowed_orders f a.group.count a.waiting.now a.queue c.write.new.waiting (Err c.in_err-q.field-0.0) _ (slot_writes-up_to trap a.n (λ k. entry_at a.work.now (a.group.from + k)) a.group.count)
     (written_stop f l.i a.waiting.now a.queue l.waiting l.q l.invariant _ sent c.write.new.waiting (Err c.in_err-q.field-0.0) (w.happened_value, (w.by_index, w.waiting_bound)) a.group.count (omega arith) refl) in
-    rw same (record { happened_value = all.0; by_index = all.1.0; waiting_bound = all.1.1; })
+    rw same (record { happened_value = all.0; by_index = all.1.0; waiting_bound = all.1.1 })
 
 pub loop-i-preserved : goal.loop-i-preserved
 loop-i-preserved c =

@@ -1,5 +1,5 @@
 -- `journal::append::write_slots` meets its contract. The invariant: the first i writes have been given, and have happened.
-use Prim.Native.Nat.{ℕ, ◌+◌, ◌-◌, ◌≤◌}
+use Prim.Native.Nat.{ℕ, ◌+◌}
 use mathlib.Core.List.{List}
 use Rattle.cells.specs.Entry.{Entry, entry_at}
 use Rattle.journal.specs.Geometry.{trap}
@@ -13,4 +13,3 @@ row work n from k = slot_block trap (n + k) (entry_at work (from + k))
 
 abbrev pub invariant-loop-i : goal.invariant-loop-i
 invariant-loop-i l = WrittenSoFar (row l.work l.n l.from) l.i l.initial.waiting l.initial.q l.waiting l.q
-

@@ -1,6 +1,6 @@
 -- `journal::checkpoint::checkpoint` meets its contract.
-use Rattle.std.proofs.Common.{rules, ◌≡◌, refl, true, false, ap, ◌∙◌, arith, length, ℕ, ◌+◌, List, [], ◌∷◌, ◌++◌, map, leb}
-use Rattle.std.specs.Prelude.{Ok, Err, Result, is_ok}
+use Rattle.std.proofs.Common.{rules, ◌≡◌, refl, true, false, ap, ◌∙◌, arith, length, ℕ, ◌+◌, List, [], ◌∷◌, ◌++◌, map}
+use Rattle.std.specs.Prelude.{Ok, Err}
 use lib.ListN.{length-append, length-map}
 use Rattle.cells.specs.Upto.Laws.{length-up_to}
 use Rattle.card.specs.Card.{Order, write, flush, run, blocks_in}
@@ -34,7 +34,7 @@ returns-in_err-written c =
     let same : c.from_residual.result ≡ Err c.in_err-written.field-0.0 = search rules in
     let o = stopped _ (map write (entries trap a.settled.now a.n)) (flush ∷ last a.blocks a.save) refl a.n 3 _ (homes a.settled.now a.n) refl
     (card_of a.settled.now a.waiting.now a.queue) _ (w.by_index a.settled.now) false w.happened_value refl in
-    rw same (record { happened_value = o.0; queue_after = o.1; })
+    rw same (record { happened_value = o.0; queue_after = o.1 })
 
 pub flush-requires : goal.flush-requires
 flush-requires c =
@@ -43,7 +43,7 @@ flush-requires c =
     let w = c.in_ok-written.ensures in
     let m : length (entries trap s a.n) ≡ a.n = length-up_to (slot_entry trap s) a.n in
     let below = writes_below (blocks_in s) (entries trap s a.n) (card_of s a.waiting.now a.queue) (omega arith)
-    (entries_whole trap s a.n (omega arith) (omega arith)) (entries-short trap s a.n (λ i. (c.slice_known-1.given i).fits) (omega arith) (omega arith))
+    (entries_whole trap s a.n (omega arith) (omega arith)) (entries-short trap s a.n (λ i. search rules) (omega arith) (omega arith))
     (entries_below trap (blocks_in s) s a.n c.requires.by_index) c.requires.below in
     record {
       waiting_in_bounds = omega (arith, w.waiting_bound);
@@ -61,7 +61,7 @@ returns-in_err-flushed c =
     (card_of s a.waiting.now a.queue) _ (w.by_index s) true w.happened_value refl _ false f.queue_after f.happened_value in
     let o = stopped _ (map write (entries trap s a.n) ++ (flush ∷ [])) (last a.blocks a.save) (checkpoint_writes a.blocks a.save (entries trap s a.n)) (a.n + 1) 2 (a.n + 3) (homes_flush s a.n) (omega arith)
     (card_of s a.waiting.now a.queue) _ first.1 false first.0 refl in
-    rw same (record { happened_value = o.0; queue_after = o.1; })
+    rw same (record { happened_value = o.0; queue_after = o.1 })
 
 pub order-requires : goal.order-requires
 order-requires c =
@@ -87,4 +87,4 @@ returns c =
     let o = resumed _ (map write (entries trap s a.n) ++ (flush ∷ [])) (last a.blocks a.save) (checkpoint_writes a.blocks a.save (entries trap s a.n)) (a.n + 1) 2 (a.n + 3) (homes_flush s a.n) (omega arith)
     (card_of s a.waiting.now a.queue) _ first.1 true first.0 refl
     _ _ (c.order.ensures.queue_after ∙ ap (λ (x : Header). run (header_write x ∷ flush ∷ []) (card_of c.flush.new.settled c.write_homes.new.waiting c.in_ok-flushed.flushed)) c.empty.ensures) c.order.ensures.happened_value in
-    record { happened_value = o.0; queue_after = o.1; }
+    record { happened_value = o.0; queue_after = o.1 }

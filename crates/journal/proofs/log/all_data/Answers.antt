@@ -1,5 +1,5 @@
 -- `journal::log::all_data` meets its contract.
-use Rattle.std.proofs.Common.{rules, tests, ◌≡◌, refl, ◌∙◌, true, ◌&&◌, arith}
+use Rattle.std.proofs.Common.{rules, tests, refl, ◌∙◌, true, ◌&&◌, arith}
 use Rattle.std.proofs.lemmas.Iterator.{YieldsList-from_range}
 use Rattle.std.proofs.lemmas.Iterator.Consumers.{fold_from_yields_List}
 use Rattle.journal.specs.Geometry.{trap}

@@ -1,5 +1,5 @@
 -- `journal::log::sum_entries` meets its contract.
-use Rattle.std.proofs.Common.{rules, tests, ◌≡◌, refl, ◌∙◌, arith, [], ◌∷◌}
+use Rattle.std.proofs.Common.{rules, tests, refl, ◌∙◌, arith, [], ◌∷◌}
 use Rattle.std.proofs.lemmas.Iterator.{YieldsList-from_range}
 use Rattle.std.proofs.lemmas.Iterator.Consumers.{fold_from_yields_List}
 use Rattle.fnv.specs.Fnv.{start}

@@ -1,13 +1,11 @@
 -- `journal::wanted::mark` meets its contract: from place i on all were compared with the address.
-use Prim.Native.Nat.{◌+◌, ◌-◌, ◌%◌, ◌≤◌}
-use mathlib.Core.Path.{◌≡◌, refl, ◌∙◌}
-use mathlib.Core.Bool.{cond}
-use native.Mathlib.Omega.{arith}
-use borrow.Author.Rules.{rules}
-use lib.Dec.{eqb}
-use lib.ListN.{get_or}
+use Rattle.std.proofs.Common.{rules, ◌≡◌, ◌≤◌, ◌<◌, ◌+◌, ◌-◌, ◌%◌, refl, sym, ◌∙◌, arith, length, get_or}
+use borrow.Author.Tests.{eq-eqb, ne_eqb}
+use lib.ListN.{set, length-set}
+use lib.Seq.{get_or-set_same, get_or-set_other}
 use Rattle.journal.specs.Geometry.{trap}
-use Rattle.journal.proofs.Chains.{before_le, compared, compared-last, compared_on, compared-met}
+use Rattle.journal.proofs.Chains.{before_le, compared-last, compared_on, compared-met}
+use Rattle.journal.proofs.wanted.mark.Goals.{then-a-wanted, else-a-wanted}
 use Rattle.journal.proofs.wanted.mark.Goals as goal
 
 pub overflow_add-place : goal.overflow_add-place
@@ -23,12 +21,6 @@ loop-i-init c = let a = c.args in compared-last a.list.now a.last.now a.before.n
 pub wanted-requires : goal.wanted-requires
 wanted-requires c = omega (arith, c.loop-i.invariant.inside)
 
-pub bounds-met-i : goal.bounds-met-i
-bounds-met-i c = omega (arith, c.loop-i.invariant.inside, c.loop-i.invariant.size)
-
-pub bounds-met-i-in-loop-i : goal.bounds-met-i-in-loop-i
-bounds-met-i-in-loop-i c = omega (arith, c.loop-i.invariant.inside, c.loop-i.invariant.size)
-
 pub bounds-before-i : goal.bounds-before-i
 bounds-before-i c = omega (arith, c.loop-i.invariant.inside)
 
@@ -39,8 +31,13 @@ pub loop-i-preserved : goal.loop-i-preserved
 loop-i-preserved c =
     let a = c.args in
     let l = c.loop-i in
-    let tested : cond (eqb a.a c.wanted.result) (a.k + 1) (get_or l.met (l.i - 1) 0) ≡ compared a.list.now a.a (a.k + 1) l.met (l.i - 1) = rw c.wanted.ensures in
-    compared_on a.list.now a.last.now a.before.now a.a (a.k + 1) a.met.now c.requires.chained l.met l.i _ _ (omega arith) (omega arith) l.invariant (c.latest.ensures ∙ tested) refl
+    let p = l.i - 1 in
+    let here : p < length l.met = omega (arith, l.invariant.inside, l.invariant.size) in
+    let on = compared_on a.list.now a.last.now a.before.now a.a (a.k + 1) a.met.now c.requires.chained l.met in
+    elim c.if-a-wanted.branch [
+      | then-a-wanted w ↦ rw w.met-is (on (set l.met p (a.k + 1)) l.i _ (omega arith) l.invariant (length-set l.met p (a.k + 1)) (λ j h. get_or-set_other l.met p j (a.k + 1) 0 h) (get_or-set_same l.met p (a.k + 1) 0 here ∙ rw (eq-eqb _ _ (w.if-a-wanted.true ∙ c.wanted.ensures))) refl)
+      | else-a-wanted w ↦ rw w.met-is (on l.met l.i _ (omega arith) l.invariant refl (λ j h. refl) (rw (ne_eqb _ _ (λ e. w.if-a-wanted.false (e ∙ sym c.wanted.ensures)))) refl)
+    ]
 
 pub loop-i-smaller : goal.loop-i-smaller
 loop-i-smaller c =

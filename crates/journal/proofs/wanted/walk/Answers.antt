@@ -1,5 +1,5 @@
 -- `journal::wanted::walk` meets its contract.
-use Rattle.std.proofs.Common.{◌≡◌, refl, sym, ◌∙◌, arith, add-one, length}
+use Rattle.std.proofs.Common.{◌≡◌, sym, add-one, length}
 use Rattle.cells.specs.Upto.Laws.{length-up_to}
 use Rattle.journal.specs.Log.{slot_address}
 use Rattle.journal.specs.Wanted.{walked}

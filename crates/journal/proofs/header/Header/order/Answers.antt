@@ -1,8 +1,8 @@
 -- `journal::header::Header::order` meets its contract.
-use Rattle.std.proofs.Common.{rules, ◌≡◌, refl, true, false, List, [], ◌∷◌, ℕ, arith}
+use Rattle.std.proofs.Common.{rules, ◌≡◌, refl, true, false, [], ◌∷◌, arith}
 use Rattle.std.specs.Prelude.{Ok}
 use lib.Dec.{lit<}
-use Rattle.card.specs.Card.{write, flush, run, blocks_in}
+use Rattle.card.specs.Card.{write, flush, blocks_in}
 use Rattle.card.specs.CodeQueue.{card_of, left_queue}
 use Rattle.journal.proofs.Headers.{length-encode}
 use Rattle.journal.proofs.OrderLists.{header_entry}
@@ -28,4 +28,4 @@ returns c =
     let a = c.args in
     let w = c.in_ok-written in
     let both = resumed _ (write (header_entry a.self) ∷ []) (flush ∷ []) refl 1 1 2 refl refl (card_of a.settled.now a.waiting.now a.q) _ (rw c.fill.ensures at w.ensures.by_index a.settled.now) true w.ensures.happened_value refl _ _ c.flush.ensures.queue_after c.flush.ensures.happened_value in
-    record { happened_value = both.0; queue_after = both.1; }
+    record { happened_value = both.0; queue_after = both.1 }
