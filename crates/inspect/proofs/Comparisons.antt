@@ -1,5 +1,5 @@
 -- The laws of comparing: slots and data blocks, one after the other; a block as laid; and what a yes means.
-use Rattle.std.specs.Prelude.{Option, Some, None}
+use Rattle.std.specs.Prelude.{Option, Some, None, Ok, Err}
 use Prim.Native.Nat.{ℕ, zero, suc, ◌+◌, ◌≤◌, ◌<◌}
 use mathlib.Core.Path.{◌≡◌, refl, ap, ap₂, sym, ◌∙◌}
 use mathlib.Core.Bool.{Bool, true, false, cond, ◌&&◌, and-false}
@@ -23,10 +23,13 @@ use Rattle.journal.specs.Log.{slot_address, slot_entry, entries}
 use Rattle.journal.specs.Lookup.{last_slot}
 use Rattle.journal.proofs.Logs.{both, data_bounds, bounds_data}
 use Rattle.journal.proofs.Lookups.{found_in, overlay_slots}
+use Rattle.refusals.specs.declared.Refusal.{Refusal}
+use Rattle.refusals.specs.Numbers.{number_of}
 use Rattle.inspect.specs.declared.reading.Reading.{Reading}
 use Rattle.inspect.specs.Reading.{inspection, chosen_count, laid, laid_over, data_blocks}
-use Rattle.inspect.specs.Alike.{same_data, same_slot, same_slots, refusal, alike_of, Same}
-use Rattle.inspect.proofs.Readings.{TakenList}
+use Rattle.inspect.specs.Alike.{same_data, same_slot, same_slots, refusal, alike_of, alike_answer, Same}
+use Rattle.inspect.specs.CodeReading.{Taken}
+use Rattle.inspect.proofs.Readings.{refusal_positive}
 
 -- ---- a test of numbers, one after the other
 
@@ -152,30 +155,26 @@ module _ (geo : Geometry) where
   -- ---- the answer of alike
 
   module _ (a b : List ℕ) where
-    pub alike_first : (k : ℕ) → k ≡ inspection geo a → k ≢ 0 → record { number = k; yes = false } ≡ alike_of geo a b
+    pub alike_first : (e : Refusal) → number_of e ≡ inspection geo a → alike_answer (Err e) ≡ alike_of geo a b
     unfolding alike_of
-    alike_first k e h = rw (← e, ne_eqb k 0 h, ne_eqb k 0 h)
+    alike_first e h = rw (← h, ne_eqb (number_of e) 0 (refusal_positive e), ne_eqb (number_of e) 0 (refusal_positive e))
 
-    pub alike_second : (k : ℕ) → inspection geo a ≡ 0 → k ≡ inspection geo b → k ≢ 0 → record { number = k; yes = false } ≡ alike_of geo a b
+    pub alike_second : (e : Refusal) → inspection geo a ≡ 0 → number_of e ≡ inspection geo b → alike_answer (Err e) ≡ alike_of geo a b
     unfolding alike_of
-    alike_second k p e h = rw (p, ← e, ne_eqb k 0 h)
+    alike_second e z h = rw (z, ← h, ne_eqb (number_of e) 0 (refusal_positive e))
 
-    pub alike_blocks : (r q : Reading) → TakenList geo a r → TakenList geo b q → r.blocks ≢ q.blocks → record { number = 0; yes = false } ≡ alike_of geo a b
-    unfolding alike_of
-    alike_blocks r q x y h = rw (x.none, y.none, ne_eqb (blocks_in a) (blocks_in b) (λ e. h (x.blocks ∙ e ∙ sym y.blocks)))
+    module _ (r q : Reading) (x : Taken geo a r) (y : Taken geo b q) where
+      pub alike_unlike : eqb r.blocks q.blocks && eqb r.count q.count ≡ false → alike_answer (Ok false) ≡ alike_of geo a b
+      unfolding alike_of
+      alike_unlike h = rw (x.none, y.none, ← x.count, ← y.count, ← x.blocks, ← y.blocks, h)
 
-    pub alike_counts : (r q : Reading) → TakenList geo a r → TakenList geo b q → r.count ≢ q.count → record { number = 0; yes = false } ≡ alike_of geo a b
-    unfolding alike_of
-    alike_counts r q x y h =
-        rw (x.none, y.none, ne_eqb (chosen_count geo a) (chosen_count geo b) (λ e. h (x.count ∙ e ∙ sym y.count)), and-false (eqb (blocks_in a) (blocks_in b)))
-
-    pub alike_contents : (r q : Reading) (t : Bool) → TakenList geo a r → TakenList geo b q → r.blocks ≡ q.blocks → r.count ≡ q.count
-        → t ≡ same_slots geo a b r.count && same_data geo (laid geo a r.count) (laid geo b r.count) (data_blocks geo r.blocks)
-        → record { number = 0; yes = t } ≡ alike_of geo a b
-    unfolding alike_of
-    alike_contents r q t x y h k e =
-        let counts : chosen_count geo a ≡ chosen_count geo b = sym x.count ∙ k ∙ y.count in
-        rw (x.none, y.none, eq-eqb (blocks_in a) (blocks_in b) (sym x.blocks ∙ h ∙ y.blocks), eq-eqb (chosen_count geo a) (chosen_count geo b) counts, e, x.blocks, x.count, counts)
+      pub alike_contents : (t : Bool) → eqb r.blocks q.blocks && eqb r.count q.count ≡ true
+          → t ≡ same_slots geo a b r.count && same_data geo (laid geo a r.count) (laid geo b r.count) (data_blocks geo r.blocks)
+          → alike_answer (Ok t) ≡ alike_of geo a b
+      unfolding alike_of
+      alike_contents t h e =
+          let counts : r.count ≡ q.count = eqb-true _ _ (both _ _ h).1 in
+          rw (x.none, y.none, ← x.count, ← y.count, ← x.blocks, ← y.blocks, h, e, counts)
 
   -- ---- yes
 

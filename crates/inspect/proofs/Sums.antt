@@ -1,4 +1,5 @@
 -- The laws of sums of bytes.
+use Rattle.std.specs.Prelude.{Ok, Err}
 use Prim.Native.Nat.{ℕ, zero, suc, ◌+◌, ◌*◌, ◌≤◌, ◌<◌}
 use mathlib.Core.Path.{◌≡◌, refl, sym}
 use mathlib.Core.Bool.{true}
@@ -17,10 +18,13 @@ use Rattle.card.proofs.Overlays.{lay-same, lay_other}
 use Rattle.journal.specs.Geometry.{Geometry}
 use Rattle.journal.specs.Layout.{first_data, is_data}
 use Rattle.journal.proofs.Logs.{data_bounds}
+use Rattle.refusals.specs.declared.Refusal.{Refusal}
+use Rattle.refusals.specs.Numbers.{number_of}
 use Rattle.inspect.specs.declared.reading.Reading.{Reading}
 use Rattle.inspect.specs.Reading.{inspection, laid, data_blocks}
-use Rattle.inspect.specs.Tally.{sum_bytes, sum_data, tally_of}
-use Rattle.inspect.proofs.Readings.{TakenList}
+use Rattle.inspect.specs.Tally.{sum_bytes, sum_data, tally_of, tally_answer}
+use Rattle.inspect.specs.CodeReading.{Taken}
+use Rattle.inspect.proofs.Readings.{refusal_positive}
 
 pub bytes_none : sum_bytes [] ≡ 0
 unfolding sum_bytes
@@ -94,10 +98,10 @@ module _ (geo : Geometry) where
 
   -- ---- the answer of a tally
 
-  pub tally_refused : (s : List ℕ) (k : ℕ) → k ≡ inspection geo s → k ≢ 0 → record { number = k; sum = 0 } ≡ tally_of geo s
+  pub tally_refused : (s : List ℕ) (e : Refusal) → number_of e ≡ inspection geo s → tally_answer (Err e) ≡ tally_of geo s
   unfolding tally_of
-  tally_refused s k e h = rw (← e, ne_eqb k 0 h)
+  tally_refused s e h = rw (← h, ne_eqb (number_of e) 0 (refusal_positive e))
 
-  pub tally_done : (s : List ℕ) (r : Reading) (v : ℕ) → TakenList geo s r → v ≡ sum_data geo (laid geo s r.count) (data_blocks geo r.blocks) → record { number = 0; sum = v } ≡ tally_of geo s
+  pub tally_done : (s : List ℕ) (r : Reading) (v : ℕ) → Taken geo s r → v ≡ sum_data geo (laid geo s r.count) (data_blocks geo r.blocks) → tally_answer (Ok v) ≡ tally_of geo s
   unfolding tally_of
   tally_done s r v t e = rw (t.none, e, t.blocks, t.count)

@@ -5,15 +5,15 @@ ghost use Rattle.card.specs.Card.{blocks_in};
 ghost use Rattle.journal.specs.Geometry.{trap};
 ghost use Rattle.journal.specs.Layout.{first_data};
 ghost use Rattle.inspect.specs.Reading.{data_blocks, laid};
-ghost use Rattle.inspect.specs.Alike.{same_data, same_slot, same_slots, alike_of};
+ghost use Rattle.inspect.specs.Alike.{same_data, same_slot, same_slots, alike_of, alike_answer};
 
-use crate::answer::Alike;
 use crate::reading::inspect;
 use card::settled::read;
 use cells::bytes::same;
 use journal::FIRST_DATA;
 use journal::log::{slot_address, slot_block};
 use journal::lookup::last_slot;
+use refusals::Refusal;
 
 // Whether slot i of two cards holds the same entry, address and block.
 fn same_slot(a: &[u8], b: &[u8], i: u32) -> bool
@@ -93,31 +93,10 @@ fn same_contents(a: &[u8], b: &[u8], blocks: u32, n: u32) -> bool
 }
 
 // Whether two cards are alike, or the refusal of the first one, else of the second.
-pub fn alike(a: &[u8], b: &[u8]) -> Alike
-    ensures { result ≡ alike_of trap a.now b.now }
+pub fn alike(a: &[u8], b: &[u8]) -> Result<bool, Refusal>
+    ensures { alike_answer result ≡ alike_of trap a.now b.now }
 {
-    let first = inspect(a);
-    if first.number != 0 {
-        return Alike {
-            number: first.number,
-            yes: false,
-        };
-    }
-    let second = inspect(b);
-    if second.number != 0 {
-        return Alike {
-            number: second.number,
-            yes: false,
-        };
-    }
-    if first.blocks != second.blocks || first.count != second.count {
-        return Alike {
-            number: 0,
-            yes: false,
-        };
-    }
-    Alike {
-        number: 0,
-        yes: same_contents(a, b, first.blocks, first.count),
-    }
+    let first = inspect(a)?;
+    let second = inspect(b)?;
+    Ok(first == second && same_contents(a, b, first.blocks, first.count))
 }

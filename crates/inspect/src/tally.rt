@@ -7,15 +7,15 @@ ghost use Rattle.journal.specs.Layout.{first_data, slot_at, is_data, most_blocks
 ghost use Rattle.journal.specs.Log.{slot_address};
 ghost use Rattle.journal.specs.Lookup.{last_slot};
 ghost use Rattle.inspect.specs.Reading.{data_blocks, laid};
-ghost use Rattle.inspect.specs.Tally.{sum_bytes, sum_data, tally_of};
+ghost use Rattle.inspect.specs.Tally.{sum_bytes, sum_data, tally_of, tally_answer};
 
-use crate::answer::Tally;
 use crate::reading::inspect;
 use card::settled::read;
 use cells::BLOCK;
 use journal::FIRST_DATA;
 use journal::log::{is_data, slot_address, slot_block};
 use journal::lookup::last_slot;
+use refusals::Refusal;
 
 // A loop of this known length is unrolled, and its bytes are added up sixteen at a time.
 const CHUNK: usize = 64;
@@ -115,18 +115,9 @@ fn sum_data(settled: &[u8], blocks: u32, n: u32) -> u64
 }
 
 // The sum of all data bytes of a card, or its refusal.
-pub fn tally(settled: &[u8]) -> Tally
-    ensures { result ≡ tally_of trap settled.now }
+pub fn tally(settled: &[u8]) -> Result<u64, Refusal>
+    ensures { tally_answer result ≡ tally_of trap settled.now }
 {
-    let card = inspect(settled);
-    if card.number != 0 {
-        return Tally {
-            number: card.number,
-            sum: 0,
-        };
-    }
-    Tally {
-        number: 0,
-        sum: sum_data(settled, card.blocks, card.count),
-    }
+    let card = inspect(settled)?;
+    Ok(sum_data(settled, card.blocks, card.count))
 }
