@@ -9,7 +9,5 @@ use Rattle.inspect.proofs.Corrections.{sum_below}
 use Rattle.inspect.proofs.tally.sum_data.Given as goal
 
 abbrev pub invariant-loop-i : goal.invariant-loop-i
-invariant-loop-i l = (l.i ≤ l.n) × (l.sum ≡ sum_below trap l.settled l.blocks l.n l.i) × (l.sum ≤ 255 * block_bytes * (data_blocks trap l.blocks + l.i))
+invariant-loop-i l = (l.sum ≡ sum_below trap l.settled l.blocks l.n l.i) × (l.sum ≤ 255 * block_bytes * (data_blocks trap l.blocks + l.i))
 
-abbrev pub decreases-loop-i : goal.decreases-loop-i
-decreases-loop-i l = l.n - l.i
