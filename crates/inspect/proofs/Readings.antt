@@ -2,7 +2,7 @@
 use Prim.Native.Nat.{ℕ, ◌%◌, ◌≤◌, ◌<◌}
 use mathlib.Core.Path.{◌≡◌, refl, ap, sym, ◌∙◌}
 use mathlib.Core.Bool.{Bool, true, false, cond, not, ◌||◌}
-use mathlib.Core.Logic.{◌≢◌}
+use mathlib.Core.Logic.{◌≢◌, ◌⊎◌, ⊎_elim}
 use mathlib.Core.List.{List}
 use native.Mathlib.Omega.{arith}
 use borrow.Author.Tests.{ltb-false}
@@ -12,6 +12,7 @@ use Rattle.cells.specs.Entry.{block_bytes}
 use Rattle.card.specs.Card.{blocks_in}
 use Rattle.journal.specs.Geometry.{Geometry}
 use Rattle.journal.specs.declared.choice.Choice.{Choice}
+use Rattle.journal.specs.declared.choice.Choice.TheVariants.{Whole, Fallback}
 use Rattle.journal.specs.Layout.{first_data, least_blocks, most_blocks, wrong_size}
 use Rattle.journal.specs.Choice.{choose, choice_number, taken_count}
 use Rattle.journal.proofs.Choices.{taken-count}
@@ -20,7 +21,7 @@ use Rattle.refusals.specs.declared.Refusal.{Refusal}
 use Rattle.refusals.specs.declared.Refusal.TheVariants.{Size, Record, Closed, Down, Open, Address, Full, Foreign, Unsound, Marks, LastSave, InUse, Listed}
 use Rattle.refusals.specs.Numbers.{number_of}
 use Rattle.inspect.specs.declared.reading.Reading.{Reading}
-use Rattle.inspect.specs.Reading.{chosen, inspection, chosen_count}
+use Rattle.inspect.specs.Reading.{chosen, inspection}
 use Rattle.inspect.specs.CodeReading.{Taken}
 
 -- no refusal is numbered 0
@@ -76,11 +77,21 @@ module _ (geo : Geometry) where
   -- ---- what the code has read
 
   -- a list that is chosen by the N that was read
-  pub read_chosen : (s : List ℕ) (t : Choice) (N n : ℕ) → N ≡ blocks_in s → wrong_size geo s ≡ false → choose geo N s ≡ t → choice_number t ≡ 0 → taken_count t ≡ n
+  read_chosen : (s : List ℕ) (t : Choice) (N n : ℕ) → N ≡ blocks_in s → wrong_size geo s ≡ false → choose geo N s ≡ t → choice_number t ≡ 0 → taken_count t ≡ n
       → Taken geo s (record { blocks = N; count = n })
   read_chosen s t N n b e p z k =
       let here : chosen geo s ≡ t = rw (← b) p in
       record { none = right-chosen s t e here ∙ z; blocks = b; count = sym (ap taken_count here ∙ k) }
+
+  -- either list
+  pub read_listed : (s : List ℕ) (t : Choice) (N n : ℕ) → N ≡ blocks_in s → wrong_size geo s ≡ false → choose geo N s ≡ t
+      → ((sum : ℕ) × (save : ℕ) × (t ≡ Whole n sum save)) ⊎ ((sum : ℕ) × (save : ℕ) × (t ≡ Fallback n sum save))
+      → Taken geo s (record { blocks = N; count = n })
+  read_listed s t N n b e p w =
+      ⊎_elim
+      (λ x. read_chosen s _ N n b e (p ∙ x.2) refl refl)
+      (λ x. read_chosen s _ N n b e (p ∙ x.2) refl refl)
+      w
 
   pub taken_size : (s : List ℕ) (card : Reading) → Taken geo s card → Sized s
   taken_size s card t = accepted_size s t.none

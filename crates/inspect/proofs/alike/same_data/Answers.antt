@@ -1,5 +1,5 @@
 -- `inspect::alike::same_data` meets its contract: `all` of the data blocks, one by one.
-use Rattle.std.proofs.Common.{rules, tests, ◌∙◌, refl, arith}
+use Rattle.std.proofs.Common.{rules, tests, ◌∙◌, refl}
 use Rattle.std.proofs.lemmas.Iterator.{YieldsList-from_range, serves_from_Range}
 use Rattle.std.proofs.lemmas.Iterator.Search.{all_from_yields_List}
 use Rattle.cells.specs.Same.{same}

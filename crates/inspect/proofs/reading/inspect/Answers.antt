@@ -1,17 +1,13 @@
 -- `inspect::reading::inspect` meets its contract.
 use Prim.Native.Nat.{ℕ}
-use mathlib.Core.Path.{◌≡◌, refl, ap, sym, ◌∙◌}
+use mathlib.Core.Path.{◌≡◌, ap, sym, ◌∙◌}
 use mathlib.Core.Bool.{false}
-use mathlib.Core.Logic.{⊎_elim}
 use native.Mathlib.Omega.{arith}
-use Rattle.card.specs.Card.{blocks_in}
 use Rattle.journal.specs.Geometry.{trap}
-use Rattle.journal.specs.declared.choice.Choice.{Choice}
-use Rattle.journal.specs.declared.choice.Choice.TheVariants.{Whole, Fallback, Foreign, Neither}
+use Rattle.journal.specs.declared.choice.Choice.TheVariants.{Foreign, Neither}
 use Rattle.journal.specs.Layout.{wrong_size}
 use Rattle.journal.specs.Choice.{choose}
-use Rattle.inspect.specs.Reading.{chosen}
-use Rattle.inspect.proofs.Readings.{right_size, wrong-refused, right-chosen, read_chosen}
+use Rattle.inspect.proofs.Readings.{right_size, wrong-refused, right-chosen, read_listed}
 use Rattle.inspect.proofs.reading.inspect.Goals as goal
 
 pub returns-then-wrong_size : goal.returns-then-wrong_size
@@ -31,19 +27,11 @@ choose-requires c =
 -- either list is taken by its count
 pub returns-in-Whole : goal.returns-in-Whole
 returns-in-Whole c =
-    let right = sym c.wrong_size.ensures ∙ c.if-wrong_size.false in
-    ⊎_elim
-    (λ w. read_chosen trap _ _ _ _ c.blocks_in-blocks.ensures right (sym c.choose.ensures ∙ w.2) refl refl)
-    (λ w. read_chosen trap _ _ _ _ c.blocks_in-blocks.ensures right (sym c.choose.ensures ∙ w.2) refl refl)
-    c.in-Whole.is
+    read_listed trap _ _ _ _ c.blocks_in-blocks.ensures (sym c.wrong_size.ensures ∙ c.if-wrong_size.false) (sym c.choose.ensures) c.in-Whole.is
 
 pub returns-in-Whole-2 : goal.returns-in-Whole-2
 returns-in-Whole-2 c =
-    let right = sym c.wrong_size.ensures ∙ c.if-wrong_size.false in
-    ⊎_elim
-    (λ w. read_chosen trap _ _ _ _ c.blocks_in-blocks.ensures right (sym c.choose.ensures ∙ w.2) refl refl)
-    (λ w. read_chosen trap _ _ _ _ c.blocks_in-blocks.ensures right (sym c.choose.ensures ∙ w.2) refl refl)
-    c.in-Whole.is
+    read_listed trap _ _ _ _ c.blocks_in-blocks.ensures (sym c.wrong_size.ensures ∙ c.if-wrong_size.false) (sym c.choose.ensures) c.in-Whole.is
 
 pub returns-in-Foreign : goal.returns-in-Foreign
 returns-in-Foreign c =

@@ -1,7 +1,6 @@
 -- `inspect::tally::sum_block` meets its contract.
-use mathlib.Core.Path.{◌≡◌, ap, ◌∙◌}
+use mathlib.Core.Path.{ap, ◌∙◌}
 use lib.ListN.{length}
-use Rattle.card.specs.Card.{block_at}
 use Rattle.journal.proofs.Logs.{length-block_at, block_read}
 use Rattle.inspect.specs.Tally.{sum_bytes}
 use Rattle.inspect.proofs.tally.sum_block.Goals as goal

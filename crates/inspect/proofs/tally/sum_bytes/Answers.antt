@@ -1,5 +1,5 @@
--- `inspect::tally::sum_bytes` meets its contract.
-use Rattle.std.proofs.Common.{rules, ◌≡◌, ◌∙◌, arith, refl, ◌/◌, ◌^◌, length}
+-- `inspect::tally::sum_bytes` meets its contract: the sums of the chunks add up.
+use Rattle.std.proofs.Common.{rules, ◌≡◌, ◌∙◌, arith, ◌/◌, ◌^◌, length}
 use Rattle.std.proofs.lemmas.Iterator.{YieldsList-from_slice}
 use Rattle.std.proofs.lemmas.Iterator.Adapters.{fits_from_length, at_most_from_yields_List}
 use Rattle.std.specs.List.{sum_by}

@@ -1,3 +1,4 @@
+-- `inspect::tally::sum_chunk` meets its contract: the library's `sum` of the bytes.
 use Rattle.std.proofs.Common.{rules, arith, ◌≡◌, ◌∙◌}
 use Rattle.std.proofs.iter.runs.Sources.{sums}
 use Rattle.std.specs.List.{sum}

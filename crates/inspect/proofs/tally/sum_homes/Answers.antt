@@ -7,7 +7,6 @@ use Rattle.std.proofs.lemmas.List.FromFn.{length-range_with_len}
 use Rattle.cells.specs.Entry.{block_bytes}
 use Rattle.card.specs.Card.{block_at}
 use Rattle.journal.specs.Geometry.{trap}
-use Rattle.inspect.specs.Reading.{data_blocks}
 use Rattle.inspect.specs.Tally.{sum_bytes, sum_data}
 use Rattle.inspect.proofs.Sums.{homes-sum, homes_bound, block_bound}
 use Rattle.inspect.proofs.tally.sum_homes.Goals as goal
