@@ -11,7 +11,7 @@ use Rattle.std.proofs.Common.{zero-add}
 use native.Mathlib.Decide.{ℕ_discrete}
 use borrow.Author.Tests.{eq-eqb, ne_eqb, eqb-true, eqb-false, ltb-true, ltb-false, not-false}
 use lib.Dec.{eqb, ltb}
-use lib.ListN.{length, get_or}
+use lib.ListN.{length}
 use Rattle.std.specs.List.{list_any, range_with_len}
 use Rattle.std.proofs.lemmas.List.Folds.{list_any-append}
 use Rattle.cells.specs.Entry.{block_bytes, entry_at}
@@ -20,7 +20,6 @@ use Rattle.card.specs.CodeQueue.{Below}
 use Rattle.card.proofs.All.{All}
 use Rattle.journal.specs.Geometry.{Geometry}
 use Rattle.journal.specs.Layout.{is_data, least_blocks, most_blocks, wrong_size}
-use Rattle.journal.specs.Lookup.{last_of}
 use Rattle.journal.specs.Log.{slot_address}
 use Rattle.journal.proofs.Logs.{neither, slot_data}
 use Rattle.refusals.specs.Numbers.{number_of}
@@ -56,8 +55,6 @@ search_on f (suc i) n rest h e =
 pub search_over : (f : ℕ → Bool) (i n : ℕ) → some f i ≡ some f n → i ≡ 0 → false ≡ some f n
 unfolding some
 search_over f i n rest e = ap (some f) (sym e) ∙ rest
-
--- ---- tests that fail, as plain facts
 
 -- ---- a search from the first place up: none of the first i passed
 

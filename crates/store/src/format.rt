@@ -10,7 +10,7 @@ ghost use Rattle.store.specs.CodeState.{state_of, answered};
 ghost use Rattle.store.specs.Format.{format_call};
 
 use crate::record::Record;
-use crate::refusals::check_format;
+use crate::rows::check_format;
 use card::settled::{blocks_in, settle, wipe};
 use cells::BLOCK;
 use cells::bytes::zero;

@@ -17,7 +17,7 @@ pub mod power;
 pub mod put;
 pub mod record;
 pub mod recover;
-mod refusals;
+mod rows;
 pub mod saved;
 pub mod sync;
 

@@ -1,6 +1,5 @@
 -- `store::check::wrong_sizes` meets its contract.
 use Rattle.std.proofs.Common.{rules, tests}
-use borrow.Author.Tests.{eq-eqb, ne_eqb}
 use Rattle.journal.specs.Geometry.{trap}
 use Rattle.store.specs.Causes.{wrong_sizes}
 use Rattle.store.proofs.check.wrong_sizes.Goals as goal

@@ -1,11 +1,8 @@
 -- `store::lists::look` meets its contract: the first i were looked at.
-use mathlib.Core.Path.{◌≡◌, refl, ◌∙◌}
-use native.Mathlib.Omega.{arith}
+use mathlib.Core.Path.{◌≡◌, ◌∙◌}
 use native.Mathlib.Numerals.{add-one}
-use borrow.Author.Rules.{rules}
 use lib.ListN.{length}
 use Rattle.cells.specs.Upto.Laws.{length-up_to}
-use Rattle.journal.specs.Geometry.{trap}
 use Rattle.store.specs.Lists.{listed, addresses_of}
 use Rattle.store.proofs.lists.look.Goals as goal
 
