@@ -17,9 +17,6 @@ pub copy-requires : goal.copy-requires
 unfolding trap
 copy-requires c = let e : length c.block.result.now ≡ 512 = ap length (ap bytes c.block.ensures) ∙ rw (length-take, length-drop) (omega arith) in omega arith
 
-pub returns-then-opened-ne0 : goal.returns-then-opened-ne0
-returns-then-opened-ne0 c = λ o g l w r eo eg el ew. rw (numbered_at o _ eo c.if-opened-ne0.true) (c.copy.ensures ∙ ap bytes c.block.ensures)
-
 pub block-requires-then-grouped-ne0 : goal.block-requires-then-grouped-ne0
 unfolding trap
 block-requires-then-grouped-ne0 c = omega arith
@@ -35,9 +32,3 @@ returns-then-grouped-ne0 c = λ o g l w r eo eg el ew. rw (numbered_absent o _ e
 pub copy-requires-then-logged-ne0 : goal.copy-requires-then-logged-ne0
 unfolding trap
 copy-requires-then-logged-ne0 c = let e : length c.slot_block.result.now ≡ 512 = ap length (ap bytes c.slot_block.ensures) ∙ rw (length-take, length-drop) (omega arith) in omega arith
-
-pub returns-then-logged-ne0 : goal.returns-then-logged-ne0
-returns-then-logged-ne0 c = λ o g l w r eo eg el ew. rw (numbered_absent o _ eo c.if-opened-ne0.false, numbered_absent g _ eg c.if-grouped-ne0.false, numbered_at l _ el c.if-logged-ne0.true) (c.copy-then-logged-ne0.ensures ∙ ap bytes c.slot_block.ensures)
-
-pub returns : goal.returns
-returns c = λ o g l w r eo eg el ew. rw (numbered_absent o _ eo c.if-opened-ne0.false, numbered_absent g _ eg c.if-grouped-ne0.false, numbered_absent l _ el c.if-logged-ne0.false) (c.copy_unlogged.ensures w r _ ew)

@@ -15,11 +15,5 @@ bytes v = v.bytes
 pub copy-requires : goal.copy-requires
 copy-requires c = let e : length c.block.result.now ≡ 512 = ap length (ap bytes c.block.ensures) ∙ rw (length-take, length-drop) (omega arith) in omega arith
 
-pub returns-then-waited-ne0 : goal.returns-then-waited-ne0
-returns-then-waited-ne0 c = λ w r k e. rw (numbered_at w _ e c.if-waited-ne0.true) (c.copy.ensures ∙ ap bytes c.block.ensures)
-
 pub copy-requires-2 : goal.copy-requires-2
 copy-requires-2 c = let e : length c.read.result.now ≡ 512 = ap length (ap bytes c.read.ensures) ∙ rw (length-take, length-drop) (omega arith) in omega arith
-
-pub returns : goal.returns
-returns c = λ w r k e. rw (numbered_absent w _ e c.if-waited-ne0.false) (c.copy-2.ensures ∙ ap bytes c.read.ensures)

@@ -1,8 +1,6 @@
 -- `store::record::Record::commit` meets its contract.
-use Rattle.std.proofs.Common.{rules, ◌≡◌}
+use Rattle.std.proofs.Common.{rules, arith, ◌≡◌, ◌∙◌, refl, ap}
 use Rattle.std.specs.Prelude.{Err}
-use mathlib.Core.Path.{refl, ap, ◌∙◌}
-use native.Mathlib.Omega.{arith}
 use borrow.Author.Tests.{ltb-false}
 use Rattle.journal.specs.Geometry.{trap}
 use Rattle.store.specs.State.{with_opened, with_grouped, with_record, with_work}
@@ -23,10 +21,8 @@ returns-in_err-check_commit c =
 
 pub join_all-grouped-requires : goal.join_all-grouped-requires
 join_all-grouped-requires c =
-    let a = c.args in
-    let st = state_of a.self a.settled.now a.waiting.now a.work.now in
-    let p = cause_passes trap commit st 0 c.in_ok-check_commit.ensures refl in
-    let s = passes_sound trap commit st 0 refl c.in_ok-check_commit.ensures refl in
+    let p = cause_passes trap commit _ 0 c.in_ok-check_commit.ensures refl in
+    let s = passes_sound trap commit _ 0 refl c.in_ok-check_commit.ensures refl in
     record {
       trap_in_bounds = omega arith;
       g_le_slots = (omega arith, omega arith, ltb-false _ _ p.own.0);

@@ -15,33 +15,23 @@ use Rattle.store.specs.Get.{waiting_from}
 use Rattle.store.proofs.Listings.{copied, met-le, copied-newest, none_out, one_out, all_out}
 use Rattle.store.proofs.record.Record.copy_out.Goals as goal
 
-pub loop-i-init : goal.loop-i-init
-loop-i-init c = none_out _ _
-
-pub slice_bounds-copy_newest-start : goal.slice_bounds-copy_newest-start
-slice_bounds-copy_newest-start c = omega (arith, c.loop-i.invariant.size)
-
-pub slice_bounds-copy_newest-end : goal.slice_bounds-copy_newest-end
-slice_bounds-copy_newest-end c = omega (arith, c.loop-i.invariant.size)
-
-pub copy_newest-requires : goal.copy_newest-requires
-copy_newest-requires c =
+pub copy_newest-requires-clause-opened_le_slots : goal.copy_newest-requires-clause-opened_le_slots
+copy_newest-requires-clause-opened_le_slots c =
     let a = c.args in
     let l = c.loop-i in
     let here : l.i < wanted_count a.list.now = omega arith in
     let o = met-le a.list.now a.opened.now (λ j. (listed a.work.now open_from j).address) a.self.opened l.i c.requires.met.0 here in
     let g = met-le a.list.now a.grouped.now (λ j. (listed a.work.now (group_from trap) j).address) a.self.grouped l.i c.requires.met.1 here in
     let k = met-le a.list.now a.logged.now (slot_address a.settled.now) a.self.logged l.i c.requires.met_2.0 here in
+    omega arith
+
+pub copy_newest-requires-clause-waited_in_bounds : goal.copy_newest-requires-clause-waited_in_bounds
+copy_newest-requires-clause-waited_in_bounds c =
+    let a = c.args in
+    let l = c.loop-i in
+    let here : l.i < wanted_count a.list.now = omega arith in
     let w = met-le a.list.now a.waited.now (λ j. (listed a.waiting.now waiting_from j).address) a.self.waiting l.i c.requires.met_2.1 here in
-    let below : c.wanted.result < blocks_in a.settled.now = rw c.wanted.ensures (c.requires.by_index l.i here) in
-    record {
-      trap_bound = c.requires.trap_bound.0;
-      trap_in_bounds = c.requires.trap_bound.1;
-      opened_le_slots = omega arith;
-      waited_in_bounds = omega arith;
-      address_bound = below;
-      block_len = rw (length-take, length-drop) (omega (arith, l.invariant.size));
-    }
+    omega arith
 
 pub loop-i-preserved : goal.loop-i-preserved
 loop-i-preserved c =
@@ -55,9 +45,6 @@ loop-i-preserved c =
     let whole : length (take (512 * l.i + 512 - 512 * l.i) (drop (512 * l.i) l.blocks)) ≡ 512 = rw (length-take, length-drop) (omega (arith, l.invariant.size)) in
     let size : length c.copy_newest.new.block ≡ 512 = kept ∙ whole in
     one_out f a.blocks.now l.blocks c.copy_newest.new.block l.i (512 * l.i + 512 - 512 * l.i) l.invariant (omega arith) (omega arith) size block
-
-pub shape_of-blocks : goal.shape_of-blocks
-shape_of-blocks c = c.loop-i.invariant.size
 
 pub returns : goal.returns
 returns c =

@@ -1,23 +1,19 @@
 -- `store::record::Record::cut` meets its contract.
-use Rattle.std.proofs.Common.{rules}
-use Rattle.std.specs.Prelude.{Err}
-use Prim.Native.Nat.{◌*◌, ◌<◌}
-use mathlib.Core.Path.{◌≡◌, refl, ap, ◌∙◌}
-use native.Mathlib.Omega.{arith}
+use Rattle.std.proofs.Common.{rules, arith, ◌≡◌, ◌∙◌, refl, ap}
+use Rattle.std.specs.Prelude.{Err, ◌*◌, ◌<◌, length}
 use borrow.Author.Tests.{not-false}
-use lib.ListN.{length}
 use Rattle.cells.specs.Upto.Laws.{length-up_to}
 use Rattle.cells.specs.Entry.{block_bytes, entry_at}
 use Rattle.card.specs.Card.{queue}
 use Rattle.card.specs.declared.queue.Queue.{Queue}
+use Rattle.card.proofs.MarkLaws.{fits_length}
+use Rattle.journal.specs.Geometry.{trap}
 use Rattle.store.specs.State.{State, card_in}
 use Rattle.store.specs.CodeState.{state_of}
 use Rattle.store.specs.Request.{cut}
 use Rattle.store.specs.Outcomes.{completed}
 use Rattle.store.specs.Cut.{cut_call}
 use Rattle.store.proofs.Calls.{call_refused, call_done}
-use Rattle.card.proofs.MarkLaws.{fits_length}
-use Rattle.journal.specs.Geometry.{trap}
 use Rattle.store.proofs.Causes.{any_waits, cause_passes, passes_sound}
 use Rattle.store.proofs.Saves.{cut_state}
 use Rattle.store.proofs.record.Record.cut.Goals as goal
@@ -31,25 +27,24 @@ returns-in_err-check_cut c =
 pub cut-queue-requires : goal.cut-queue-requires
 unfolding queue
 cut-queue-requires c =
-    let given : State = state_of c.args.self c.args.settled.now c.args.waiting.now c.args.work.now in
-    let st = given in
-    let p = cause_passes trap (cut c.args.marks.now) st 0 c.in_ok-check_cut.ensures refl in
-    let s = passes_sound trap (cut c.args.marks.now) st 0 refl c.in_ok-check_cut.ensures refl in
+    let a = c.args in
+    let st : State = state_of a.self a.settled.now a.waiting.now a.work.now in
+    let p = cause_passes trap (cut a.marks.now) st 0 c.in_ok-check_cut.ensures refl in
+    let s = passes_sound trap (cut a.marks.now) st 0 refl c.in_ok-check_cut.ensures refl in
     let few = any_waits trap st s.counts in
-    let waits : length (queue (card_in st)) ≡ c.args.self.waiting = length-up_to (entry_at c.args.waiting.now) c.args.self.waiting in
-    let many : length c.args.marks.now ≡ block_bytes * length (queue (card_in st)) = fits_length c.args.marks.now (queue (card_in st)) (not-false _ p.own.0) in
-    let few = any_waits trap st s.counts in
-    let held : c.queue.result.waiting ≡ c.args.self.waiting = ap (λ (q : Queue). q.waiting) c.queue.ensures in
+    let waits : length (queue (card_in st)) ≡ a.self.waiting = length-up_to (entry_at a.waiting.now) a.self.waiting in
+    let many : length a.marks.now ≡ block_bytes * length (queue (card_in st)) = fits_length a.marks.now (queue (card_in st)) (not-false _ p.own.0) in
+    let held : c.queue.result.waiting ≡ a.self.waiting = ap (λ (q : Queue). q.waiting) c.queue.ensures in
     record {
       waiting_in_bounds = omega arith;
-      below = λ i h. let inside : i < c.args.self.waiting = omega arith in omega (arith, s.waiting_below i inside);
+      below = λ i h. let inside : i < a.self.waiting = omega arith in omega (arith, s.waiting_below i inside);
       marks_len = omega arith;
     }
 
 pub returns : goal.returns
 unfolding cut_call
 returns c =
-    let given : State = state_of c.args.self c.args.settled.now c.args.waiting.now c.args.work.now in
     let a = c.args in
-        (ap completed (cut_state a.marks.now _ (given) _ _ c.cut-queue.result _ _ c.queue.ensures c.cut-queue.ensures c.shut.ensures c.with_queue.ensures)
-    ∙ call_done _ _ _ _ c.in_ok-check_cut.ensures refl)
+    let st : State = state_of a.self a.settled.now a.waiting.now a.work.now in
+    ap completed (cut_state a.marks.now _ st _ _ c.cut-queue.result _ _ c.queue.ensures c.cut-queue.ensures c.shut.ensures c.with_queue.ensures)
+    ∙ call_done _ _ _ _ c.in_ok-check_cut.ensures refl

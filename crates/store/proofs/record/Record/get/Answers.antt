@@ -8,6 +8,3 @@ pub part-requires : goal.part-requires
 part-requires c =
     let a = c.args in
     rw c.get_place.ensures (get_within trap a.address (state_of a.self a.settled.now a.waiting.now a.work.now))
-
-pub returns : goal.returns
-returns c = rw (← c.get_place.ensures) c.part.ensures

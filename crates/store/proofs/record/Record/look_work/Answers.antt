@@ -1,36 +1,12 @@
 -- `store::record::Record::look_work` meets its contract.
-use native.Mathlib.Omega.{arith}
+use Rattle.std.proofs.Common.{arith}
 use Rattle.journal.specs.Geometry.{trap}
 use Rattle.store.proofs.record.Record.look_work.Goals as goal
 
-pub look-requires : goal.look-requires
+pub look-requires-clause-n_in_bounds : goal.look-requires-clause-n_in_bounds
 unfolding trap
-look-requires c =
-    record {
-      n_in_bounds = omega arith;
-      n_le_slots = omega arith;
-      last_len = c.requires.last_len;
-      list_in_bounds = (omega arith);
-      chained = c.requires.chained;
-      met = c.requires.met.1;
-    }
+look-requires-clause-n_in_bounds c = omega arith
 
-pub look-requires-2 : goal.look-requires-2
+pub returns-clause-met_3 : goal.returns-clause-met_3
 unfolding trap
-look-requires-2 c =
-    record {
-      n_in_bounds = omega arith;
-      n_le_slots = omega arith;
-      last_len = c.requires.last_len;
-      list_in_bounds = (omega arith);
-      chained = c.requires.chained;
-      met = c.requires.met.0;
-    }
-
-pub returns : goal.returns
-unfolding trap
-returns c =
-    record {
-      met_2 = c.look-2.ensures;
-      met_3 = c.look.ensures;
-    }
+returns-clause-met_3 c = c.look.ensures
