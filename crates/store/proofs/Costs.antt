@@ -226,4 +226,4 @@ module _ (geo : Geometry) (st : State) where
 
   -- the figures of its choice, where neither the record nor its mode refuses it
   pub chosen_cost : (x : Choice) → 0 ≡ cause_by geo (of_record false (down_row ∷ open_row ∷ [])) st → choose geo st.rec.blocks st.settled ≡ x → cost_by x st ≡ cost_of geo Save.recover st
-  chosen_cost x e taken = recover-cost x taken (recover-cause geo st 0 e refl ∙ ap choice_number taken)
+  chosen_cost x e taken = recover-cost x taken (recover-cause geo st e ∙ ap choice_number taken)

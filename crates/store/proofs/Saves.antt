@@ -29,6 +29,9 @@ use Rattle.journal.specs.Choice.{choice_number, choose}
 use Rattle.journal.proofs.Logs.{sum_of_nil}
 use Rattle.journal.proofs.OrderLists.{header_entry, checkpoint_writes, append_afresh}
 use Rattle.journal.proofs.Phases.{stopped, resumed}
+use Rattle.refusals.specs.Numbers.{number_of}
+use Rattle.refusals.specs.declared.Refusal.{Refusal}
+use Rattle.refusals.proofs.Nonzero.{refusal_nonzero}
 use Rattle.store.specs.declared.record.Record.{Record}
 use Rattle.store.specs.State.{State, Outcome, closed, open_mode, down, with_mode, with_grouped, with_log, with_save, with_queue, with_record, card_in, with_card}
 use Rattle.store.specs.CodeState.{state_of, outcome_of}
@@ -255,25 +258,26 @@ module _ (geo : Geometry) where
 
   -- ---- recover
 
-  -- n: what the rows of the record and of the mode come to
-  module _ (st : State) (n : ℕ) (e : n ≡ cause_by geo (of_record false (down_row ∷ open_row ∷ [])) st) where
-    -- they refuse it
-    pub recover_barred : eqb n 0 ≡ false → n ≡ cause geo recover st
-    recover_barred z = sym (cause_5 geo st n (foreign_row geo ∷ unsound_row geo ∷ []) e ∙ rw z)
+  module _ (st : State) where
+    -- what the rows of the record and of the mode refuse, it refuses
+    pub recover_barred : (e : Refusal) → number_of e ≡ cause_by geo (of_record false (down_row ∷ open_row ∷ [])) st → number_of e ≡ cause geo recover st
+    recover_barred e h = sym (cause_5 geo st (number_of e) (foreign_row geo ∷ unsound_row geo ∷ []) h ∙ rw (refusal_nonzero e))
 
-    -- they do not: its cause is that of its choice
-    pub recover-cause : n ≡ 0 → cause geo recover st ≡ choice_number (choose geo st.rec.blocks st.settled)
-    recover-cause z = cause_5 geo st n (foreign_row geo ∷ unsound_row geo ∷ []) e ∙ rw (eq-eqb _ _ z) (go (choose geo st.rec.blocks st.settled))
-      where
-        go : (c : Choice) → cond (eqb (choice_number c) 8) 8 (cond (eqb (choice_number c) 9) 9 0) ≡ choice_number c
-        go (Whole k h c) = refl
-        go (Fallback k h c) = refl
-        go Foreign = refl
-        go Neither = refl
+    -- they refuse nothing
+    module _ (passed : 0 ≡ cause_by geo (of_record false (down_row ∷ open_row ∷ [])) st) where
+      -- its cause is that of its choice
+      pub recover-cause : cause geo recover st ≡ choice_number (choose geo st.rec.blocks st.settled)
+      recover-cause = cause_5 geo st 0 (foreign_row geo ∷ unsound_row geo ∷ []) passed ∙ go (choose geo st.rec.blocks st.settled)
+        where
+          go : (c : Choice) → cond (eqb (choice_number c) 8) 8 (cond (eqb (choice_number c) 9) 9 0) ≡ choice_number c
+          go (Whole k h c) = refl
+          go (Fallback k h c) = refl
+          go Foreign = refl
+          go Neither = refl
 
-    pub recover-call : n ≡ 0 → unless (choice_number (choose geo st.rec.blocks st.settled)) st (recovering (choose geo st.rec.blocks st.settled) st) ≡ recover_call geo st
-    unfolding recover_call
-    recover-call z = ap (λ (k : ℕ). unless k st (recovering (choose geo st.rec.blocks st.settled) st)) (sym (recover-cause z))
+      pub recover-call : unless (choice_number (choose geo st.rec.blocks st.settled)) st (recovering (choose geo st.rec.blocks st.settled) st) ≡ recover_call geo st
+      unfolding recover_call
+      recover-call = ap (λ (k : ℕ). unless k st (recovering (choose geo st.rec.blocks st.settled) st)) (sym recover-cause)
 
 -- ---- cut
 
@@ -298,10 +302,10 @@ module _ (geo : Geometry) where
     pub below : Below (blocks_in st.settled) st.waiting st.rec.waiting
     pub homes : (i : ℕ) → i < st.rec.logged → slot_address st.settled i < blocks_in st.settled
 
-  pub ready : (q : Request) (st : State) (n : ℕ) → reads_record geo q ≡ true → needs_open geo q ≡ true → n ≡ cause geo q st → n ≡ 0 → Ready st
-  ready q st n reads needs e z =
-      let p = cause_passes geo q st n e z in
-      let s = passes_sound geo q st n reads e z in
+  pub ready : (q : Request) (st : State) → reads_record geo q ≡ true → needs_open geo q ≡ true → 0 ≡ cause geo q st → Ready st
+  ready q st reads needs e =
+      let p = cause_passes geo q st 0 e refl in
+      let s = passes_sound geo q st 0 reads e refl in
       let live : st.rec.mode ≢ down = eqb-false _ _ (other _ _ p.not_down needs) in
       let mode : st.rec.mode ≡ open_mode = only st.rec.mode s.counts.mode (eqb-false _ _ (other _ _ p.not-closed needs)) live in
       record {
@@ -321,9 +325,9 @@ module _ (geo : Geometry) where
     pub sound : Checked geo st
     pub waiting : st.rec.waiting ≡ 0
 
-  pub unopened : (st : State) (n : ℕ) → n ≡ cause_by geo (of_record false (down_row ∷ open_row ∷ [])) st → n ≡ 0 → Unopened st
-  unopened st n e z =
-      let p = rules_pass geo (of_record false (down_row ∷ open_row ∷ [])) st (sym e ∙ z) in
+  pub unopened : (st : State) → 0 ≡ cause_by geo (of_record false (down_row ∷ open_row ∷ [])) st → Unopened st
+  unopened st e =
+      let p = rules_pass geo (of_record false (down_row ∷ open_row ∷ [])) st (sym e) in
       let s = Causes.sound geo st p.sizes p.counts in
       let mode : st.rec.mode ≡ closed = only st.rec.mode s.counts.mode (eqb-false _ _ p.own.0) (eqb-false _ _ p.own.1.0) in
       record { sound = s; waiting = closed_waits geo st s.counts mode }
@@ -332,5 +336,5 @@ module _ (geo : Geometry) where
       only m l d o = omega arith
 
   -- a sync of a nonempty group that passes row 12 has a number to give
-  pub next_save : (st : State) (n : ℕ) → n ≡ cause geo sync st → n ≡ 0 → st.rec.grouped ≢ 0 → st.rec.save ≢ most_save
-  next_save st n e z some = eqb-false _ _ (other _ _ (cause_passes geo sync st n e z).own.0 (ap not (ne_eqb _ _ some)))
+  pub next_save : (st : State) → 0 ≡ cause geo sync st → st.rec.grouped ≢ 0 → st.rec.save ≢ most_save
+  next_save st e some = eqb-false _ _ (other _ _ (cause_passes geo sync st 0 e refl).own.0 (ap not (ne_eqb _ _ some)))

@@ -8,12 +8,7 @@ use crate::record::Record;
 use refusals::Refusal;
 
 impl Record {
-    pub fn abandon(
-        self,
-        settled: &[u8],
-        waiting: &[u8],
-        work: &[u8],
-    ) -> Result<Record, Refusal>
+    pub fn abandon(self, settled: &[u8], waiting: &[u8], work: &[u8]) -> Result<Record, Refusal>
         ensures { answered result self settled.now waiting.now work.now ≡ abandon_call trap (state_of self settled.now waiting.now work.now) }
     {
         self.check_open(settled, waiting, work)?;

@@ -21,12 +21,7 @@ pub struct Cost {
 }
 
 impl Record {
-    pub fn sync_cost(
-        self,
-        settled: &[u8],
-        waiting: &[u8],
-        work: &[u8],
-    ) -> Result<Cost, Refusal>
+    pub fn sync_cost(self, settled: &[u8], waiting: &[u8], work: &[u8]) -> Result<Cost, Refusal>
         ensures { costed result ≡ cost_of trap Save.sync (state_of self settled.now waiting.now work.now) }
     {
         self.check_sync(settled, waiting, work)?;
@@ -47,12 +42,7 @@ impl Record {
         Ok(self.cost(self.logged + 3 + (writes + 1), true, peak))
     }
 
-    pub fn apply_cost(
-        self,
-        settled: &[u8],
-        waiting: &[u8],
-        work: &[u8],
-    ) -> Result<Cost, Refusal>
+    pub fn apply_cost(self, settled: &[u8], waiting: &[u8], work: &[u8]) -> Result<Cost, Refusal>
         ensures { costed result ≡ cost_of trap Save.apply (state_of self settled.now waiting.now work.now) }
     {
         self.check_open(settled, waiting, work)?;
@@ -63,12 +53,7 @@ impl Record {
         Ok(self.cost(self.logged + 3, false, self.waiting + self.logged))
     }
 
-    pub fn recover_cost(
-        self,
-        settled: &[u8],
-        waiting: &[u8],
-        work: &[u8],
-    ) -> Result<Cost, Refusal>
+    pub fn recover_cost(self, settled: &[u8], waiting: &[u8], work: &[u8]) -> Result<Cost, Refusal>
         ensures { costed result ≡ cost_of trap Save.recover (state_of self settled.now waiting.now work.now) }
     {
         self.check_closed(settled, waiting, work)?;

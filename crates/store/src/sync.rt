@@ -23,12 +23,7 @@ use journal::header::LAST_SAVE;
 use refusals::Refusal;
 
 impl Record {
-    pub fn sync(
-        self,
-        settled: &mut [u8],
-        waiting: &mut [u8],
-        work: &[u8],
-    ) -> Result<Saved, Stopped>
+    pub fn sync(self, settled: &mut [u8], waiting: &mut [u8], work: &[u8]) -> Result<Saved, Stopped>
         ensures { saved_as result self settled.new waiting.new work.now ≡ sync_call trap (state_of self settled.old waiting.old work.now) }
     {
         self.check_sync(settled, waiting, work)?;

@@ -5,7 +5,6 @@ use mathlib.Core.List.{List}
 use native.Mathlib.Omega.{arith}
 use lib.ListN.{length, length-take, length-drop}
 use Rattle.cells.specs.Part.{View}
-use Rattle.journal.proofs.Chains.{numbered_at, numbered_absent}
 use Rattle.store.proofs.get_list.copy_unlogged.Goals as goal
 
 -- the bytes of a part that was handed out

@@ -1,5 +1,5 @@
 -- `store::get_list::stray` meets its contract: `any` of the places, one by one.
-use Rattle.std.proofs.Common.{rules, tests, ◌∙◌, ◌≡◌, not, refl, ap, arith}
+use Rattle.std.proofs.Common.{rules, tests, ◌∙◌, not, refl, ap, arith}
 use Rattle.std.proofs.lemmas.Iterator.{YieldsList-from_range}
 use Rattle.std.proofs.lemmas.Iterator.Search.{any_from_yields_List}
 use Rattle.journal.specs.Geometry.{trap}

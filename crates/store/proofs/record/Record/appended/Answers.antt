@@ -17,9 +17,6 @@ use Rattle.store.proofs.Saves.{given, group_size}
 use borrow.Author.Rules.{rules}
 use Rattle.store.proofs.record.Record.appended.Goals as goal
 
-pub overflow_add-save : goal.overflow_add-save
-overflow_add-save c = let free = c.requires.save_nonzero in omega arith
-
 pub append-sum-requires : goal.append-sum-requires
 unfolding trap
 append-sum-requires c =

@@ -21,7 +21,7 @@ pub returns-then-self-eq0 : goal.returns-then-self-eq0
 unfolding apply_call
 returns-then-self-eq0 c =
     let given : State = state_of c.args.self c.args.settled.now c.args.waiting.now c.args.work.now in
-    let r = ready trap abandon given 0 refl refl c.in_ok-check_open.ensures refl in
+    let r = ready trap abandon given refl refl c.in_ok-check_open.ensures in
     c.saved.ensures _ _ _
     ∙ carried_ends [] given.rec given.rec given r.live _ _ _ _ (sym (ap (λ (o : Outcome). o.state) (carried_none given.rec given.rec given)))
     ∙ carried_none given.rec given.rec given ∙ apply_none trap given c.if-self-eq0.true ∙ call_done _ _ _ _ c.in_ok-check_open.ensures refl
@@ -29,7 +29,7 @@ returns-then-self-eq0 c =
 pub emptied-requires : goal.emptied-requires
 emptied-requires c =
     let given : State = state_of c.args.self c.args.settled.now c.args.waiting.now c.args.work.now in
-    let r = ready trap abandon given 0 refl refl c.in_ok-check_open.ensures refl in
+    let r = ready trap abandon given refl refl c.in_ok-check_open.ensures in
     record {
       trap_bound = omega arith;
       logged_le_slots = omega arith;
@@ -49,7 +49,7 @@ pub returns : goal.returns
 unfolding apply_call
 returns c =
     let given : State = state_of c.args.self c.args.settled.now c.args.waiting.now c.args.work.now in
-    let r = ready trap abandon given 0 refl refl c.in_ok-check_open.ensures refl in
+    let r = ready trap abandon given refl refl c.in_ok-check_open.ensures in
     c.saved-2.ensures _ _ _
     ∙ carried_ends _ _ _ given r.live _ _ _ _ (c.emptied.ensures given.work)
     ∙ apply_some trap given c.if-self-eq0.false ∙ call_done _ _ _ _ c.in_ok-check_open.ensures refl

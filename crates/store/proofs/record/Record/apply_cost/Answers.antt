@@ -26,14 +26,14 @@ pub overflow_add-self : goal.overflow_add-self
 unfolding trap
 overflow_add-self c =
     let given : State = state_of c.args.self c.args.settled.now c.args.waiting.now c.args.work.now in
-    let r = ready trap abandon given 0 refl refl c.in_ok-check_open.ensures refl in
+    let r = ready trap abandon given refl refl c.in_ok-check_open.ensures in
     omega (arith, r.sound.counts.log_count)
 
 pub overflow_add-self-2 : goal.overflow_add-self-2
 unfolding trap
 overflow_add-self-2 c =
     let given : State = state_of c.args.self c.args.settled.now c.args.waiting.now c.args.work.now in
-    let r = ready trap abandon given 0 refl refl c.in_ok-check_open.ensures refl in
+    let r = ready trap abandon given refl refl c.in_ok-check_open.ensures in
     omega (arith, r.waiting, r.sound.counts.log_count)
 
 pub returns : goal.returns

@@ -5,14 +5,13 @@ use native.Mathlib.Omega.{arith}
 use lib.ListN.{length, get_or, take, drop, length-take, length-drop}
 use Rattle.cells.specs.Upto.Laws.{ext_joined}
 use Rattle.journal.specs.Geometry.{trap}
-use Rattle.card.specs.Card.{blocks_in}
 use Rattle.journal.specs.Log.{slot_address}
 use Rattle.journal.specs.Wanted.{wanted_count}
 use Rattle.journal.proofs.Chains.{found_as, numbered-found}
 use Rattle.store.specs.CodeState.{fresh}
 use Rattle.store.specs.Lists.{open_from, group_from, listed}
 use Rattle.store.specs.Get.{waiting_from}
-use Rattle.store.proofs.Listings.{copied, met-le, copied-newest, none_out, one_out, all_out}
+use Rattle.store.proofs.Listings.{copied, met-le, copied-newest, one_out, all_out}
 use Rattle.store.proofs.record.Record.copy_out.Goals as goal
 
 pub copy_newest-requires-clause-opened_le_slots : goal.copy_newest-requires-clause-opened_le_slots

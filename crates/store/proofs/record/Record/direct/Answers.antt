@@ -23,7 +23,7 @@ pub written-requires : goal.written-requires
 written-requires c =
     let given : State = state_of c.args.self c.args.settled.now c.args.waiting.now c.args.work.now in
     let request : Request = direct c.args.address c.args.block.now in
-    let r = ready trap request given 0 refl refl c.in_ok-check_direct.ensures refl in
+    let r = ready trap request given refl refl c.in_ok-check_direct.ensures in
     let p = cause_passes trap request given 0 c.in_ok-check_direct.ensures refl in
     record {
       waiting_le_direct = r.waiting;
@@ -43,5 +43,5 @@ unfolding direct_call
 returns c =
     let given : State = state_of c.args.self c.args.settled.now c.args.waiting.now c.args.work.now in
     let request : Request = direct c.args.address c.args.block.now in
-    let r = ready trap request given 0 refl refl c.in_ok-check_direct.ensures refl in
+    let r = ready trap request given refl refl c.in_ok-check_direct.ensures in
     c.saved.ensures _ _ _ ∙ carried_ends _ _ _ given r.live _ _ _ _ (c.written.ensures c.args.work.now) ∙ call_done _ _ _ _ c.in_ok-check_direct.ensures refl

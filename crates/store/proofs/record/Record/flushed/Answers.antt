@@ -15,15 +15,12 @@ returns-then-self-eq0 c =
     let a = c.args in
     λ work. flush_none (state_of a.self a.settled.now a.waiting.now work) c.if-self-eq0.true
 
-pub flush-requires : goal.flush-requires
+pub flush-requires-clause-waiting_in_bounds : goal.flush-requires-clause-waiting_in_bounds
 unfolding trap
-flush-requires c =
+flush-requires-clause-waiting_in_bounds c =
     let same : c.queue.result.waiting ≡ c.args.self.waiting = ap (λ (q : Queue). q.waiting) c.queue.ensures in
     let few = c.requires.waiting_le_direct in
-    record {
-      waiting_in_bounds = omega arith;
-      below = rw same c.requires.below;
-    }
+    omega arith
 
 pub returns : goal.returns
 returns c =

@@ -1,5 +1,5 @@
 -- `store::record::Record::get_place` meets its contract.
-use Rattle.std.proofs.Common.{◌≡◌, ◌∙◌, sym, refl, arith}
+use Rattle.std.proofs.Common.{◌∙◌, sym, refl, arith}
 use Rattle.refusals.proofs.Nonzero.{answer_err, answer_ok}
 use Rattle.journal.specs.Geometry.{trap}
 use Rattle.store.specs.Request.{get}

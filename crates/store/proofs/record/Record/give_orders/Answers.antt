@@ -1,7 +1,7 @@
 -- `store::record::Record::give_orders` meets its contract.
-use Rattle.std.proofs.Common.{rules, arith, Err, ℕ, ◌≤◌, ◌≡◌, List, [], ◌∷◌, true, false, refl, ap}
+use Rattle.std.proofs.Common.{rules, arith, Err, ℕ, ◌≡◌, List, [], ◌∷◌, true, false, refl, ap}
 use Rattle.card.specs.declared.queue.Queue.{Queue}
-use Rattle.card.specs.Card.{Order, flush}
+use Rattle.card.specs.Card.{flush}
 use Rattle.journal.specs.Geometry.{trap}
 use Rattle.journal.proofs.Phases.{stopped, resumed}
 use Rattle.store.specs.State.{State}
@@ -10,16 +10,12 @@ use Rattle.store.specs.Direct.{direct_write}
 use Rattle.store.proofs.Directs.{direct_room, direct_full, direct_given}
 use Rattle.store.proofs.record.Record.give_orders.Goals as goal
 
-pub write-requires : goal.write-requires
+pub write-requires-clause-entry_bytes_in_bounds : goal.write-requires-clause-entry_bytes_in_bounds
 unfolding trap
-write-requires c =
+write-requires-clause-entry_bytes_in_bounds c =
     let same : c.queue.result.waiting ≡ c.args.self.waiting = ap (λ (q : Queue). q.waiting) c.queue.ensures in
     let few = c.requires.waiting_le_direct in
-    record {
-      entry_bytes_in_bounds = omega arith;
-      waiting_lt_most_places = omega arith;
-      block_len = c.requires.block_len;
-    }
+    omega arith
 
 pub returns-then-self-lt-DIRECT : goal.returns-then-self-lt-DIRECT
 unfolding trap
@@ -30,17 +26,14 @@ returns-then-self-lt-DIRECT c =
     let both = λ (k : List ℕ).
     direct_given trap a.address a.block.now (given k) (direct_write a.address a.block.now ∷ []) (direct_room trap a.address a.block.now (given k) c.if-self-lt-DIRECT.true)
     _ _ _ c.write.result c.queue.ensures w.happened_value (w.by_index a.settled.now) in
-    record { happened_value = λ k. (both k).0; queue_after = λ k. (both k).1; }
+    record { happened_value = λ k. (both k).0; queue_after = λ k. (both k).1 }
 
-pub flush-requires : goal.flush-requires
+pub flush-requires-clause-waiting_in_bounds : goal.flush-requires-clause-waiting_in_bounds
 unfolding trap
-flush-requires c =
+flush-requires-clause-waiting_in_bounds c =
     let same : c.queue-2.result.waiting ≡ c.args.self.waiting = ap (λ (q : Queue). q.waiting) c.queue-2.ensures in
     let few = c.requires.waiting_le_direct in
-    record {
-      waiting_in_bounds = omega arith;
-      below = rw same c.requires.below;
-    }
+    omega arith
 
 pub returns-in_err-flushed : goal.returns-in_err-flushed
 unfolding trap
@@ -54,7 +47,7 @@ returns-in_err-flushed c =
     let both = λ (k : List ℕ).
     direct_given trap a.address a.block.now (given k) (flush ∷ w ∷ []) (direct_full trap a.address a.block.now (given k) c.requires.waiting_le_direct c.if-self-lt-DIRECT.false)
     _ _ _ (Err c.in_err-flushed.field-0.0) c.queue-2.ensures end.0 end.1 in
-    rw same (record { happened_value = λ k. (both k).0; queue_after = λ k. (both k).1; })
+    rw same (record { happened_value = λ k. (both k).0; queue_after = λ k. (both k).1 })
 
 pub write-requires-2 : goal.write-requires-2
 unfolding trap
@@ -80,4 +73,4 @@ returns c =
     let both = λ (k : List ℕ).
     direct_given trap a.address a.block.now (given k) (flush ∷ w ∷ []) (direct_full trap a.address a.block.now (given k) c.requires.waiting_le_direct c.if-self-lt-DIRECT.false)
     _ _ _ c.write-2.result c.queue-2.ensures end.0 end.1 in
-    record { happened_value = λ k. (both k).0; queue_after = λ k. (both k).1; }
+    record { happened_value = λ k. (both k).0; queue_after = λ k. (both k).1 }

@@ -1,5 +1,5 @@
 -- `store::record::Record::recover_cost` meets its contract.
-use Rattle.std.proofs.Common.{rules, arith, Err, ◌≡◌, refl, sym, ◌∙◌}
+use Rattle.std.proofs.Common.{rules, arith, Err, ◌≡◌, sym, ◌∙◌}
 use borrow.Author.Tests.{eqb-false}
 use Rattle.journal.specs.Geometry.{trap}
 use Rattle.refusals.proofs.Nonzero.{refusal_nonzero}
@@ -14,19 +14,19 @@ pub returns-in_err-check_closed : goal.returns-in_err-check_closed
 returns-in_err-check_closed c =
     let refusal = c.in_err-check_closed.field-0.0 in
     let left : c.from_residual.result ≡ Err refusal = search rules in
-    let barred = recover_barred trap _ _ c.in_err-check_closed.ensures (refusal_nonzero refusal) in
+    let barred = recover_barred trap _ refusal c.in_err-check_closed.ensures in
     rw left (cost_refused trap _ Save.recover _ barred (eqb-false _ _ (refusal_nonzero refusal)))
 
 pub choose-requires : goal.choose-requires
 choose-requires c =
     let given : State = state_of c.args.self c.args.settled.now c.args.waiting.now c.args.work.now in
-    let s = (unopened trap given 0 c.in_ok-check_closed.ensures refl).sound in
+    let s = (unopened trap given c.in_ok-check_closed.ensures).sound in
     omega arith
 
 pub overflow_add-self : goal.overflow_add-self
 overflow_add-self c =
     let given : State = state_of c.args.self c.args.settled.now c.args.waiting.now c.args.work.now in
-    let u = unopened trap given 0 c.in_ok-check_closed.ensures refl in
+    let u = unopened trap given c.in_ok-check_closed.ensures in
     omega (arith, u.waiting)
 
 pub returns-in-Whole : goal.returns-in-Whole

@@ -20,7 +20,7 @@ returns-in_err-check_sync c =
 pub synced-requires : goal.synced-requires
 synced-requires c =
     let given : State = state_of c.args.self c.args.settled.now c.args.waiting.now c.args.work.now in
-    let r = ready trap sync given 0 refl refl c.in_ok-check_sync.ensures refl in
+    let r = ready trap sync given refl refl c.in_ok-check_sync.ensures in
     record {
       trap_bound = omega arith;
       mode_value = (r.mode, r.waiting);
@@ -28,7 +28,7 @@ synced-requires c =
       grouped_le_slots = omega arith;
       by_index = r.homes;
       trap_in_bounds = omega arith;
-      save_nonzero = next_save trap given 0 c.in_ok-check_sync.ensures refl;
+      save_nonzero = next_save trap given c.in_ok-check_sync.ensures;
     }
 
 pub saved-requires : goal.saved-requires
@@ -41,5 +41,5 @@ pub returns : goal.returns
 unfolding sync_call
 returns c =
     let given : State = state_of c.args.self c.args.settled.now c.args.waiting.now c.args.work.now in
-    let r = ready trap sync given 0 refl refl c.in_ok-check_sync.ensures refl in
+    let r = ready trap sync given refl refl c.in_ok-check_sync.ensures in
     c.saved.ensures _ _ _ ∙ sync_ends trap given r.live _ _ _ _ c.synced.ensures ∙ call_done _ _ _ _ c.in_ok-check_sync.ensures refl

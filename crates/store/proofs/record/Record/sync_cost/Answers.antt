@@ -35,34 +35,34 @@ pub overflow_add-writes : goal.overflow_add-writes
 unfolding trap
 overflow_add-writes c =
     let given : State = state_of c.args.self c.args.settled.now c.args.waiting.now c.args.work.now in
-    let r = ready trap sync given 0 refl refl c.in_ok-check_sync.ensures refl in
+    let r = ready trap sync given refl refl c.in_ok-check_sync.ensures in
     omega (arith, r.sound.counts.group_count)
 
 pub overflow_add-writes-2 : goal.overflow_add-writes-2
 unfolding trap
 overflow_add-writes-2 c =
     let given : State = state_of c.args.self c.args.settled.now c.args.waiting.now c.args.work.now in
-    let r = ready trap sync given 0 refl refl c.in_ok-check_sync.ensures refl in
+    let r = ready trap sync given refl refl c.in_ok-check_sync.ensures in
     omega (arith, r.sound.counts.group_count)
 
 pub fits-requires : goal.fits-requires
 fits-requires c =
     let given : State = state_of c.args.self c.args.settled.now c.args.waiting.now c.args.work.now in
-    let r = ready trap sync given 0 refl refl c.in_ok-check_sync.ensures refl in
+    let r = ready trap sync given refl refl c.in_ok-check_sync.ensures in
     (r.sound.counts.group_count, r.sound.counts.log_count)
 
 pub overflow_add-writes-then-fits : goal.overflow_add-writes-then-fits
 unfolding trap
 overflow_add-writes-then-fits c =
     let given : State = state_of c.args.self c.args.settled.now c.args.waiting.now c.args.work.now in
-    let r = ready trap sync given 0 refl refl c.in_ok-check_sync.ensures refl in
+    let r = ready trap sync given refl refl c.in_ok-check_sync.ensures in
     omega (arith, r.sound.counts.group_count)
 
 pub overflow_add-self : goal.overflow_add-self
 unfolding trap
 overflow_add-self c =
     let given : State = state_of c.args.self c.args.settled.now c.args.waiting.now c.args.work.now in
-    let r = ready trap sync given 0 refl refl c.in_ok-check_sync.ensures refl in
+    let r = ready trap sync given refl refl c.in_ok-check_sync.ensures in
     omega (arith, r.waiting, r.sound.counts.group_count)
 
 pub returns-then-fits : goal.returns-then-fits
@@ -76,28 +76,28 @@ pub overflow_add-self-2 : goal.overflow_add-self-2
 unfolding trap
 overflow_add-self-2 c =
     let given : State = state_of c.args.self c.args.settled.now c.args.waiting.now c.args.work.now in
-    let r = ready trap sync given 0 refl refl c.in_ok-check_sync.ensures refl in
+    let r = ready trap sync given refl refl c.in_ok-check_sync.ensures in
     omega (arith, r.waiting, r.sound.counts.log_count)
 
 pub overflow_add-self-3 : goal.overflow_add-self-3
 unfolding trap
 overflow_add-self-3 c =
     let given : State = state_of c.args.self c.args.settled.now c.args.waiting.now c.args.work.now in
-    let r = ready trap sync given 0 refl refl c.in_ok-check_sync.ensures refl in
+    let r = ready trap sync given refl refl c.in_ok-check_sync.ensures in
     omega (arith, r.sound.counts.log_count)
 
 pub overflow_add-writes-3 : goal.overflow_add-writes-3
 unfolding trap
 overflow_add-writes-3 c =
     let given : State = state_of c.args.self c.args.settled.now c.args.waiting.now c.args.work.now in
-    let r = ready trap sync given 0 refl refl c.in_ok-check_sync.ensures refl in
+    let r = ready trap sync given refl refl c.in_ok-check_sync.ensures in
     omega (arith, r.sound.counts.group_count)
 
 pub overflow_add-self-4 : goal.overflow_add-self-4
 unfolding trap
 overflow_add-self-4 c =
     let given : State = state_of c.args.self c.args.settled.now c.args.waiting.now c.args.work.now in
-    let r = ready trap sync given 0 refl refl c.in_ok-check_sync.ensures refl in
+    let r = ready trap sync given refl refl c.in_ok-check_sync.ensures in
     omega (arith, r.sound.counts.group_count, r.sound.counts.log_count)
 
 pub returns : goal.returns

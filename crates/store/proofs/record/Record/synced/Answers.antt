@@ -15,41 +15,12 @@ returns-then-self-eq0 c =
     let given : State = state_of c.args.self c.args.settled.now c.args.waiting.now c.args.work.now in
     c.flushed.ensures c.args.work.now ∙ sync_none trap (given) c.if-self-eq0.true
 
-pub fits-requires : goal.fits-requires
-fits-requires c = c.requires.grouped_le_slots
-
-pub appended-requires : goal.appended-requires
-unfolding trap
-appended-requires c =
-    let room : let a = c.args in a.self.logged + a.self.grouped ≤ trap.slots = leb-true _ _ (sym c.fits.ensures ∙ c.if-fits.true) in
-    let free = c.requires.save_nonzero c.if-self-eq0.false in
-    record {
-      trap_bound = omega arith;
-      grouped_bound = room;
-      waiting_le_direct = c.requires.mode_value.1;
-      trap_in_bounds = omega arith;
-      below = c.requires.below;
-      trap_in_bounds_2 = omega arith;
-      save_nonzero = free;
-    }
-
 pub returns-then-fits : goal.returns-then-fits
 unfolding trap
 returns-then-fits c =
     let room : let a = c.args in a.self.logged + a.self.grouped ≤ trap.slots = leb-true _ _ (sym c.fits.ensures ∙ c.if-fits.true) in
     let a = c.args in
     c.appended.ensures ∙ ap (λ (o : Outcome). o.state) (sync_room trap (state_of a.self a.settled.now a.waiting.now a.work.now) c.if-self-eq0.false (room))
-
-pub emptied-emptied-requires : goal.emptied-emptied-requires
-emptied-emptied-requires c =
-    record {
-      trap_bound = c.requires.trap_bound;
-      logged_le_slots = omega arith;
-      by_index = c.requires.by_index;
-      waiting_le_direct = c.requires.mode_value.1;
-      trap_in_bounds = omega arith;
-      below = c.requires.below;
-    }
 
 pub returns-then-emptied-eq-DOWN : goal.returns-then-emptied-eq-DOWN
 unfolding trap
