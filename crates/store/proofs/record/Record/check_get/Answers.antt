@@ -2,27 +2,11 @@
 use Rattle.std.proofs.Common.{rules, ◌≡◌, refl}
 use Rattle.std.specs.Prelude.{Err, false}
 use Rattle.journal.specs.Geometry.{trap}
-use Rattle.store.specs.State.{State}
-use Rattle.store.specs.CodeState.{state_of}
 use Rattle.store.specs.Request.{get}
-use Rattle.store.specs.Causes.{first, cause}
-use Rattle.store.proofs.Causes.{own_rows, cause_4, refused_4}
+use Rattle.store.proofs.Causes.{own_rows, refused_4}
 use Rattle.store.proofs.record.Record.check_get.Goals as goal
 
 pub returns-in_err-check_open : goal.returns-in_err-check_open
 returns-in_err-check_open c =
-    let given : State = state_of c.args.self c.args.settled.now c.args.waiting.now c.args.work.now in
     let left : c.from_residual.result ≡ Err c.in_err-check_open.field-0.0 = search rules in
-    rw left (refused_4 trap given _ (own_rows trap (get c.args.address)) false refl c.in_err-check_open.ensures)
-
-pub returns-then-not-is_data : goal.returns-then-not-is_data
-returns-then-not-is_data c =
-    let given : State = state_of c.args.self c.args.settled.now c.args.waiting.now c.args.work.now in
-    let table_of : cause trap (get c.args.address) given ≡ first (own_rows trap (get c.args.address)) given = cause_4 trap given 0 (own_rows trap (get c.args.address)) false refl c.in_ok-check_open.ensures in
-    rw (table_of, ← c.is_data.ensures, c.if-not-is_data.true)
-
-pub returns : goal.returns
-returns c =
-    let given : State = state_of c.args.self c.args.settled.now c.args.waiting.now c.args.work.now in
-    let table_of : cause trap (get c.args.address) given ≡ first (own_rows trap (get c.args.address)) given = cause_4 trap given 0 (own_rows trap (get c.args.address)) false refl c.in_ok-check_open.ensures in
-    rw (table_of, ← c.is_data.ensures, c.if-not-is_data.false)
+    rw left (refused_4 trap _ _ (own_rows trap (get c.args.address)) false refl c.in_err-check_open.ensures)

@@ -21,10 +21,8 @@ returns-in_err-check_commit c =
 
 pub join_all-grouped-requires : goal.join_all-grouped-requires
 join_all-grouped-requires c =
-    let a = c.args in
-    let st = state_of a.self a.settled.now a.waiting.now a.work.now in
-    let p = cause_passes trap commit st 0 c.in_ok-check_commit.ensures refl in
-    let s = passes_sound trap commit st 0 refl c.in_ok-check_commit.ensures refl in
+    let p = cause_passes trap commit _ 0 c.in_ok-check_commit.ensures refl in
+    let s = passes_sound trap commit _ 0 refl c.in_ok-check_commit.ensures refl in
     record {
       trap_in_bounds = omega arith;
       g_le_slots = (omega arith, omega arith, ltb-false _ _ p.own.0);

@@ -2,9 +2,7 @@
 use Rattle.std.proofs.Common.{rules, arith, ◌≡◌, refl}
 use Rattle.std.specs.Prelude.{Err, length, replicate}
 use lib.ListN.{length-replicate}
-use Rattle.card.specs.Card.{blocks_in}
 use Rattle.journal.specs.Geometry.{trap}
-use Rattle.store.specs.CodeState.{state_of}
 use Rattle.store.specs.Request.{format}
 use Rattle.store.specs.Format.{formatted, format_call}
 use Rattle.store.proofs.Calls.{call_refused, call_done}
@@ -19,17 +17,12 @@ returns-in_err-check_format c =
 
 pub overflow_cast-blocks : goal.overflow_cast-blocks
 overflow_cast-blocks c =
-    let a = c.args in
-    let st = state_of a.self a.settled.now a.waiting.now a.work.now in
-    let s = sizes_facts trap st (cause_passes trap format st 0 (c.in_ok-check_format.ensures _) refl).sizes in
-    let told : c.blocks_in-blocks.result ≡ blocks_in st.settled = c.blocks_in-blocks.ensures in
+    let s = sizes_facts trap _ (cause_passes trap format _ 0 (c.in_ok-check_format.ensures c.args.self) refl).sizes in
     omega arith
 
 pub settle_header-requires : goal.settle_header-requires
 settle_header-requires c =
-    let a = c.args in
-    let st = state_of a.self a.settled.now a.waiting.now a.work.now in
-    let s = sizes_facts trap st (cause_passes trap format st 0 (c.in_ok-check_format.ensures _) refl).sizes in
+    let s = sizes_facts trap _ (cause_passes trap format _ 0 (c.in_ok-check_format.ensures c.args.self) refl).sizes in
     rw (c.wipe.ensures.settled_after, length-replicate) (omega arith)
 
 pub returns : goal.returns

@@ -2,7 +2,6 @@
 use Rattle.std.proofs.Common.{◌∙◌, sym, refl, arith}
 use Rattle.refusals.proofs.Nonzero.{answer_err, answer_ok}
 use Rattle.journal.specs.Geometry.{trap}
-use Rattle.store.specs.CodeState.{state_of}
 use Rattle.store.specs.Request.{get}
 use Rattle.store.specs.Get.{get_place}
 use Rattle.store.proofs.Causes.{passes_sound, passes_waits}
@@ -14,11 +13,9 @@ returns-then-is_err c = rw (← c.check_get.ensures, answer_err c.check_get.resu
 
 pub newest-requires : goal.newest-requires
 newest-requires c =
-    let a = c.args in
-    let st = state_of a.self a.settled.now a.waiting.now a.work.now in
     let passed = answer_ok c.check_get.result (sym c.is_err.ensures.value ∙ c.if-is_err.false) in
-    let s = passes_sound trap (get a.address) st _ refl c.check_get.ensures passed in
-    let few = passes_waits trap (get a.address) st _ refl refl c.check_get.ensures passed in
+    let s = passes_sound trap (get c.args.address) _ _ refl c.check_get.ensures passed in
+    let few = passes_waits trap (get c.args.address) _ _ refl refl c.check_get.ensures passed in
     omega (arith, trap.queued)
 
 pub returns : goal.returns
