@@ -13,7 +13,7 @@ pub const START: u64 = 14695981039346656037;
 fn mul_prime(a: u64) -> u64
     ensures { result ≡ (a * prime) % 2 ^ 64 }
 {
-    std::num::wrapping_add_u64(product::mul_wrap(a), a << 40)
+    product::mul_wrap(a).wrapping_add(a << 40)
 }
 
 // One more byte: xor it in, then multiply.

@@ -3,7 +3,7 @@ use Rattle.std.specs.Prelude.{Option, Some, None, Ok, Err, is_some}
 use Prim.Native.Nat.{ℕ, zero, suc, ◌+◌, ◌<◌}
 use mathlib.Core.Path.{◌≡◌, refl, ap, ap₂, sym, ◌∙◌}
 use mathlib.Core.Bool.{Bool, true, false, cond, ◌&&◌}
-use mathlib.Core.Logic.{◌↔◌}
+use mathlib.Core.Logic.{◌≢◌, ◌↔◌}
 use mathlib.Core.List.{List, [], ◌∷◌, map}
 use native.Mathlib.Nat.{zero-add}
 use native.Mathlib.Numerals.{add-one}
@@ -99,11 +99,16 @@ module _ (geo : Geometry) where
   slots_equal : (a b : List ℕ) (n : ℕ) → same_slots geo a b n ≡ true → (i : ℕ) → i < n → slot_entry geo a i ≡ slot_entry geo b i
   slots_equal a b n e i h = slot_equal a b i (each_passes (each_slot a b) n e i h)
 
-  -- a slot's two addresses and two blocks, as they were read
-  pub slot_read : (a b : List ℕ) (i x y : ℕ) (u v : List ℕ) (t : Bool) → x ≡ slot_address a i → y ≡ slot_address b i
-      → u ≡ block_at a (slot_at geo i) → v ≡ block_at b (slot_at geo i) → t ≡ same u v → eqb x y && t ≡ same_slot geo a b i
-  unfolding same_slot
-  slot_read a b i x y u v t p q f g e = rw (p, q, e, f, g)
+  -- a slot's two addresses, as they were read
+  module _ (a b : List ℕ) (i x y : ℕ) (p : x ≡ slot_address a i) (q : y ≡ slot_address b i) where
+    pub slot_unlike : x ≢ y → eqb x y ≡ same_slot geo a b i
+    unfolding same_slot
+    slot_unlike h = let no : eqb x y ≡ false = ne_eqb x y h in rw (← p, ← q, no)
+
+    -- and its two blocks
+    pub slot_alike : (u v : List ℕ) (t : Bool) → x ≡ y → u ≡ block_at a (slot_at geo i) → v ≡ block_at b (slot_at geo i) → t ≡ same u v → t ≡ same_slot geo a b i
+    unfolding same_slot
+    slot_alike u v t h f g e = let one : eqb x y ≡ true = eq-eqb x y h in rw (e, f, g, ← p, ← q, one)
 
   -- ---- a block as laid, where the same n entries are laid over both
 

@@ -22,7 +22,7 @@ fn same_slot(a: &[u8], b: &[u8], i: u32) -> bool
     requires i_lt_slots { i < trap.slots }
     ensures { result ≡ same_slot trap a.now b.now i }
 {
-    (slot_address(a, i) == slot_address(b, i)) & same(slot_block(a, i), slot_block(b, i))
+    slot_address(a, i) == slot_address(b, i) && same(slot_block(a, i), slot_block(b, i))
 }
 
 // Whether the first n slots of two cards hold the same entries.
