@@ -3,7 +3,7 @@ use Prim.Native.Nat.{ℕ, zero, suc, ◌+◌, ◌-◌, ◌*◌, ◌≤◌, ◌<�
 use mathlib.Core.Path.{◌≡◌, refl, ap, sym, ◌∙◌}
 use mathlib.Core.Bool.{Bool, true, false, not, ◌&&◌, ◌||◌, false≢true, true≢false}
 use mathlib.Core.Logic.{◌≢◌}
-use mathlib.Core.List.{List, [], ◌∷◌, ◌++◌}
+use mathlib.Core.List.{List, [], ◌∷◌, ◌++◌, map}
 use native.Mathlib.Nat.{zero-add, add-zero}
 use native.Mathlib.Numerals.{add-one}
 use native.Mathlib.Omega.{arith}
@@ -12,6 +12,10 @@ use borrow.Author.Tests.{eqb-true, eqb-false, eq-eqb, ne_eqb, ltb-false, le-ltb,
 use lib.Dec.{eqb, ltb}
 use lib.ListN.{length, get_or, drop, replicate, length-append, length-drop, length-replicate, get_or-replicate}
 use lib.Seq.{ext_get_or, get_or-drop, take_at, drop-append-add}
+use Rattle.std.specs.List.{list_any, list_all, range_with_len}
+use Rattle.std.proofs.lemmas.List.Folds.{list_all-append, list_all-map}
+use Rattle.std.proofs.lemmas.List.FromFn.{map-range_with_len_more}
+use Rattle.std.proofs.Math.Bool.{and-true}
 use Rattle.cells.specs.Cell.Laws.{cell_part, length-cell, get_or-cell}
 use Rattle.cells.specs.Same.{same}
 use Rattle.cells.specs.Same.Laws.{same_equal, same_self}
@@ -21,6 +25,18 @@ use Rattle.cells.specs.Entry.{block_bytes, Entry}
 use Rattle.card.specs.Marks.{marks_at, kept_at, lost_at, all_kept, over_one, marks_for, whole_at, whole_block, headers_whole, marks_fit}
 use Rattle.card.specs.Torn.{address_at}
 use Rattle.card.proofs.All.{All, all_at}
+
+-- ---- what the library's `any` and `all` say of marks
+
+pub over_one-any : (ms : List ℕ) → list_any (ltb 1) ms ≡ over_one ms
+unfolding over_one
+over_one-any [] = refl
+over_one-any (m ∷ ms) = ap (λ (b : Bool). ltb 1 m || b) (over_one-any ms)
+
+pub filled-all : (m : ℕ) (ms : List ℕ) → list_all (λ x. eqb x m) ms ≡ same ms (replicate (length ms) m)
+unfolding same
+filled-all m [] = refl
+filled-all m (x ∷ ms) = ap (λ (b : Bool). eqb x m && b) (filled-all m ms)
 
 pub both : (a b : Bool) → a && b ≡ true → (a ≡ true) × (b ≡ true)
 both true b e = (refl, e)
@@ -73,21 +89,20 @@ headers_more ms f k =
     go true false = refl
     go false u = refl
 
--- one is torn
-pub headers_torn : (ms : List ℕ) (f : ℕ → Entry) (i n : ℕ) → i < n → not (eqb (f i).address whole_block) || whole_at ms i ≡ false → headers_whole ms 0 (up_to f n) ≡ false
-headers_torn ms f i zero h t = absurd (omega arith)
-headers_torn ms f i (suc n) h t =
-    ap (λ (k : ℕ). headers_whole ms 0 (up_to f k)) (let z : suc n ≡ n + 1 = omega arith in z)
-    ∙ headers_more ms f n
-    ∙ go (ℕ_discrete i n) (λ l. headers_torn ms f i n l t)
+-- as the library's `all` says it of the places
+pub headers-all : (ms : List ℕ) (f : ℕ → Entry) (n : ℕ) → list_all (λ i. not (eqb (f i).address whole_block) || whole_at ms i) (range_with_len 0 n) ≡ headers_whole ms 0 (up_to f n)
+unfolding headers_whole
+headers-all ms f zero = refl
+headers-all ms f (suc n) =
+    ap (λ (k : ℕ). list_all test (range_with_len 0 k)) (sym (add-one n))
+    ∙ sym (list_all-map (λ b. b) test (range_with_len 0 (n + 1)))
+    ∙ ap (list_all (λ b. b)) (map-range_with_len_more test 0 n n (zero-add n))
+    ∙ list_all-append (λ b. b) (map test (range_with_len 0 n)) (test n ∷ [])
+    ∙ rw (list_all-map (λ b. b) test (range_with_len 0 n), headers-all ms f n, and-true (test n)) (sym (headers_more ms f n))
+    ∙ ap (λ (k : ℕ). headers_whole ms 0 (up_to f k)) (add-one n)
   where
-    none : (t : Bool) → t && false ≡ false
-    none true = refl
-    none false = refl
-
-    go : Dec (i ≡ n) → (i < n → headers_whole ms 0 (up_to f n) ≡ false) → headers_whole ms 0 (up_to f n) && (not (eqb (f n).address whole_block) || whole_at ms n) ≡ false
-    go (yes e) more = rw (← e, t) (none (headers_whole ms 0 (up_to f i)))
-    go (no e) more = rw (more (omega arith))
+    test : ℕ → Bool
+    test i = not (eqb (f i).address whole_block) || whole_at ms i
 
 -- there is none
 headers_none : (ms : List ℕ) (i : ℕ) (q : List Entry) → All (λ e. whole_block ≢ e.address) q → headers_whole ms i q ≡ true

@@ -16,27 +16,15 @@ pub fn fit(marks: &[u8], waiting: &[u8], count: u32) -> bool
     requires { entry_bytes * count ≤ length waiting.now }
     ensures { result ≡ marks_fit marks.now (up_to (entry_at waiting.now) count) }
 {
-    if marks.len() != BLOCK * (count as usize) {
-        return false;
-    }
-    if over_one(marks) {
-        return false;
-    }
-    headers_whole(marks, waiting, count as usize)
+    let n = count as usize;
+    marks.len() == BLOCK * n && !over_one(marks) && headers_whole(marks, waiting, n)
 }
 
 // Whether a mark is over 1.
 fn over_one(marks: &[u8]) -> bool
     ensures { result ≡ over_one marks.now }
 {
-    let mut i = 0;
-    while i < marks.len() {
-        if 1 < marks[i] {
-            return true;
-        }
-        i += 1;
-    }
-    false
+    marks.iter().any(|&mark| 1 < mark)
 }
 
 // Whether the marks of each write to block 0 are all 0 or all 1.
@@ -44,14 +32,7 @@ fn headers_whole(marks: &[u8], waiting: &[u8], n: usize) -> bool
     requires { (entry_bytes * n ≤ length waiting.now) × (block_bytes * n ≡ length marks.now) }
     ensures { result ≡ headers_whole marks.now 0 (up_to (entry_at waiting.now) n) }
 {
-    let mut i = 0;
-    while i < n {
-        if !accepts(marks, waiting, i) {
-            return false;
-        }
-        i += 1;
-    }
-    true
+    (0..n).all(|i| accepts(marks, waiting, i))
 }
 
 // Whether the i-th write goes to another block, or its marks are all 1 or all 0.
@@ -59,10 +40,7 @@ fn accepts(marks: &[u8], waiting: &[u8], i: usize) -> bool
     requires { (entry_bytes * i + entry_bytes ≤ length waiting.now) × (block_bytes * i + block_bytes ≤ length marks.now) }
     ensures { result ≡ not (eqb (entry_at waiting.now i).address whole_block) || whole_at marks.now i }
 {
-    if entry::address(waiting, i) != WHOLE {
-        return true;
-    }
-    whole(marks, i)
+    entry::address(waiting, i) != WHOLE || whole(marks, i)
 }
 
 // Whether the marks of the i-th write are all 1 or all 0.
@@ -71,34 +49,22 @@ fn whole(marks: &[u8], i: usize) -> bool
     ensures { result ≡ whole_at marks.now i }
 {
     let at = BLOCK * i;
-    if filled(&marks[at..at + BLOCK], 1) {
-        return true;
-    }
-    filled(&marks[at..at + BLOCK], 0)
+    let part = &marks[at..at + BLOCK];
+    filled(part, 1) || filled(part, 0)
 }
 
 // Whether every mark of a part is this one.
 fn filled(marks: &[u8], mark: u8) -> bool
     ensures { result ≡ Same.same marks.now (replicate (length marks.now) mark) }
 {
-    let mut i = 0;
-    while i < marks.len() {
-        if marks[i] != mark {
-            return false;
-        }
-        i += 1;
-    }
-    true
+    marks.iter().all(|&each| each == mark)
 }
 
 // The byte that a mark leaves.
 fn left(mark: u8, new: u8, old: u8) -> u8
     ensures { result ≡ cond (eqb mark 1) new old }
 {
-    if mark == 1 {
-        return new;
-    }
-    old
+    if mark == 1 { new } else { old }
 }
 
 // Copies the bytes of src whose mark is 1 over dst; all three are as long.
@@ -106,9 +72,8 @@ pub fn copy_kept(dst: &mut [u8], src: &[u8], marks: &[u8])
     requires { (length dst.old ≡ length src.now) × (length dst.old ≡ length marks.now) }
     ensures { dst.new ≡ torn marks.now src.now dst.old }
 {
-    let mut i = 0;
-    while i < src.len() {
-        dst[i] = left(marks[i], src[i], dst[i]);
-        i += 1;
+    // Stays an index: a `zip` of `iter_mut` with slices of other lifetimes is not covered by the borrow checker.
+    for (i, to) in dst.iter_mut().enumerate() {
+        *to = left(marks[i], src[i], *to);
     }
 }

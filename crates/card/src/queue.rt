@@ -23,6 +23,7 @@ pub struct PowerLost {
 }
 
 // The address of a waiting write.
+// Stays: who reads the queue (`store`, `powercut`) need not know that its writes are entries.
 pub fn address(waiting: &[u8], i: usize) -> u32
     requires { entry_bytes * i + entry_bytes ≤ length waiting.now }
     ensures { result ≡ (entry_at waiting.now i).address }
@@ -101,6 +102,7 @@ fn settle_one(settled: &mut [u8], waiting: &[u8], i: usize)
 }
 
 // Settles the bytes of the i-th waiting write that its marks keep.
+// Stays beside `settle_one`: the copier is all that differs, and as a closure it would need a clause of its own in each contract.
 fn settle_bytes(settled: &mut [u8], waiting: &[u8], marks: &[u8], i: usize)
     requires entry_bytes_in_bounds { entry_bytes * i + entry_bytes ≤ length waiting.now }
     requires i_bound { (entry_at waiting.now i).address < blocks_in settled.old }
@@ -128,6 +130,7 @@ fn settle_all(settled: &mut [u8], waiting: &[u8], n: usize)
 }
 
 // Settles the bytes of the first n waiting writes that their marks keep.
+// Stays beside `settle_all`: one loop with a closure would owe both `Card.settle` and `Card.settle_kept`, which are two recursions.
 fn settle_marked(settled: &mut [u8], waiting: &[u8], marks: &[u8], n: usize)
     requires n_in_bounds { entry_bytes * n ≤ length waiting.now }
     requires below { Below (blocks_in settled.old) waiting.now n }

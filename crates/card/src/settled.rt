@@ -44,6 +44,7 @@ pub fn settle(settled: &mut [u8], address: u32, block: &[u8])
 }
 
 // Settles the bytes of a block whose mark is 1, at no order: the same part is lent on to the copier that takes marks.
+// Stays beside `settle`: with the copier as a closure the contract would be longer than both bodies.
 pub fn settle_kept(settled: &mut [u8], address: u32, block: &[u8], marks: &[u8])
     requires address_bound { address < blocks_in settled.old }
     requires block_len { (length block.now ≡ block_bytes) × (length marks.now ≡ block_bytes) }

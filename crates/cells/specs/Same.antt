@@ -1,6 +1,6 @@
 -- When two runs of bytes are equal.
 pub mod Laws
-use Rattle.std.specs.Prelude.{ℕ, Bool, true, false, ◌&&◌, List, [], ◌∷◌, eqb, drop}
+use Rattle.std.specs.Prelude.{ℕ, Bool, true, false, ◌&&◌, List, [], ◌∷◌, eqb}
 
 -- the same bytes
 unfoldable pub same : List ℕ → List ℕ → Bool
@@ -8,7 +8,3 @@ same [] [] = true
 same [] (y ∷ t) = false
 same (x ∷ s) [] = false
 same (x ∷ s) (y ∷ t) = eqb x y && same s t
-
--- what is left from byte i on
-abbrev pub same_from : List ℕ → List ℕ → ℕ → Bool
-same_from s t i = same (drop i s) (drop i t)

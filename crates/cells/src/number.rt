@@ -1,24 +1,16 @@
 // Little-endian numbers of 4 and 8 bytes at an offset of a slice.
-ghost use Rattle.std.specs.Prelude.{◌≡◌, ◌+◌, ◌≤◌, ◌<◌, length, get_or, take, drop};
+// Stays twice, for u32 and u64: `from_le_bytes` and `to_le_bytes` are of each type and of no trait, so one generic function would need a
+// trait of our own with two impls.
+ghost use Rattle.std.specs.Prelude.{◌≡◌, ◌+◌, ◌≤◌, length, take, drop};
 ghost use Rattle.std.proofs.lemmas.List.Edits.{sets};
 ghost use Rattle.cells.specs.Little.{le, num};
-
-// The byte at i, widened.
-fn byte_at(s: &[u8], i: usize) -> u64
-    requires { i < length s.now }
-    ensures { (result ≡ get_or s.now i 0) × (result < 256) }
-{
-    s[i] as u64
-}
 
 // The 4-byte number at an offset.
 pub fn read_u32(s: &[u8], at: usize) -> u32
     requires { at + 4 ≤ length s.now }
     ensures { result ≡ num (take 4 (drop at s.now)) }
 {
-    let low = byte_at(s, at) + 256 * byte_at(s, at + 1);
-    let high = byte_at(s, at + 2) + 256 * byte_at(s, at + 3);
-    (low + 65536 * high) as u32
+    u32::from_le_bytes([s[at], s[at + 1], s[at + 2], s[at + 3]])
 }
 
 // The 8-byte number at an offset.
@@ -26,9 +18,16 @@ pub fn read_u64(s: &[u8], at: usize) -> u64
     requires { at + 8 ≤ length s.now }
     ensures { result ≡ num (take 8 (drop at s.now)) }
 {
-    let low = read_u32(s, at) as u64;
-    let high = read_u32(s, at + 4) as u64;
-    low + 4294967296 * high
+    u64::from_le_bytes([
+        s[at],
+        s[at + 1],
+        s[at + 2],
+        s[at + 3],
+        s[at + 4],
+        s[at + 5],
+        s[at + 6],
+        s[at + 7],
+    ])
 }
 
 // Stores a 4-byte number at an offset.
@@ -36,10 +35,7 @@ pub fn write_u32(s: &mut [u8], at: usize, v: u32)
     requires { at + 4 ≤ length s.old }
     ensures { s.new ≡ sets s.old at (le 4 v) }
 {
-    s[at] = (v % 256) as u8;
-    s[at + 1] = (v / 256 % 256) as u8;
-    s[at + 2] = (v / 65536 % 256) as u8;
-    s[at + 3] = (v / 16777216 % 256) as u8;
+    s[at..at + 4].copy_from_slice(&v.to_le_bytes());
 }
 
 // Stores an 8-byte number at an offset.
@@ -47,6 +43,5 @@ pub fn write_u64(s: &mut [u8], at: usize, v: u64)
     requires { at + 8 ≤ length s.old }
     ensures { s.new ≡ sets s.old at (le 8 v) }
 {
-    write_u32(s, at, (v % 4294967296) as u32);
-    write_u32(s, at + 4, (v / 4294967296) as u32);
+    s[at..at + 8].copy_from_slice(&v.to_le_bytes());
 }

@@ -1,5 +1,5 @@
 -- The laws of the checksum: it is below 2^64, and the sum of a run goes on from the sum of its first part.
-use Rattle.std.proofs.Common.{◌≡◌, ℕ, ◌+◌, ◌^◌, ◌<◌, List, [], ◌∷◌, ◌++◌, length, get_or, take, refl, mod-lt, add-one, lit<, take-suc}
+use Rattle.std.proofs.Common.{◌≡◌, ℕ, ◌^◌, ◌<◌, List, [], ◌∷◌, ◌++◌, refl, mod-lt, lit<}
 use Rattle.std.specs.List.{fold}
 use Rattle.fnv.specs.Fnv.{start, step, sum_from, sum}
 
@@ -26,12 +26,6 @@ pub sum_from_lt : (h : ℕ) (bs : List ℕ) → h < 2 ^ 64 → sum_from h bs < 2
 unfolding sum_from
 sum_from_lt h [] l = l
 sum_from_lt h (b ∷ bs) l = sum_from_lt (step h b) bs (step_lt h b)
-
--- one more byte of s
-pub sum_from-next : (h : ℕ) (s : List ℕ) (i : ℕ) → i < length s
-    → sum_from h (take (i + 1) s) ≡ step (sum_from h (take i s)) (get_or s i 0)
-unfolding sum_from
-sum_from-next h s i l = rw (add-one, take-suc s i 0) (sum_from-append h (take i s) (get_or s i 0 ∷ []))
 
 pub sum_nil : sum [] ≡ start
 unfolding sum sum_from

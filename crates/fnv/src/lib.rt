@@ -4,7 +4,7 @@
 mod product;
 
 ghost use Rattle.std.specs.Prelude.{◌≡◌, ◌*◌, ◌%◌, ◌^◌};
-ghost use Rattle.fnv.specs.Fnv.{prime, step as Fnv-step, sum_from};
+ghost use Rattle.fnv.specs.Fnv.{prime, step, sum_from};
 
 // The sum of no bytes.
 pub const START: u64 = 14695981039346656037;
@@ -13,12 +13,12 @@ pub const START: u64 = 14695981039346656037;
 fn mul_prime(a: u64) -> u64
     ensures { result ≡ (a * prime) % 2 ^ 64 }
 {
-    std::num::wrapping_add_u64(product::mul_wrap(a), a << 40)
+    product::mul_wrap(a).wrapping_add(a << 40)
 }
 
 // One more byte: xor it in, then multiply.
 pub fn step(h: u64, b: u8) -> u64
-    ensures { result ≡ Fnv-step h b }
+    ensures { result ≡ step h b }
 {
     mul_prime(h ^ (b as u64))
 }

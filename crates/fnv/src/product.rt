@@ -45,5 +45,5 @@ pub(crate) fn mul_wrap(a: u64) -> u64
     let table = MULTIPLES;
     let h0 = half(&table, a % 4294967296);
     let h1 = half(&table, a / 4294967296);
-    std::num::wrapping_add_u64(h0, h1 << 32)
+    h0.wrapping_add(h1 << 32)
 }

@@ -1,15 +1,20 @@
 -- The laws of comparing: slots and data blocks, one after the other; a block as laid; and what a yes means.
-use Rattle.std.specs.Prelude.{Option, Some, None}
-use Prim.Native.Nat.{ℕ, zero, suc, ◌+◌, ◌≤◌, ◌<◌}
+use Rattle.std.specs.Prelude.{Option, Some, None, Ok, Err, is_some}
+use Prim.Native.Nat.{ℕ, zero, suc, ◌+◌, ◌<◌}
 use mathlib.Core.Path.{◌≡◌, refl, ap, ap₂, sym, ◌∙◌}
-use mathlib.Core.Bool.{Bool, true, false, cond, ◌&&◌, and-false}
+use mathlib.Core.Bool.{Bool, true, false, cond, ◌&&◌}
 use mathlib.Core.Logic.{◌≢◌, ◌↔◌}
-use mathlib.Core.List.{List}
+use mathlib.Core.List.{List, [], ◌∷◌, map}
+use native.Mathlib.Nat.{zero-add}
 use native.Mathlib.Numerals.{add-one}
 use native.Mathlib.Decide.{ℕ_discrete}
 use native.Mathlib.Omega.{arith}
 use borrow.Author.Tests.{eq-eqb, ne_eqb, eqb-true, eqb-false}
 use lib.Dec.{eqb}
+use Rattle.std.specs.List.{list_all, range_with_len}
+use Rattle.std.proofs.lemmas.List.Folds.{list_all-append, list_all-map}
+use Rattle.std.proofs.lemmas.List.FromFn.{map-range_with_len_more}
+use Rattle.std.proofs.Math.Bool.{and-true}
 use Rattle.cells.specs.Same.{same}
 use Rattle.cells.specs.Same.Laws.{same_equal, same_self}
 use Rattle.cells.specs.Upto.Laws.{ext_up_to}
@@ -23,10 +28,13 @@ use Rattle.journal.specs.Log.{slot_address, slot_entry, entries}
 use Rattle.journal.specs.Lookup.{last_slot}
 use Rattle.journal.proofs.Logs.{both, data_bounds, bounds_data}
 use Rattle.journal.proofs.Lookups.{found_in, overlay_slots}
+use Rattle.refusals.specs.declared.Refusal.{Refusal}
+use Rattle.refusals.specs.Numbers.{number_of}
 use Rattle.inspect.specs.declared.reading.Reading.{Reading}
 use Rattle.inspect.specs.Reading.{inspection, chosen_count, laid, laid_over, data_blocks}
-use Rattle.inspect.specs.Alike.{same_data, same_slot, same_slots, refusal, alike_of, Same}
-use Rattle.inspect.proofs.Readings.{TakenList}
+use Rattle.inspect.specs.Alike.{same_data, same_slot, same_slots, refusal, alike_of, alike_answer, Same}
+use Rattle.inspect.specs.CodeReading.{Taken}
+use Rattle.inspect.proofs.Readings.{refusal_positive}
 
 -- ---- a test of numbers, one after the other
 
@@ -36,18 +44,15 @@ pub record Each (test all : ℕ → Bool) : Type 0 where
   pub more : (k : ℕ) → all (suc k) ≡ all k && test k
 
 module _ {test all : ℕ → Bool} (o : Each test all) where
-  -- one more
-  pub each_next : (k : ℕ) → all k ≡ true → test k ≡ true → all (k + 1) ≡ true
-  each_next k before e = rw (add-one, o.more k, before, e)
-
-  -- one that fails decides
-  pub each_unlike : (k i : ℕ) → i < k → test i ≡ false → false ≡ all k
-  each_unlike zero i h e = absurd (omega arith)
-  each_unlike (suc k) i h e = go (ℕ_discrete i k) (λ q. each_unlike k i q e) ∙ sym (o.more k)
-    where
-      go : Dec (i ≡ k) → (i < k → false ≡ all k) → false ≡ all k && test k
-      go (yes p) below = sym (and-false (all k)) ∙ ap (λ (t : Bool). all k && t) (sym e ∙ ap test p)
-      go (no p) below = ap (λ (t : Bool). t && test k) (below (omega arith))
+  -- as the library's `all` says it, of the numbers from a on
+  pub each-all : (t : ℕ → Bool) (a : ℕ) → ((k : ℕ) → t (a + k) ≡ test k) → (k : ℕ) → list_all t (range_with_len a k) ≡ all k
+  each-all t a e zero = sym o.none
+  each-all t a e (suc k) =
+      ap (λ (n : ℕ). list_all t (range_with_len a n)) (sym (add-one k))
+      ∙ sym (list_all-map (λ b. b) t (range_with_len a (k + 1)))
+      ∙ ap (list_all (λ b. b)) (map-range_with_len_more t a k (a + k) refl)
+      ∙ list_all-append (λ b. b) (map t (range_with_len a k)) (t (a + k) ∷ [])
+      ∙ rw (list_all-map (λ b. b) t (range_with_len a k), each-all t a e k, and-true (t (a + k)), e k) (sym (o.more k))
 
   -- what a yes means
   each_passes : (k : ℕ) → all k ≡ true → (i : ℕ) → i < k → test i ≡ true
@@ -63,32 +68,23 @@ module _ {test all : ℕ → Bool} (o : Each test all) where
   passes_each (suc k) h = rw (o.more k, passes_each k (λ i p. h i (omega arith)), h k (omega arith))
 
 module _ (geo : Geometry) where
-  -- ---- data blocks, those below x found equal
+  -- ---- data blocks
 
   each_data : (c d : Disk) → Each (λ k. same (c (first_data geo + k)) (d (first_data geo + k))) (same_data geo c d)
   unfolding same_data
   each_data c d = record { none = refl; more = λ k. refl }
 
-  pub data_none : (c d : Disk) (x : ℕ) → x ≡ first_data geo → same_data geo c d (data_blocks geo x) ≡ true
-  data_none c d x h = let e : data_blocks geo x ≡ 0 = omega arith in rw e (each_data c d).none
-
-  pub data_next : (c d : Disk) (x : ℕ) → first_data geo ≤ x → same_data geo c d (data_blocks geo x) ≡ true → same (c x) (d x) ≡ true
-      → same_data geo c d (data_blocks geo (x + 1)) ≡ true
-  data_next c d x h before e =
-      let more : data_blocks geo (x + 1) ≡ data_blocks geo x + 1 = omega arith in
-      let here : first_data geo + data_blocks geo x ≡ x = omega arith in
-      rw more (each_next (each_data c d) (data_blocks geo x) before (rw here e))
-
-  pub data_unlike : (c d : Disk) (x N : ℕ) → first_data geo ≤ x → x < N → same (c x) (d x) ≡ false → false ≡ same_data geo c d (data_blocks geo N)
-  data_unlike c d x N h l e =
-      let here : first_data geo + data_blocks geo x ≡ x = omega arith in
-      each_unlike (each_data c d) (data_blocks geo N) (data_blocks geo x) (omega arith) (rw here e)
+  pub data-all : (c d : Disk) (k : ℕ) → list_all (λ x. same (c x) (d x)) (range_with_len (first_data geo) k) ≡ same_data geo c d k
+  data-all c d = each-all (each_data c d) (λ x. same (c x) (d x)) (first_data geo) (λ k. refl)
 
   -- ---- slots
 
-  pub each_slot : (a b : List ℕ) → Each (same_slot geo a b) (same_slots geo a b)
+  each_slot : (a b : List ℕ) → Each (same_slot geo a b) (same_slots geo a b)
   unfolding same_slots
   each_slot a b = record { none = refl; more = λ k. refl }
+
+  pub slots-all : (a b : List ℕ) (n : ℕ) → list_all (same_slot geo a b) (range_with_len 0 n) ≡ same_slots geo a b n
+  slots-all a b = each-all (each_slot a b) (same_slot geo a b) 0 (λ k. ap (same_slot geo a b) (zero-add k))
 
   slot_equal : (a b : List ℕ) (i : ℕ) → same_slot geo a b i ≡ true → slot_entry geo a i ≡ slot_entry geo b i
   unfolding same_slot slot_entry
@@ -103,11 +99,16 @@ module _ (geo : Geometry) where
   slots_equal : (a b : List ℕ) (n : ℕ) → same_slots geo a b n ≡ true → (i : ℕ) → i < n → slot_entry geo a i ≡ slot_entry geo b i
   slots_equal a b n e i h = slot_equal a b i (each_passes (each_slot a b) n e i h)
 
-  -- a slot's two addresses and two blocks, as they were read
-  pub slot_read : (a b : List ℕ) (i x y : ℕ) (u v : List ℕ) (t : Bool) → x ≡ slot_address a i → y ≡ slot_address b i
-      → u ≡ block_at a (slot_at geo i) → v ≡ block_at b (slot_at geo i) → t ≡ same u v → eqb x y && t ≡ same_slot geo a b i
-  unfolding same_slot
-  slot_read a b i x y u v t p q f g e = rw (p, q, e, f, g)
+  -- a slot's two addresses, as they were read
+  module _ (a b : List ℕ) (i x y : ℕ) (p : x ≡ slot_address a i) (q : y ≡ slot_address b i) where
+    pub slot_unlike : x ≢ y → eqb x y ≡ same_slot geo a b i
+    unfolding same_slot
+    slot_unlike h = let no : eqb x y ≡ false = ne_eqb x y h in rw (← p, ← q, no)
+
+    -- and its two blocks
+    pub slot_alike : (u v : List ℕ) (t : Bool) → x ≡ y → u ≡ block_at a (slot_at geo i) → v ≡ block_at b (slot_at geo i) → t ≡ same u v → t ≡ same_slot geo a b i
+    unfolding same_slot
+    slot_alike u v t h f g e = let one : eqb x y ≡ true = eq-eqb x y h in rw (e, f, g, ← p, ← q, one)
 
   -- ---- a block as laid, where the same n entries are laid over both
 
@@ -132,50 +133,37 @@ module _ (geo : Geometry) where
     pub home_same : same (block_at a x) (block_at b x) ≡ true → true ≡ same (laid geo a n x) (laid geo b n x)
     home_same h = sym (laid-found (last_slot a x n) refl ∙ rw (same_equal (block_at a x) (block_at b x) h) (same_self (slot_or a (last_slot a x n) (block_at b x))))
 
-    -- in the log
-    pub logged_same : (i : ℕ) → last_slot a x n ≡ Some i → true ≡ same (laid geo a n x) (laid geo b n x)
-    logged_same i p = sym (laid-found (Some i) p ∙ same_self (block_at a (slot_at geo i)))
-
-    -- neither
-    pub home_unlike : last_slot a x n ≡ None → same (block_at a x) (block_at b x) ≡ false → false ≡ same (laid geo a n x) (laid geo b n x)
-    home_unlike p h = sym (laid-found None p ∙ h)
-
-  -- ---- the same n entries, and the same data blocks
-
-  module _ (a b : List ℕ) (n : ℕ) (e : Bool) where
-    pub slots_unlike : (t : Bool) → t ≡ same_slots geo a b n → t ≡ false → false ≡ same_slots geo a b n && e
-    slots_unlike t p h = rw (← p, h)
-
-    pub slots_same : (t d : Bool) → d ≡ e → t ≡ same_slots geo a b n → t ≡ true → d ≡ same_slots geo a b n && e
-    slots_same t d q p h = rw (← p, h, q)
+    -- unlike there, so that the log decides
+    pub home_unlike : same (block_at a x) (block_at b x) ≡ false → is_some (last_slot a x n) ≡ same (laid geo a n x) (laid geo b n x)
+    home_unlike h = go (last_slot a x n) refl
+      where
+        go : (r : Option ℕ) → last_slot a x n ≡ r → is_some r ≡ same (laid geo a n x) (laid geo b n x)
+        go (Some i) p = sym (laid-found (Some i) p ∙ same_self (block_at a (slot_at geo i)))
+        go None p = sym (laid-found None p ∙ h)
 
   -- ---- the answer of alike
 
   module _ (a b : List ℕ) where
-    pub alike_first : (k : ℕ) → k ≡ inspection geo a → k ≢ 0 → record { number = k; yes = false } ≡ alike_of geo a b
+    pub alike_first : (e : Refusal) → number_of e ≡ inspection geo a → alike_answer (Err e) ≡ alike_of geo a b
     unfolding alike_of
-    alike_first k e h = rw (← e, ne_eqb k 0 h, ne_eqb k 0 h)
+    alike_first e h = rw (← h, ne_eqb (number_of e) 0 (refusal_positive e), ne_eqb (number_of e) 0 (refusal_positive e))
 
-    pub alike_second : (k : ℕ) → inspection geo a ≡ 0 → k ≡ inspection geo b → k ≢ 0 → record { number = k; yes = false } ≡ alike_of geo a b
+    pub alike_second : (e : Refusal) → inspection geo a ≡ 0 → number_of e ≡ inspection geo b → alike_answer (Err e) ≡ alike_of geo a b
     unfolding alike_of
-    alike_second k p e h = rw (p, ← e, ne_eqb k 0 h)
+    alike_second e z h = rw (z, ← h, ne_eqb (number_of e) 0 (refusal_positive e))
 
-    pub alike_blocks : (r q : Reading) → TakenList geo a r → TakenList geo b q → r.blocks ≢ q.blocks → record { number = 0; yes = false } ≡ alike_of geo a b
-    unfolding alike_of
-    alike_blocks r q x y h = rw (x.none, y.none, ne_eqb (blocks_in a) (blocks_in b) (λ e. h (x.blocks ∙ e ∙ sym y.blocks)))
+    module _ (r q : Reading) (x : Taken geo a r) (y : Taken geo b q) where
+      pub alike_unlike : eqb r.blocks q.blocks && eqb r.count q.count ≡ false → alike_answer (Ok false) ≡ alike_of geo a b
+      unfolding alike_of
+      alike_unlike h = rw (x.none, y.none, ← x.count, ← y.count, ← x.blocks, ← y.blocks, h)
 
-    pub alike_counts : (r q : Reading) → TakenList geo a r → TakenList geo b q → r.count ≢ q.count → record { number = 0; yes = false } ≡ alike_of geo a b
-    unfolding alike_of
-    alike_counts r q x y h =
-        rw (x.none, y.none, ne_eqb (chosen_count geo a) (chosen_count geo b) (λ e. h (x.count ∙ e ∙ sym y.count)), and-false (eqb (blocks_in a) (blocks_in b)))
-
-    pub alike_contents : (r q : Reading) (t : Bool) → TakenList geo a r → TakenList geo b q → r.blocks ≡ q.blocks → r.count ≡ q.count
-        → t ≡ same_slots geo a b r.count && same_data geo (laid geo a r.count) (laid geo b r.count) (data_blocks geo r.blocks)
-        → record { number = 0; yes = t } ≡ alike_of geo a b
-    unfolding alike_of
-    alike_contents r q t x y h k e =
-        let counts : chosen_count geo a ≡ chosen_count geo b = sym x.count ∙ k ∙ y.count in
-        rw (x.none, y.none, eq-eqb (blocks_in a) (blocks_in b) (sym x.blocks ∙ h ∙ y.blocks), eq-eqb (chosen_count geo a) (chosen_count geo b) counts, e, x.blocks, x.count, counts)
+      pub alike_contents : (t : Bool) → eqb r.blocks q.blocks && eqb r.count q.count ≡ true
+          → t ≡ same_slots geo a b r.count && same_data geo (laid geo a r.count) (laid geo b r.count) (data_blocks geo r.blocks)
+          → alike_answer (Ok t) ≡ alike_of geo a b
+      unfolding alike_of
+      alike_contents t h e =
+          let counts : r.count ≡ q.count = eqb-true _ _ (both _ _ h).1 in
+          rw (x.none, y.none, ← x.count, ← y.count, ← x.blocks, ← y.blocks, h, e, counts)
 
   -- ---- yes
 

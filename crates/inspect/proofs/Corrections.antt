@@ -2,13 +2,13 @@
 use Rattle.std.specs.Prelude.{Option, Some, None}
 use Prim.Native.Nat.{ℕ, ◌+◌, ◌≤◌, ◌<◌}
 use mathlib.Core.Path.{◌≡◌, refl, ap, sym, ◌∙◌}
-use mathlib.Core.Bool.{Bool, true, false, cond, ◌&&◌, true≢false}
-use mathlib.Core.Logic.{◌≢◌, ◌↔◌}
+use mathlib.Core.Bool.{Bool, true, cond}
+use mathlib.Core.Logic.{◌≢◌}
 use mathlib.Core.List.{List}
 use native.Mathlib.Decide.{ℕ_discrete, dec_lt}
 use native.Mathlib.Omega.{arith}
-use borrow.Author.Tests.{lt-ltb, le-ltb, eq-eqb, eqb-true}
-use lib.Dec.{ltb, eqb}
+use borrow.Author.Tests.{lt-ltb, le-ltb}
+use lib.Dec.{ltb}
 use Rattle.card.specs.Card.{block_at}
 use Rattle.card.specs.Disk.{Disk, lay}
 use Rattle.card.proofs.Overlays.{lay-same, lay_other}
@@ -16,7 +16,7 @@ use Rattle.journal.specs.Geometry.{Geometry}
 use Rattle.journal.specs.Layout.{slot_at, first_data, is_data}
 use Rattle.journal.specs.Log.{slot_address, slot_entry}
 use Rattle.journal.specs.Lookup.{last_slot}
-use Rattle.journal.proofs.Logs.{both, bounds_data}
+use Rattle.journal.proofs.Logs.{bounds_data}
 use Rattle.journal.proofs.Lookups.{Means, found_in, last_means, last_at, overlay_slots}
 use Rattle.inspect.specs.Reading.{laid, data_blocks}
 use Rattle.inspect.specs.Tally.{sum_bytes, sum_data}
@@ -80,31 +80,10 @@ module _ (geo : Geometry) (s : List ℕ) (n : ℕ) where
 
 -- ---- the test
 
-at_equal : (k i : ℕ) → Some k ≡ Some i → k ≡ i
-at_equal k i e = cc
-
-absent_found : (i : ℕ) → None ≡ Some i → ⊥
-absent_found i e = let z : ◌≡◌ {A = ℕ} 0 1 = cc in omega arith
-
 module _ (geo : Geometry) (s : List ℕ) (N n i : ℕ) where
   -- slot i is the last with its address, and the address is a data block's
   abbrev pub Decides : Type 0
   Decides = (is_data geo N (slot_address s i) ≡ true) × (last_slot s (slot_address s i) n ≡ Some i)
-
-  -- the lookup of its address is that of the address that was read
-  of_read : (a : ℕ) → a ≡ slot_address s i → last_slot s (slot_address s i) n ≡ last_slot s a n
-  of_read a p = ap (λ (x : ℕ). last_slot s x n) (sym p)
-
-  -- a lookup that found nothing
-  pub absent_decides : (a : ℕ) → a ≡ slot_address s i → last_slot s a n ≡ None → (false ≡ true) ↔ Decides
-  absent_decides a p e = (λ z. absurd (true≢false (sym z)), λ d. absurd (absent_found i (sym (of_read a p ∙ e) ∙ d.1)))
-
-  -- one that found slot k
-  pub found_decides : (a k : ℕ) (t : Bool) → a ≡ slot_address s i → last_slot s a n ≡ Some k → t ≡ is_data geo N a → (t && eqb k i ≡ true) ↔ Decides
-  found_decides a k t p e d = (
-    λ z. let q = both _ _ z in (ap (is_data geo N) (sym p) ∙ sym d ∙ q.0, of_read a p ∙ e ∙ ap Some (eqb-true k i q.1)),
-    λ z. rw (d ∙ ap (is_data geo N) p ∙ z.0, eq-eqb k i (at_equal k i (sym (of_read a p ∙ e) ∙ z.1))),
-  )
 
 -- ---- the sum, one slot after the other
 

@@ -2,6 +2,7 @@
 use Prim.Native.Nat.{ℕ, ◌%◌, ◌≤◌, ◌<◌}
 use mathlib.Core.Path.{◌≡◌, refl, ap, sym, ◌∙◌}
 use mathlib.Core.Bool.{Bool, true, false, cond, not, ◌||◌}
+use mathlib.Core.Logic.{◌≢◌, ◌⊎◌, ⊎_elim}
 use mathlib.Core.List.{List}
 use native.Mathlib.Omega.{arith}
 use borrow.Author.Tests.{ltb-false}
@@ -11,13 +12,33 @@ use Rattle.cells.specs.Entry.{block_bytes}
 use Rattle.card.specs.Card.{blocks_in}
 use Rattle.journal.specs.Geometry.{Geometry}
 use Rattle.journal.specs.declared.choice.Choice.{Choice}
+use Rattle.journal.specs.declared.choice.Choice.TheVariants.{Whole, Fallback}
 use Rattle.journal.specs.Layout.{first_data, least_blocks, most_blocks, wrong_size}
-use Rattle.journal.specs.Choice.{choice_number, taken_count}
+use Rattle.journal.specs.Choice.{choose, choice_number, taken_count}
 use Rattle.journal.proofs.Choices.{taken-count}
 use Rattle.journal.proofs.Logs.{neither}
+use Rattle.refusals.specs.declared.Refusal.{Refusal}
+use Rattle.refusals.specs.declared.Refusal.TheVariants.{Size, Record, Closed, Down, Open, Address, Full, Foreign, Unsound, Marks, LastSave, InUse, Listed}
+use Rattle.refusals.specs.Numbers.{number_of}
 use Rattle.inspect.specs.declared.reading.Reading.{Reading}
-use Rattle.inspect.specs.Reading.{chosen, inspection, chosen_count}
-use Rattle.inspect.specs.CodeReading.{Read}
+use Rattle.inspect.specs.Reading.{chosen, inspection}
+use Rattle.inspect.specs.CodeReading.{Taken}
+
+-- no refusal is numbered 0
+pub refusal_positive : (e : Refusal) → number_of e ≢ 0
+refusal_positive Size z = absurd (omega arith)
+refusal_positive Record z = absurd (omega arith)
+refusal_positive Closed z = absurd (omega arith)
+refusal_positive Down z = absurd (omega arith)
+refusal_positive Open z = absurd (omega arith)
+refusal_positive Address z = absurd (omega arith)
+refusal_positive Full z = absurd (omega arith)
+refusal_positive Foreign z = absurd (omega arith)
+refusal_positive Unsound z = absurd (omega arith)
+refusal_positive Marks z = absurd (omega arith)
+refusal_positive LastSave z = absurd (omega arith)
+refusal_positive InUse z = absurd (omega arith)
+refusal_positive Listed z = absurd (omega arith)
 
 -- ---- the size
 
@@ -55,29 +76,26 @@ module _ (geo : Geometry) where
 
   -- ---- what the code has read
 
-  pub read_refused : (s : List ℕ) (k : ℕ) → 0 < k → inspection geo s ≡ k → Read geo s (record { number = k; blocks = 0; count = 0 })
-  read_refused s k h e = record { number = sym e; blocks = λ z. absurd (omega arith); count = λ z. absurd (omega arith) }
+  -- a list that is chosen by the N that was read
+  read_chosen : (s : List ℕ) (t : Choice) (N n : ℕ) → N ≡ blocks_in s → wrong_size geo s ≡ false → choose geo N s ≡ t → choice_number t ≡ 0 → taken_count t ≡ n
+      → Taken geo s (record { blocks = N; count = n })
+  read_chosen s t N n b e p z k =
+      let here : chosen geo s ≡ t = rw (← b) p in
+      record { none = right-chosen s t e here ∙ z; blocks = b; count = sym (ap taken_count here ∙ k) }
 
-  pub read_accepted : (s : List ℕ) (t : Choice) (n : ℕ) → wrong_size geo s ≡ false → chosen geo s ≡ t → choice_number t ≡ 0 → taken_count t ≡ n
-      → Read geo s (record { number = 0; blocks = blocks_in s; count = n })
-  read_accepted s t n e p z k =
-      record { number = sym (right-chosen s t e p ∙ z); blocks = λ _. refl; count = λ _. sym (ap taken_count p ∙ k) }
+  -- either list
+  pub read_listed : (s : List ℕ) (t : Choice) (N n : ℕ) → N ≡ blocks_in s → wrong_size geo s ≡ false → choose geo N s ≡ t
+      → ((sum : ℕ) × (save : ℕ) × (t ≡ Whole n sum save)) ⊎ ((sum : ℕ) × (save : ℕ) × (t ≡ Fallback n sum save))
+      → Taken geo s (record { blocks = N; count = n })
+  read_listed s t N n b e p w =
+      ⊎_elim
+      (λ x. read_chosen s _ N n b e (p ∙ x.2) refl refl)
+      (λ x. read_chosen s _ N n b e (p ∙ x.2) refl refl)
+      w
 
-  -- a reading with no refusal
-  pub record TakenList (s : List ℕ) (r : Reading) : Type 0 where
-    pub none : inspection geo s ≡ 0
-    pub size : Sized s
-    pub blocks : r.blocks ≡ blocks_in s
-    pub count : r.count ≡ chosen_count geo s
-    pub fits : r.count ≤ geo.slots
+  pub taken_size : (s : List ℕ) (card : Reading) → Taken geo s card → Sized s
+  taken_size s card t = accepted_size s t.none
 
-  pub read_taken : (s : List ℕ) (r : Reading) → Read geo s r → r.number ≡ 0 → TakenList s r
-  read_taken s r h z =
-      let none : inspection geo s ≡ 0 = sym h.number ∙ z in
-      record {
-        none = none;
-        size = accepted_size s none;
-        blocks = h.blocks z;
-        count = h.count z;
-        fits = rw (h.count z) (taken-count geo (blocks_in s) s);
-      }
+  -- the list fits into the slots
+  pub taken_fits : (s : List ℕ) (card : Reading) → Taken geo s card → card.count ≤ geo.slots
+  taken_fits s card t = rw t.count (taken-count geo (blocks_in s) s)

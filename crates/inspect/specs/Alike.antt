@@ -1,15 +1,26 @@
 -- "alike, for two cards, the first one's refusal first: yes exactly if N and all data blocks so laid are equal." W-208: "alike is yes
 -- exactly if, besides equal N and data, both chosen logs have the same count and the same entry in each slot. The save number takes no
 -- part."
-use Rattle.std.specs.Prelude.{ℕ, zero, suc, ◌+◌, ◌<◌, ◌≡◌, Bool, true, cond, ◌&&◌, List, eqb}
+use Rattle.std.specs.Prelude.{ℕ, zero, suc, ◌+◌, ◌<◌, ◌≡◌, Bool, true, false, cond, ◌&&◌, List, eqb, Result, Ok, Err}
 use Rattle.cells.specs.Same.{same}
 use Rattle.card.specs.Disk.{Disk}
 use Rattle.card.specs.Card.{blocks_in, block_at}
 use Rattle.journal.specs.Geometry.{Geometry}
 use Rattle.journal.specs.Layout.{first_data, slot_at, is_data}
 use Rattle.journal.specs.Log.{slot_address, slot_entry}
-use Rattle.inspect.specs.declared.answer.Alike.{Alike}
+use Rattle.refusals.specs.declared.Refusal.{Refusal}
+use Rattle.refusals.specs.Numbers.{number_of}
 use Rattle.inspect.specs.Reading.{inspection, chosen_count, laid_over, data_blocks}
+
+-- the refusal, or 0; and yes or no, which is no where a card is refused
+pub record Alike : Type 0 where
+  pub number : ℕ
+  pub yes : Bool
+
+-- what the code answers, as these two
+abbrev pub alike_answer : Result Bool Refusal → Alike
+alike_answer (Ok same) = record { number = 0; yes = same }
+alike_answer (Err refusal) = record { number = number_of refusal; yes = false }
 
 module _ (geo : Geometry) where
   -- the first k data blocks of two disks are equal
@@ -38,7 +49,7 @@ module _ (geo : Geometry) where
       && same_slots a b (chosen_count geo a)
       && same_data (laid_over geo a) (laid_over geo b) (data_blocks geo (blocks_in a))
 
-  -- the refusal, or 0; and yes or no, which is no where a card is refused
+  -- the refusal and the answer of two cards
   unfoldable pub alike_of : List ℕ → List ℕ → Alike
   alike_of a b = record { number = refusal a b; yes = eqb (refusal a b) 0 && same_cards a b }
 

@@ -5,15 +5,15 @@ ghost use Rattle.card.specs.Card.{blocks_in};
 ghost use Rattle.journal.specs.Geometry.{trap};
 ghost use Rattle.journal.specs.Layout.{first_data};
 ghost use Rattle.inspect.specs.Reading.{data_blocks, laid};
-ghost use Rattle.inspect.specs.Alike.{same_data, same_slot, same_slots, alike_of};
+ghost use Rattle.inspect.specs.Alike.{same_data, same_slot, same_slots, alike_of, alike_answer};
 
-use crate::answer::Alike;
 use crate::reading::inspect;
 use card::settled::read;
 use cells::bytes::same;
 use journal::FIRST_DATA;
 use journal::log::{slot_address, slot_block};
 use journal::lookup::last_slot;
+use refusals::Refusal;
 
 // Whether slot i of two cards holds the same entry, address and block.
 fn same_slot(a: &[u8], b: &[u8], i: u32) -> bool
@@ -22,7 +22,7 @@ fn same_slot(a: &[u8], b: &[u8], i: u32) -> bool
     requires i_lt_slots { i < trap.slots }
     ensures { result ≡ same_slot trap a.now b.now i }
 {
-    (slot_address(a, i) == slot_address(b, i)) & same(slot_block(a, i), slot_block(b, i))
+    slot_address(a, i) == slot_address(b, i) && same(slot_block(a, i), slot_block(b, i))
 }
 
 // Whether the first n slots of two cards hold the same entries.
@@ -32,14 +32,7 @@ fn same_slots(a: &[u8], b: &[u8], n: u32) -> bool
     requires n_le_slots { n ≤ trap.slots }
     ensures { result ≡ same_slots trap a.now b.now n }
 {
-    let mut i = 0;
-    while i < n {
-        if !same_slot(a, b, i) {
-            return false;
-        }
-        i += 1;
-    }
-    true
+    (0..n).all(|i| same_slot(a, b, i))
 }
 
 // Whether block x is the same on two cards, the same n entries laid over both: at home, or else by the log, which is searched only then.
@@ -51,13 +44,7 @@ fn same_block(a: &[u8], b: &[u8], x: u32, n: u32) -> bool
     requires n_value { same_slots trap a.now b.now n ≡ true }
     ensures { result ≡ Same.same (laid trap a.now n x) (laid trap b.now n x) }
 {
-    if same(read(a, x), read(b, x)) {
-        return true;
-    }
-    match last_slot(a, x, n) {
-        Some(_) => true,
-        None => false,
-    }
+    same(read(a, x), read(b, x)) || last_slot(a, x, n).is_some()
 }
 
 // Whether all data blocks of two cards are equal, the same n entries laid over both.
@@ -68,14 +55,7 @@ fn same_data(a: &[u8], b: &[u8], blocks: u32, n: u32) -> bool
     requires n_value { same_slots trap a.now b.now n ≡ true }
     ensures { result ≡ same_data trap (laid trap a.now n) (laid trap b.now n) (data_blocks trap blocks) }
 {
-    let mut x = FIRST_DATA;
-    while x < blocks {
-        if !same_block(a, b, x, n) {
-            return false;
-        }
-        x += 1;
-    }
-    true
+    (FIRST_DATA..blocks).all(|x| same_block(a, b, x, n))
 }
 
 // Whether two cards of the same N hold the same n entries and the same data blocks.
@@ -86,38 +66,14 @@ fn same_contents(a: &[u8], b: &[u8], blocks: u32, n: u32) -> bool
     requires n_le_slots { n ≤ trap.slots }
     ensures { result ≡ same_slots trap a.now b.now n && same_data trap (laid trap a.now n) (laid trap b.now n) (data_blocks trap blocks) }
 {
-    if !same_slots(a, b, n) {
-        return false;
-    }
-    same_data(a, b, blocks, n)
+    same_slots(a, b, n) && same_data(a, b, blocks, n)
 }
 
 // Whether two cards are alike, or the refusal of the first one, else of the second.
-pub fn alike(a: &[u8], b: &[u8]) -> Alike
-    ensures { result ≡ alike_of trap a.now b.now }
+pub fn alike(a: &[u8], b: &[u8]) -> Result<bool, Refusal>
+    ensures { alike_answer result ≡ alike_of trap a.now b.now }
 {
-    let first = inspect(a);
-    if first.number != 0 {
-        return Alike {
-            number: first.number,
-            yes: false,
-        };
-    }
-    let second = inspect(b);
-    if second.number != 0 {
-        return Alike {
-            number: second.number,
-            yes: false,
-        };
-    }
-    if first.blocks != second.blocks || first.count != second.count {
-        return Alike {
-            number: 0,
-            yes: false,
-        };
-    }
-    Alike {
-        number: 0,
-        yes: same_contents(a, b, first.blocks, first.count),
-    }
+    let first = inspect(a)?;
+    let second = inspect(b)?;
+    Ok(first == second && same_contents(a, b, first.blocks, first.count))
 }

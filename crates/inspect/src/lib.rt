@@ -2,6 +2,5 @@
 #![tactic(auto)]
 
 pub mod alike;
-pub mod answer;
 mod reading;
 pub mod tally;

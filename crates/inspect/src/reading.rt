@@ -1,54 +1,30 @@
 // A card as recover would find it: its size, and the list chosen.
-ghost use Rattle.std.specs.Prelude.{◌≡◌};
 ghost use Rattle.journal.specs.Geometry.{trap};
 ghost use Rattle.inspect.specs.CodeReading.{Read};
 
 use card::settled::blocks_in;
 use journal::choice::{Choice, choose};
 use journal::size::wrong_size;
+use refusals::Refusal;
 
-// A card that was read: the refusal, or 0; and where it is 0, N and the count of the list taken.
-#[derive(Clone, Copy)]
+// A card that was read: N, and the count of the list taken.
+#[derive(Clone, Copy, PartialEq, Eq)]
 pub struct Reading {
-    pub number: u32,
     pub blocks: u32,
     pub count: u32,
 }
 
-// A card that is refused.
-fn refused(number: u32) -> Reading
-    ensures { result ≡ record { number = number; blocks = 0; count = 0 } }
-{
-    Reading {
-        number,
-        blocks: 0,
-        count: 0,
-    }
-}
-
-// A card that is taken.
-fn accepted(blocks: u32, count: u32) -> Reading
-    ensures { result ≡ record { number = 0; blocks = blocks; count = count } }
-{
-    Reading {
-        number: 0,
-        blocks,
-        count,
-    }
-}
-
-// Reads a card: 1 for its size, 8 or 9 where there is no list to take.
-pub(crate) fn inspect(settled: &[u8]) -> Reading
+// Reads a card, which is refused for its size, and where there is no list to take.
+pub(crate) fn inspect(settled: &[u8]) -> Result<Reading, Refusal>
     ensures { Read trap settled.now result }
 {
     if wrong_size(settled) {
-        return refused(1);
+        return Err(Refusal::Size);
     }
     let blocks = blocks_in(settled) as u32;
     match choose(settled, blocks) {
-        Choice::Whole(n, _, _) => accepted(blocks, n),
-        Choice::Fallback(n, _, _) => accepted(blocks, n),
-        Choice::Foreign => refused(8),
-        Choice::Neither => refused(9),
+        Choice::Whole(count, _, _) | Choice::Fallback(count, _, _) => Ok(Reading { blocks, count }),
+        Choice::Foreign => Err(Refusal::Foreign),
+        Choice::Neither => Err(Refusal::Unsound),
     }
 }

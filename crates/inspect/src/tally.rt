@@ -7,32 +7,24 @@ ghost use Rattle.journal.specs.Layout.{first_data, slot_at, is_data, most_blocks
 ghost use Rattle.journal.specs.Log.{slot_address};
 ghost use Rattle.journal.specs.Lookup.{last_slot};
 ghost use Rattle.inspect.specs.Reading.{data_blocks, laid};
-ghost use Rattle.inspect.specs.Tally.{sum_bytes, sum_data, tally_of};
+ghost use Rattle.inspect.specs.Tally.{sum_bytes, sum_data, tally_of, tally_answer};
 
-use crate::answer::Tally;
 use crate::reading::inspect;
 use card::settled::read;
-use cells::BLOCK;
 use journal::FIRST_DATA;
 use journal::log::{is_data, slot_address, slot_block};
 use journal::lookup::last_slot;
+use refusals::Refusal;
 
 // A loop of this known length is unrolled, and its bytes are added up sixteen at a time.
 const CHUNK: usize = 64;
 
 // The sum of a chunk's bytes.
-fn sum_chunk(chunk: &[u8]) -> u32
-    requires { length chunk.now ≡ 64 }
+fn sum_chunk(chunk: &[u8; CHUNK]) -> u32
     ensures value { result ≡ sum_bytes chunk.now }
     ensures upper_bound { result ≤ 255 * 64 }
 {
-    let mut sum: u32 = 0;
-    let mut i = 0;
-    while i < CHUNK {
-        sum += chunk[i] as u32;
-        i += 1;
-    }
-    sum
+    chunk.iter().map(|&b| b as u32).sum()
 }
 
 // The sum of a block's bytes, chunk by chunk.
@@ -41,14 +33,18 @@ fn sum_bytes(block: &[u8]) -> u64
     ensures value { result ≡ sum_bytes block.now }
     ensures upper_bound { result ≤ 255 * block_bytes }
 {
-    let mut sum: u32 = 0;
-    let mut i = 0;
-    while i < BLOCK / CHUNK {
-        let at = CHUNK * i;
-        sum += sum_chunk(&block[at..at + CHUNK]);
-        i += 1;
-    }
+    let (chunks, _) = block.as_chunks::<CHUNK>();
+    let sum: u32 = chunks.iter().map(sum_chunk).sum();
     sum as u64
+}
+
+// The sum of the bytes of the block at an address.
+fn sum_block(settled: &[u8], a: u32) -> u64
+    requires { a < blocks_in settled.now }
+    ensures value { result ≡ sum_bytes (block_at settled.now a) }
+    ensures upper_bound { result ≤ 255 * block_bytes }
+{
+    sum_bytes(read(settled, a))
 }
 
 // The sum of all data bytes in the home blocks.
@@ -57,13 +53,7 @@ fn sum_homes(settled: &[u8], blocks: u32) -> u64
     ensures value { result ≡ sum_data trap (block_at settled.now) (data_blocks trap blocks) }
     ensures upper_bound { result ≤ 255 * block_bytes * data_blocks trap blocks }
 {
-    let mut sum: u64 = 0;
-    let mut a = FIRST_DATA;
-    while a < blocks {
-        sum += sum_bytes(read(settled, a));
-        a += 1;
-    }
-    sum
+    (FIRST_DATA..blocks).map(|a| sum_block(settled, a)).sum()
 }
 
 // Whether slot i decides a data block: it is the last of the first n slots with the block's address.
@@ -74,10 +64,7 @@ fn decides(settled: &[u8], blocks: u32, n: u32, i: u32) -> bool
     ensures { (result ≡ true) ↔ (is_data trap blocks (slot_address settled.now i) ≡ true) × (last_slot settled.now (slot_address settled.now i) n ≡ Some i) }
 {
     let a = slot_address(settled, i);
-    let Some(newest) = last_slot(settled, a, n) else {
-        return false;
-    };
-    is_data(blocks, a) & (newest == i)
+    is_data(blocks, a) && last_slot(settled, a, n) == Some(i)
 }
 
 // A sum once slot i's block is laid over: the bytes of its home off, its own on.
@@ -90,7 +77,7 @@ fn corrected(settled: &[u8], i: u32, sum: u64) -> u64
     ensures i_value { result + sum_bytes (block_at settled.now (slot_address settled.now i)) ≡ sum + sum_bytes (block_at settled.now (slot_at trap i)) }
     ensures upper_bound { result ≤ sum + 255 * block_bytes }
 {
-    let home = sum_bytes(read(settled, slot_address(settled, i)));
+    let home = sum_block(settled, slot_address(settled, i));
     let own = sum_bytes(slot_block(settled, i));
     sum - home + own
 }
@@ -104,29 +91,18 @@ fn sum_data(settled: &[u8], blocks: u32, n: u32) -> u64
     ensures { result ≡ sum_data trap (laid trap settled.now n) (data_blocks trap blocks) }
 {
     let mut sum = sum_homes(settled, blocks);
-    let mut i = 0;
-    while i < n {
+    for i in 0..n {
         if decides(settled, blocks, n, i) {
             sum = corrected(settled, i, sum);
         }
-        i += 1;
     }
     sum
 }
 
 // The sum of all data bytes of a card, or its refusal.
-pub fn tally(settled: &[u8]) -> Tally
-    ensures { result ≡ tally_of trap settled.now }
+pub fn tally(settled: &[u8]) -> Result<u64, Refusal>
+    ensures { tally_answer result ≡ tally_of trap settled.now }
 {
-    let card = inspect(settled);
-    if card.number != 0 {
-        return Tally {
-            number: card.number,
-            sum: 0,
-        };
-    }
-    Tally {
-        number: 0,
-        sum: sum_data(settled, card.blocks, card.count),
-    }
+    let card = inspect(settled)?;
+    Ok(sum_data(settled, card.blocks, card.count))
 }

@@ -9,8 +9,8 @@ ghost use Rattle.journal.specs.Header.{encode, empty_header};
 ghost use Rattle.store.specs.CodeState.{state_of, answered};
 ghost use Rattle.store.specs.Format.{format_call};
 
+use crate::own_rows::check_format;
 use crate::record::Record;
-use crate::rows::check_format;
 use card::settled::{blocks_in, settle, wipe};
 use cells::BLOCK;
 use cells::bytes::zero;

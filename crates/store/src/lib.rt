@@ -12,12 +12,12 @@ pub mod format;
 pub mod get;
 pub mod get_list;
 mod lists;
+mod own_rows;
 pub mod place;
 pub mod power;
 pub mod put;
 pub mod record;
 pub mod recover;
-mod rows;
 pub mod saved;
 pub mod sync;
 

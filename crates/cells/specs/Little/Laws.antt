@@ -1,8 +1,9 @@
 -- The laws of little-endian numbers, each once over the width.
 use Rattle.std.specs.Prelude.{ℕ, zero, suc, ◌+◌, ◌*◌, ◌/◌, ◌%◌, ◌^◌, ◌≤◌, ◌<◌, ◌≡◌, refl, List, [], ◌∷◌, ◌++◌, length, get_or, take, drop}
-use Rattle.std.proofs.Common.{ap, sym, ◌∙◌, arith, add-one, pow-suc, zero-add, suc-add, mul-add, mul_assoc, mul_comm, one-mul, div-one, mod-eq_of_lt, lit<, length-drop, take-add, drop-drop, drop-cons, length-take-le}
+use Rattle.std.proofs.Common.{ap, ap₂, sym, ◌∙◌, arith, add-one, pow-suc, zero-add, mul-add, mul_assoc, mul_comm, one-mul, div-one, mod-eq_of_lt, lit<, length-drop, take-add, drop-drop, drop-cons, length-take-le}
 use Rattle.std.proofs.Math.Nat.{mod-one, div-div-eq-div-mul}
 use Rattle.std.proofs.Math.Arith.{mod-mul}
+use Rattle.std.specs.Int.{Width, byte_len, byte_at, bytes_low_first, to_le_bytes}
 use Rattle.cells.specs.Little.{le, num, Bytes}
 
 pub le_zero : (n : ℕ) → le 0 n ≡ []
@@ -25,12 +26,6 @@ pub length-le : (w n : ℕ) → length (le w n) ≡ w
 unfolding le
 length-le zero n = refl
 length-le (suc w) n = ap suc (length-le w (n / 256))
-
-pub bytes_le : (w n : ℕ) → Bytes (le w n)
-unfolding le
-bytes_le zero n i = omega arith
-bytes_le (suc w) n zero = omega arith
-bytes_le (suc w) n (suc i) = bytes_le w (n / 256) i
 
 pub num_lt : (bs : List ℕ) → Bytes bs → num bs < 256 ^ length bs
 unfolding num
@@ -68,24 +63,27 @@ le-num (x ∷ bs) b =
     let high : (x + 256 * num bs) / 256 ≡ num bs = omega arith in
     rw (low, high) (ap (λ (l : List ℕ). x ∷ l) (le-num bs (λ i. b (suc i))))
 
--- only the low part of a number counts
-pub le_low : (w n : ℕ) → le w (n % 256 ^ w) ≡ le w n
-le_low w n = rw (← num-low w n) (ap (λ (k : ℕ). le k (num (le w n))) (sym (length-le w n)) ∙ le-num (le w n) (bytes_le w n))
-
 -- ---- in parts
-
-pub le-append : (a b n : ℕ) → le (a + b) n ≡ le a n ++ le b (n / 256 ^ a)
-unfolding le
-le-append zero b n = rw (zero-add, div-one)
-le-append (suc a) b n =
-    rw (suc-add, pow-suc, mul_comm (256 ^ a) 256, ← div-div-eq-div-mul n 256 (256 ^ a))
-    (ap (λ (l : List ℕ). n % 256 ∷ l) (le-append a b (n / 256)))
 
 pub num-append : (a b : List ℕ) → num (a ++ b) ≡ num a + 256 ^ length a * num b
 unfolding num
 num-append [] b = rw (zero-add, one-mul)
 num-append (x ∷ a) b =
     rw (num-append a b, pow-suc, mul_comm (256 ^ length a) 256, mul_assoc, mul-add) (omega arith)
+
+-- the bytes as the library writes them, from byte i upward
+le-low_first : (k i n : ℕ) → bytes_low_first i k n ≡ le k (n / 256 ^ i)
+unfolding le
+le-low_first zero i n = refl
+le-low_first (suc k) i n =
+    ap₂ (λ (b : ℕ) (bs : List ℕ). b ∷ bs) (first i) (le-low_first k (suc i) n ∙ ap (le k) (rw (pow-suc, ← div-div-eq-div-mul n (256 ^ i) 256)))
+  where
+    first : (i : ℕ) → byte_at i n ≡ n / 256 ^ i % 256
+    first zero = rw (div-one n)
+    first (suc i) = refl
+
+pub le-to_le_bytes : (w : Width) (n : ℕ) → to_le_bytes w n ≡ le (byte_len w) n
+le-to_le_bytes w n = le-low_first (byte_len w) 0 n ∙ ap (le (byte_len w)) (div-one n)
 
 -- the number at an offset, its lowest byte first
 pub num_byte : (w : ℕ) (s : List ℕ) (at : ℕ) → at < length s → num (take (suc w) (drop at s)) ≡ get_or s at 0 + 256 * num (take w (drop (at + 1) s))

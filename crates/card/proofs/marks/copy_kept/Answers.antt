@@ -1,13 +1,13 @@
 -- `card::marks::copy_kept` meets its contract. The invariant: before i every byte is as the marks leave it, from i on as it was.
 use Prim.Native.Nat.{ℕ, ◌+◌, ◌<◌}
-use mathlib.Core.Path.{◌≡◌, refl, ap, sym, ◌∙◌}
+use mathlib.Core.Path.{◌≡◌, ap, sym, ◌∙◌}
 use mathlib.Core.Bool.{cond}
 use mathlib.Core.List.{List}
 use native.Mathlib.Nat.{add-zero}
 use native.Mathlib.Numerals.{add-one}
 use native.Mathlib.Omega.{arith}
 use lib.Dec.{eqb}
-use lib.ListN.{length, take, drop, set, get_or, length-set}
+use lib.ListN.{length, take, drop, set, get_or}
 use lib.Seq.{take-suc, take-suc-set, take_all, drop-set-lt, drop-drop, get_or-drop}
 use Rattle.card.specs.Card.{torn}
 use Rattle.card.proofs.Torn.{length-torn, get_or-torn}
@@ -28,22 +28,15 @@ more dst old src marks i v h l o e f z =
       drop-set-lt (i + 1) dst i v (omega arith) ∙ sym (drop-drop 1 i dst) ∙ ap (drop 1) f ∙ drop-drop 1 i old,
     )
 
-pub loop-i-init : goal.loop-i-init
-loop-i-init c = (omega arith, c.requires.0, refl, refl)
-
-pub left-requires : goal.left-requires
-left-requires c = tt
-
 pub loop-i-preserved : goal.loop-i-preserved
 loop-i-preserved c =
     let l = c.loop-i in
     let a = c.args in
-    let on = more l.dst a.dst.now a.src.now a.marks.now l.i c.left.result (omega arith) l.invariant.1 c.requires.0 l.invariant.2 l.invariant.3 c.left.ensures in
-    (omega arith, simp length-set l.invariant.1, on.0, on.1)
+    more l.dst a.dst.now a.src.now a.marks.now l.i c.left.result (omega arith) (omega arith) c.requires.0 l.invariant.0 l.invariant.1 c.left.ensures
 
 pub returns : goal.returns
 returns c =
     let l = c.loop-i in
     let a = c.args in
     let size : length (torn a.marks.now a.src.now a.dst.now) ≡ length a.dst.now = length-torn a.marks.now a.src.now a.dst.now in
-    sym (take_all l.i l.dst (omega arith)) ∙ l.invariant.2 ∙ take_all l.i (torn a.marks.now a.src.now a.dst.now) (omega (arith, c.requires.0))
+    sym (take_all l.i l.dst (omega arith)) ∙ l.invariant.0 ∙ take_all l.i (torn a.marks.now a.src.now a.dst.now) (omega arith)

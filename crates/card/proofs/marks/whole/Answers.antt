@@ -1,10 +1,5 @@
 -- `card::marks::whole` meets its contract.
-use Prim.Native.Nat.{ℕ, ◌+◌, ◌*◌, ◌-◌, ◌≤◌}
-use mathlib.Core.Path.{◌≡◌, ap, sym, ◌∙◌}
-use mathlib.Core.Bool.{Bool}
-use mathlib.Core.List.{List}
-use native.Mathlib.Omega.{arith}
-use lib.ListN.{length, take, drop, replicate}
+use Rattle.std.proofs.Common.{◌≡◌, ◌∙◌, ℕ, ◌+◌, ◌*◌, ◌≤◌, Bool, List, length, take, drop, replicate, ap, sym, arith}
 use Rattle.cells.specs.Cell.Laws.{cell_part, length-cell}
 use Rattle.cells.specs.Same.{same}
 use Rattle.cells.specs.Entry.{block_bytes}
@@ -23,13 +18,13 @@ pub returns-then-filled : goal.returns-then-filled
 unfolding whole_at kept_at
 returns-then-filled c =
     let a = c.args in
-    let kept : c.filled.result ≡ kept_at a.marks.now a.i = asked a.marks.now a.i (block_bytes * a.i + block_bytes - block_bytes * a.i) 1 c.filled.result (omega arith) c.requires c.filled.ensures in
+    let kept : c.filled.result ≡ kept_at a.marks.now a.i = asked a.marks.now a.i _ 1 c.filled.result (omega arith) c.requires c.filled.ensures in
     rw (← kept, c.if-filled.true)
 
-pub returns : goal.returns
+pub returns-else-filled : goal.returns-else-filled
 unfolding whole_at kept_at lost_at
-returns c =
+returns-else-filled c =
     let a = c.args in
-    let kept : c.filled.result ≡ kept_at a.marks.now a.i = asked a.marks.now a.i (block_bytes * a.i + block_bytes - block_bytes * a.i) 1 c.filled.result (omega arith) c.requires c.filled.ensures in
-    let lost : c.filled-2.result ≡ lost_at a.marks.now a.i = asked a.marks.now a.i (block_bytes * a.i + block_bytes - block_bytes * a.i) 0 c.filled-2.result (omega arith) c.requires c.filled-2.ensures in
+    let kept : c.filled.result ≡ kept_at a.marks.now a.i = asked a.marks.now a.i _ 1 c.filled.result (omega arith) c.requires c.filled.ensures in
+    let lost : c.filled-else-filled.result ≡ lost_at a.marks.now a.i = asked a.marks.now a.i _ 0 c.filled-else-filled.result (omega arith) c.requires c.filled-else-filled.ensures in
     rw (← kept, c.if-filled.false) lost

@@ -1,48 +1,23 @@
--- `inspect::alike::same_data` meets its contract. The invariant: the data blocks below x are equal.
-use mathlib.Core.Path.{◌≡◌, sym, ◌∙◌}
-use native.Mathlib.Omega.{arith}
+-- `inspect::alike::same_data` meets its contract: `all` of the data blocks, one by one.
+use Rattle.std.proofs.Common.{rules, tests, ◌∙◌, refl}
+use Rattle.std.proofs.lemmas.Iterator.{YieldsList-from_range, serves_from_Range}
+use Rattle.std.proofs.lemmas.Iterator.Search.{all_from_yields_List}
 use Rattle.cells.specs.Same.{same}
 use Rattle.journal.specs.Geometry.{trap}
-use Rattle.journal.specs.Geometry.Laws.{trap_data}
-use Rattle.inspect.specs.Reading.{data_blocks, laid}
-use Rattle.inspect.proofs.Comparisons.{data_none, data_next, data_unlike}
+use Rattle.journal.specs.Layout.{first_data}
+use Rattle.inspect.specs.Reading.{laid, data_blocks}
+use Rattle.inspect.proofs.Comparisons.{data-all}
 use Rattle.inspect.proofs.alike.same_data.Goals as goal
 
-pub loop-x-init : goal.loop-x-init
+pub all-requires-clause-callable : goal.all-requires-clause-callable
 unfolding trap
-loop-x-init c =
-    let g = c.args in
-    (omega arith, omega arith, data_none trap (laid trap g.a.now g.n) (laid trap g.b.now g.n) _ trap_data)
-
-pub same_block-requires : goal.same_block-requires
-same_block-requires c =
-    record {
-      trap_bound = omega arith;
-      x_bound = omega arith;
-      x_bound_2 = omega arith;
-      n_le_slots = omega arith;
-      n_value = c.requires.n_value;
-    }
-
-pub returns-then-not-same_block : goal.returns-then-not-same_block
-returns-then-not-same_block c =
-    let tested : let g = c.args in let x = c.loop-x.x in
-    c.same_block.result ≡ same (laid trap g.a.now g.n x) (laid trap g.b.now g.n x) = c.same_block.ensures in
-    let l = c.loop-x in
-    let g = c.args in
-    data_unlike trap (laid trap g.a.now g.n) (laid trap g.b.now g.n) l.x g.blocks (omega arith) (omega arith) (sym (tested) ∙ c.if-not-same_block.true)
-
-pub loop-x-preserved : goal.loop-x-preserved
-loop-x-preserved c =
-    let tested : let g = c.args in let x = c.loop-x.x in
-    c.same_block.result ≡ same (laid trap g.a.now g.n x) (laid trap g.b.now g.n x) = c.same_block.ensures in
-    let l = c.loop-x in
-    let g = c.args in
-    (omega arith, omega arith, data_next trap (laid trap g.a.now g.n) (laid trap g.b.now g.n) l.x (omega arith) l.invariant.2 (sym (tested) ∙ c.if-not-same_block.false))
+all-requires-clause-callable c = serves_from_Range (λ x q k. search rules) (λ x low high. search rules)
 
 pub returns : goal.returns
+unfolding trap
 returns c =
-    let l = c.loop-x in
     let g = c.args in
-    let over : data_blocks trap l.x ≡ data_blocks trap g.blocks = omega arith in
-    sym (rw over at l.invariant.2)
+    let d = laid trap g.a.now g.n in
+    let e = laid trap g.b.now g.n in
+    all_from_yields_List (λ x. same (d x) (e x)) _ _ c.all.result c.all.ensures.ran (YieldsList-from_range (first_data trap) g.blocks (data_blocks trap g.blocks) refl refl) (λ x t q k. search (rules, tests))
+    ∙ data-all trap d e (data_blocks trap g.blocks)

@@ -1,30 +1,22 @@
--- `inspect::tally::sum_bytes` meets its contract. The invariant: the sum so far is that of the first i chunks, 255 at most for each byte.
-use Prim.Native.Nat.{◌+◌, ◌*◌, ◌-◌}
-use mathlib.Core.Path.{sym}
-use native.Mathlib.Omega.{arith}
-use lib.ListN.{length-take, length-drop}
-use lib.Seq.{take_all}
-use Rattle.inspect.proofs.Sums.{bytes_none, chunk_next}
+-- `inspect::tally::sum_bytes` meets its contract: the sums of the chunks add up.
+use Rattle.std.proofs.Common.{rules, ◌≡◌, ◌∙◌, arith, ◌/◌, ◌^◌, length}
+use Rattle.std.proofs.lemmas.Iterator.{YieldsList-from_slice}
+use Rattle.std.proofs.lemmas.Iterator.Adapters.{fits_from_length, at_most_from_yields_List}
+use Rattle.std.specs.List.{sum_by}
+use Rattle.std.specs.Simd.{first_chunks}
+use Rattle.inspect.specs.Tally.{sum_bytes}
+use Rattle.inspect.proofs.Sums.{chunks-sum, bytes_bound}
 use Rattle.inspect.proofs.tally.sum_bytes.Goals as goal
 
-pub loop-i-init : goal.loop-i-init
-loop-i-init c = (omega arith, sym bytes_none, omega arith)
-
-pub sum_chunk-sum-requires : goal.sum_chunk-sum-requires
-sum_chunk-sum-requires c = rw (length-take, length-drop) (omega arith)
-
-pub loop-i-preserved : goal.loop-i-preserved
-loop-i-preserved c =
-    let l = c.loop-i in
-    let at = 64 * l.i in
-    let block = c.args.block.now in
-    (omega arith, chunk_next 64 block l.i (at + 64 - at) l.sum c.sum_chunk-sum.result (omega arith) l.invariant.1 c.sum_chunk-sum.ensures.value, omega arith)
+pub sum-sum-requires-clause-fits : goal.sum-sum-requires-clause-fits
+sum-sum-requires-clause-fits c =
+    fits_from_length _ _ 8 (2 ^ 32) (at_most_from_yields_List (YieldsList-from_slice c.as_chunks.result.0.now cc) (omega (arith, c.as_chunks.ensures.front_len))) c.map.ensures.closure (omega arith)
+    (λ x r q k. search rules)
 
 pub returns : goal.returns
 returns c =
-    let l = c.loop-i in
-    let block = c.args.block.now in
-    record {
-      value = rw (take_all (64 * l.i) block (omega arith)) at l.invariant.1;
-      upper_bound = omega arith;
-    }
+    let b = c.args.block.now in
+    let all : c.sum-sum.result ≡ sum_by sum_bytes (first_chunks 64 (length b / 64) b) = search rules in
+    let value = all ∙ chunks-sum (length b / 64) b (omega arith) in
+    let most = bytes_bound b (λ i l. omega (arith, c.type_inv.block i)) in
+    record { value = value; upper_bound = omega (arith, value) }

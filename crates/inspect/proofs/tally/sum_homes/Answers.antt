@@ -1,37 +1,32 @@
--- `inspect::tally::sum_homes` meets its contract. The invariant: the sum so far is that of the data blocks below a, and is bounded by
--- their bytes.
-use mathlib.Core.Path.{◌≡◌, ap, sym, ◌∙◌}
-use native.Mathlib.Omega.{arith}
-use lib.ListN.{length}
+-- `inspect::tally::sum_homes` meets its contract: the library's `sum` of the data blocks' sums.
+use Rattle.std.proofs.Common.{rules, ◌≡◌, ◌∙◌, ◌-◌, ◌*◌, ◌^◌, arith, refl}
+use Rattle.std.proofs.lemmas.Iterator.{YieldsList-from_range, YieldsList-from_map}
+use Rattle.std.proofs.lemmas.Iterator.Adapters.{fits_from_length, at_most_from_yields_List}
+use Rattle.std.proofs.lemmas.Iterator.Consumers.{sum_from_yields_List}
+use Rattle.std.proofs.lemmas.List.FromFn.{length-range_with_len}
+use Rattle.cells.specs.Entry.{block_bytes}
 use Rattle.card.specs.Card.{block_at}
 use Rattle.journal.specs.Geometry.{trap}
-use Rattle.journal.specs.Geometry.Laws.{trap_data}
-use Rattle.journal.proofs.Logs.{length-block_at, block_read}
-use Rattle.inspect.specs.Reading.{data_blocks}
-use Rattle.inspect.specs.Tally.{sum_bytes}
-use Rattle.inspect.proofs.Sums.{data_none, data_next}
+use Rattle.inspect.specs.Tally.{sum_bytes, sum_data}
+use Rattle.inspect.proofs.Sums.{homes-sum, homes_bound, block_bound}
 use Rattle.inspect.proofs.tally.sum_homes.Goals as goal
 
-pub loop-a-init : goal.loop-a-init
+pub sum-requires-clause-fits : goal.sum-requires-clause-fits
 unfolding trap
-loop-a-init c = (omega arith, omega arith, sym (data_none trap _ _ trap_data), omega arith)
-
-pub sum_bytes-sum-requires : goal.sum_bytes-sum-requires
-sum_bytes-sum-requires c =
-    let home : c.read.result.now ≡ block_at c.args.settled.now c.loop-a.a = block_read c.read.result c.args.settled c.loop-a.a c.read.ensures in
-    ap length (home) ∙ length-block_at c.args.settled.now c.loop-a.a (omega arith)
-
-pub loop-a-preserved : goal.loop-a-preserved
-loop-a-preserved c =
-    let home : c.read.result.now ≡ block_at c.args.settled.now c.loop-a.a = block_read c.read.result c.args.settled c.loop-a.a c.read.ensures in
-    let block = c.sum_bytes-sum.ensures.value ∙ ap sum_bytes (home) in
-    (omega arith, omega arith, rw (data_next trap (block_at c.args.settled.now) c.loop-a.a c.loop-a.invariant.0, ← c.loop-a.invariant.2, ← block), omega arith)
+sum-requires-clause-fits c =
+    let n = c.args.blocks in
+    let few = length-range_with_len 34 (n - 34) in
+    let small = c.ranges.blocks.fits in
+    fits_from_length _ _ (2 ^ 32) (2 ^ 64) (at_most_from_yields_List (YieldsList-from_range 34 n (n - 34) c.map.ensures.source refl) (omega arith)) c.map.ensures.closure (omega arith) (λ x r q k. search rules)
 
 pub returns : goal.returns
+unfolding trap
 returns c =
-    let l = c.loop-a in
-    let over : data_blocks trap l.a ≡ data_blocks trap c.args.blocks = omega arith in
-    record {
-      value = rw over at l.invariant.2;
-      upper_bound = rw over at l.invariant.3;
-    }
+    let n = c.args.blocks in
+    let s = c.args.settled.now in
+    let value : c.sum.result ≡ sum_data trap (block_at s) (n - 34) =
+    sum_from_yields_List c.map.result _ c.sum.ensures.ran
+    (YieldsList-from_map _ (λ a. sum_bytes (block_at s a)) (YieldsList-from_range 34 n (n - 34) c.map.ensures.source refl) c.map.ensures.closure (λ x r q k. search rules))
+    ∙ homes-sum trap (block_at s) (n - 34) in
+    let most = homes_bound trap (block_at s) (n - 34) (255 * block_bytes) (λ i l. block_bound s _ (λ j. omega (arith, c.type_inv.settled j)) (omega arith)) in
+    record { value = value; upper_bound = omega (arith, value) }

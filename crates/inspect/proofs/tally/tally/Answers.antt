@@ -1,19 +1,22 @@
 -- `inspect::tally::tally` meets its contract.
 use native.Mathlib.Omega.{arith}
+use Rattle.std.proofs.lemmas.Result.{err_from_is_err_and}
 use Rattle.journal.specs.Geometry.{trap}
-use Rattle.inspect.proofs.Readings.{TakenList, read_taken}
+use Rattle.inspect.proofs.Readings.{taken_size, taken_fits}
 use Rattle.inspect.proofs.Sums.{tally_refused, tally_done}
 use Rattle.inspect.proofs.tally.tally.Goals as goal
 
-pub returns-then-card-ne0 : goal.returns-then-card-ne0
-returns-then-card-ne0 c = tally_refused trap _ _ c.inspect-card.ensures.number c.if-card-ne0.true
+pub returns-in_err-card : goal.returns-in_err-card
+returns-in_err-card c =
+    let p = err_from_is_err_and c.from_residual.result c.from_residual.ensures.1 in
+    rw (p.1, p.2) (tally_refused trap _ _ c.in_err-card.ensures)
 
 pub sum_data-requires : goal.sum_data-requires
 sum_data-requires c =
-    let taken : TakenList trap c.args.settled.now c.inspect-card.result = read_taken trap _ _ c.inspect-card.ensures c.if-card-ne0.false in
-    let t = taken in omega arith
+    let taken = c.in_ok-card.ensures in
+    let size = taken_size trap _ _ taken in
+    let fits = taken_fits trap _ _ taken in
+    omega arith
 
 pub returns : goal.returns
-returns c =
-    let taken : TakenList trap c.args.settled.now c.inspect-card.result = read_taken trap _ _ c.inspect-card.ensures c.if-card-ne0.false in
-    tally_done trap _ _ _ (taken) c.sum_data.ensures
+returns c = tally_done trap _ _ _ c.in_ok-card.ensures c.sum_data.ensures

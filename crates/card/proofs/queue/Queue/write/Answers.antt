@@ -1,5 +1,5 @@
 -- `card::queue::Queue::write` meets its contract.
-use Rattle.std.proofs.Common.{rules, ◌≡◌, [], ◌∷◌, ◌<◌, sym, ap, ◌∙◌, arith}
+use Rattle.std.proofs.Common.{rules, ◌≡◌, [], ◌∷◌, sym}
 use Rattle.cells.specs.Entry.{Entry}
 use Rattle.card.specs.Card.{write, order}
 use Rattle.card.specs.CodeQueue.{card_of, left_queue}

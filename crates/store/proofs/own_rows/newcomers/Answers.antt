@@ -1,4 +1,4 @@
--- `store::rows::newcomers` meets its contract.
+-- `store::own_rows::newcomers` meets its contract.
 use mathlib.Core.Path.{◌≡◌, refl, sym, ◌∙◌}
 use mathlib.Core.Bool.{true, false}
 use native.Mathlib.Omega.{arith}
@@ -6,8 +6,8 @@ use Rattle.journal.specs.Geometry.{trap}
 use Rattle.store.specs.Lists.{open_from, group_from, listed, find}
 use Rattle.store.specs.Causes.{is_found, newcomers}
 use Rattle.store.proofs.Commits.{newcomers_more}
-use Rattle.store.proofs.rows.newcomers.Goals as goal
-use Rattle.store.proofs.rows.newcomers.Goals.{then-not-holds, else-not-holds}
+use Rattle.store.proofs.own_rows.newcomers.Goals as goal
+use Rattle.store.proofs.own_rows.newcomers.Goals.{then-not-holds, else-not-holds}
 
 pub loop-i-init : goal.loop-i-init
 unfolding newcomers

@@ -1,11 +1,11 @@
--- `store::rows::check_format` meets its contract.
+-- `store::own_rows::check_format` meets its contract.
 use Rattle.std.proofs.Common.{◌≡◌, ◌∙◌, sym, arith}
 use Rattle.card.specs.Card.{blocks_in}
 use Rattle.journal.specs.Geometry.{trap}
 use Rattle.store.specs.State.{State}
 use Rattle.store.specs.CodeState.{state_of, fresh}
 use Rattle.store.proofs.Causes.{SizeFacts, sizes_facts}
-use Rattle.store.proofs.rows.check_format.Goals as goal
+use Rattle.store.proofs.own_rows.check_format.Goals as goal
 
 pub overflow_cast-blocks_in : goal.overflow_cast-blocks_in
 overflow_cast-blocks_in c =
