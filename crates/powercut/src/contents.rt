@@ -2,15 +2,15 @@
 // photograph.
 ghost use Rattle.std.specs.Prelude.{◌≡◌, ◌+◌, ◌*◌, ◌≤◌, ◌<◌};
 ghost use Rattle.journal.specs.Geometry.{trap};
-ghost use Rattle.store.specs.CodeState.{state_of};
 ghost use Rattle.store.specs.Get.{get_place, bytes_at};
-ghost use Rattle.powercut.specs.Contents.{of_save, old_age, age_of, photograph, is_either, is_spoilt, holds, has_other, letter_of};
+ghost use Rattle.powercut.specs.Contents.{of_save, old_age, age_of, photograph, is_either, is_spoilt, holds, has_other, letter_of, character};
+ghost use Rattle.powercut.specs.Device.{state};
 
-use crate::buffers::{BLOCKS, Settled, Waiting, Work};
+use crate::device::{BLOCKS, Device};
+use crate::finding::Finding;
 use cells::BLOCK;
-use cells::bytes::{same, zero};
+use cells::bytes::same;
 use journal::FIRST_DATA;
-use store::record::Record;
 
 // The photograph's block, the last one.
 const PHOTOGRAPH: u32 = BLOCKS - 1;
@@ -32,119 +32,63 @@ fn byte(address: u32, age: u32) -> u8
     (address + 64 * age) as u8
 }
 
-// Data blocks from an address on, put at an age and committed.
-fn group(
-    r: Record,
-    s: &Settled,
-    w: &Waiting,
-    k: &mut Work,
-    from: u32,
-    count: u32,
-    age: u32,
-) -> Record
-    requires { (from + count ≤ 65) × (age < 3) }
-{
-    let mut now = r;
-    let mut i = 0;
-    while i < count {
-        now = put(now, s, w, k, from + i, age);
-        i += 1;
-    }
-    let a = now.commit(s, w, k);
-    a.rec
-}
-
-fn put(r: Record, s: &Settled, w: &Waiting, k: &mut Work, address: u32, age: u32) -> Record
+fn put(d: &mut Device, address: u32, age: u32)
     requires { (address < 65) × (age < 3) }
 {
-    let block = [byte(address, age); BLOCK];
-    let a = r.put(s, w, k, address, &block);
-    a.rec
+    d.put(address, &[byte(address, age); BLOCK]);
 }
 
-// The same, saved.
-fn save(
-    r: Record,
-    s: &mut Settled,
-    w: &mut Waiting,
-    k: &mut Work,
-    from: u32,
-    count: u32,
-    age: u32,
-) -> Record
+// Data blocks from an address on, put at an age, committed and saved.
+fn save(d: &mut Device, from: u32, count: u32, age: u32)
     requires { (from + count ≤ 65) × (age < 3) }
 {
-    let grouped = group(r, s, w, k, from, count, age);
-    let saved = grouped.sync(s, w, k);
-    saved.rec
-}
-
-// So many saves of three blocks each, one behind the other, at age 1.
-fn log(r: Record, s: &mut Settled, w: &mut Waiting, k: &mut Work, saves: u32) -> Record
-    requires { saves ≤ 10 }
-{
-    let mut now = r;
-    let mut i = 0;
-    while i < saves {
-        now = save(now, s, w, k, FIRST_DATA + SAVED * i, SAVED, 1);
-        i += 1;
+    for address in from..from + count {
+        put(d, address, age);
     }
-    now
+    d.commit();
+    d.sync();
 }
 
 // The three blocks of the save that is cut, put and committed.
-fn to_save(r: Record, s: &Settled, w: &Waiting, k: &mut Work) -> Record {
-    let one = put(r, s, w, k, FIRST_DATA, 2);
-    let two = put(one, s, w, k, MIDDLE, 2);
-    let three = put(two, s, w, k, LAST, 2);
-    let a = three.commit(s, w, k);
-    a.rec
+fn to_save(d: &mut Device) {
+    put(d, FIRST_DATA, 2);
+    put(d, MIDDLE, 2);
+    put(d, LAST, 2);
+    d.commit();
 }
 
-// A card whose home blocks all have age 0, and no log. What it held is given up first: a format turns down a card in use.
-fn home(s: &mut Settled, w: &mut Waiting, k: &mut Work) -> Record {
-    zero(s);
-    let made = Record::fresh(BLOCKS).format(s, w, k);
-    let saved = save(made.rec, s, w, k, FIRST_DATA, DATA + 1, 0);
-    let applied = saved.apply(s, w, k);
-    applied.rec
-}
-
-// A card with so many saves in its log, and one more in its group.
+// A card with so many saves of three blocks each in its log, one behind the other, at age 1, and one more in its group. Its home blocks all
+// have age 0.
 #[derive(Clone, Copy)]
 pub(crate) struct Scenario {
-    pub rec: Record,
+    pub start: Device,
     pub saves: u32,
 }
 
-pub(crate) fn ready(s: &mut Settled, w: &mut Waiting, k: &mut Work, saves: u32) -> Scenario
+pub(crate) fn ready(saves: u32) -> Scenario
     requires { saves ≤ 10 }
     ensures { result.saves ≡ saves }
 {
-    let empty = home(s, w, k);
-    let old = log(empty, s, w, k, saves);
-    let rec = to_save(old, s, w, k);
-    Scenario { rec, saves }
+    let mut start = Device::formatted();
+    save(&mut start, FIRST_DATA, DATA + 1, 0);
+    start.apply();
+    for i in 0..saves {
+        save(&mut start, FIRST_DATA + SAVED * i, SAVED, 1);
+    }
+    to_save(&mut start);
+    Scenario { start, saves }
 }
 
 // The photograph, written directly, so that it waits.
-pub(crate) fn photographed(r: Record, s: &mut Settled, w: &mut Waiting, k: &Work) -> Record {
-    let block = [byte(PHOTOGRAPH, 2); BLOCK];
-    let a = r.direct(s, w, k, PHOTOGRAPH, &block);
-    a.rec
+pub(crate) fn photographed(d: &mut Device) {
+    d.direct(PHOTOGRAPH, &[byte(PHOTOGRAPH, 2); BLOCK]);
 }
 
 // Whether the save has a block.
 fn of_save(address: u32) -> bool
     ensures { result ≡ of_save address }
 {
-    if address == FIRST_DATA {
-        return true;
-    }
-    if address == MIDDLE {
-        return true;
-    }
-    address == LAST
+    address == FIRST_DATA || address == MIDDLE || address == LAST
 }
 
 // The age of a data block before the save.
@@ -153,9 +97,10 @@ fn old_age(address: u32, saves: u32) -> u32
     ensures { (result ≡ old_age address saves) × (result < 3) }
 {
     if address < FIRST_DATA + SAVED * saves {
-        return 1;
+        1
+    } else {
+        0
     }
-    0
 }
 
 // Before the save, or after it.
@@ -163,94 +108,60 @@ fn age(address: u32, saves: u32, after: bool) -> u32
     requires { saves ≤ 10 }
     ensures { (result ≡ age_of address saves after) × (result < 3) }
 {
-    if !after {
-        return old_age(address, saves);
-    }
-    if of_save(address) {
+    if after && of_save(address) {
         return 2;
     }
     old_age(address, saves)
 }
 
 // Whether a get gives the block of that age.
-fn has<'a>(r: Record, s: &'a [u8], w: &'a [u8], k: &'a [u8], address: u32, age: u32) -> bool
+fn has(d: &Device, address: u32, age: u32) -> bool
     requires { (address < 65) × (age < 3) }
-    ensures { result ≡ holds address age (state_of r s.now w.now k.now) }
+    ensures { result ≡ holds address age (state d.now) }
 {
-    let block = [byte(address, age); BLOCK];
-    same(r.get(s, w, k, address), &block)
+    same(d.get(address), &[byte(address, age); BLOCK])
 }
 
 // Whether a byte of the photograph's block is as it was, or the photograph's.
 fn is_either(found: u8) -> bool
     ensures { result ≡ is_either found }
 {
-    if found == byte(PHOTOGRAPH, 0) {
-        return true;
-    }
-    found == byte(PHOTOGRAPH, 2)
+    found == byte(PHOTOGRAPH, 0) || found == byte(PHOTOGRAPH, 2)
 }
 
 // Whether a byte is neither.
 fn is_spoilt(block: &[u8]) -> bool
     ensures { result ≡ is_spoilt block.now }
 {
-    if block.len() != BLOCK {
-        return true;
-    }
-    let mut i = BLOCK;
-    while 0 < i {
-        i -= 1;
-        if !is_either(block[i]) {
-            return true;
-        }
-    }
-    false
+    block.len() != BLOCK || block.iter().any(|&b| !is_either(b))
 }
 
 // Whether a get of the photograph's block gives such a byte.
-fn has_spoilt<'a>(r: Record, s: &'a [u8], w: &'a [u8], k: &'a [u8]) -> bool
-    ensures { result ≡ is_spoilt (bytes_at (get_place trap photograph (state_of r s.now w.now k.now)) (state_of r s.now w.now k.now)) }
+fn has_spoilt(d: &Device) -> bool
+    ensures { result ≡ is_spoilt (bytes_at (get_place trap photograph (state d.now)) (state d.now)) }
 {
-    is_spoilt(r.get(s, w, k, PHOTOGRAPH))
+    is_spoilt(d.get(PHOTOGRAPH))
 }
 
 // Whether the photograph's block is spoilt, or another data block not as before the save, or not as after it.
-fn has_other<'a>(
-    r: Record,
-    s: &'a Settled,
-    w: &'a Waiting,
-    k: &'a Work,
-    saves: u32,
-    after: bool,
-) -> bool
+fn has_other(d: &Device, saves: u32, after: bool) -> bool
     requires { saves ≤ 10 }
-    ensures { result ≡ has_other saves after (state_of r s.now w.now k.now) }
+    ensures { result ≡ has_other saves after (state d.now) }
 {
-    if has_spoilt(r, s, w, k) {
-        return true;
-    }
-    let mut i = DATA;
-    while 0 < i {
-        i -= 1;
-        let address = FIRST_DATA + i;
-        if !has(r, s, w, k, address, age(address, saves, after)) {
-            return true;
-        }
-    }
-    false
+    has_spoilt(d)
+        || (FIRST_DATA..PHOTOGRAPH).any(|address| !has(d, address, age(address, saves, after)))
 }
 
 // What is found: old, new, or something else.
-pub(crate) fn letter<'a>(r: Record, s: &'a Settled, w: &'a Waiting, k: &'a Work, saves: u32) -> u8
+pub(crate) fn letter(d: &Device, saves: u32) -> Finding
     requires { saves ≤ 10 }
-    ensures { result ≡ letter_of saves (state_of r s.now w.now k.now) }
+    ensures { character result ≡ letter_of saves (state d.now) }
 {
-    if !has_other(r, s, w, k, saves, false) {
-        return b'o';
+    if !has_other(d, saves, false) {
+        return Finding::Old;
     }
-    if !has_other(r, s, w, k, saves, true) {
-        return b'n';
+    if !has_other(d, saves, true) {
+        return Finding::New;
     }
-    b'?'
+    Finding::Other
 }
