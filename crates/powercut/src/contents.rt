@@ -1,68 +1,59 @@
-// What the data blocks hold. A block is filled with one byte, by its address and its age: 0 at home, 1 in the log, 2 in the save or as the
-// photograph.
-ghost use Rattle.std.specs.Prelude.{◌≡◌, ◌+◌, ◌*◌, ◌≤◌, ◌<◌};
+// What the data blocks hold: before the save, and after it.
+ghost use Rattle.std.specs.Prelude.{◌≡◌, ◌≤◌, ◌<◌};
 ghost use Rattle.journal.specs.Geometry.{trap};
 ghost use Rattle.store.specs.Get.{get_place, bytes_at};
-ghost use Rattle.powercut.specs.Contents.{of_save, old_age, age_of, photograph, is_either, is_spoilt, holds, has_other, letter_of, character};
+ghost use Rattle.powercut.specs.Contents.{of_save, old_age, age_of, photograph, is_either, is_spoilt, number, holds, has_other, letter_of, character};
 ghost use Rattle.powercut.specs.Device.{state};
 
 use crate::device::{BLOCKS, Device};
+use crate::filling::{Age, byte};
 use crate::finding::Finding;
 use cells::BLOCK;
 use cells::bytes::same;
 use journal::FIRST_DATA;
+use std::ops::Range;
 
 // The photograph's block, the last one.
 const PHOTOGRAPH: u32 = BLOCKS - 1;
 
-// How many data blocks there are before it, and how many a save has. The one that is cut has the first of them, one in the middle, the last.
-const DATA: u32 = PHOTOGRAPH - FIRST_DATA;
-
+// How many data blocks a save has. The one that is cut has the first of them, one in the middle, the last before the photograph's.
 const SAVED: u32 = 3;
 
 const MIDDLE: u32 = 48;
 
 const LAST: u32 = PHOTOGRAPH - 1;
 
-// The byte of a block: 34 to 64, 98 to 128, 162 to 192.
-fn byte(address: u32, age: u32) -> u8
-    requires { (address < 65) × (age < 3) }
-    ensures { result ≡ address + 64 * age }
+fn put(device: &mut Device, address: u32, age: Age)
+    requires { address < 65 }
 {
-    (address + 64 * age) as u8
+    device.put(address, &[byte(address, age); BLOCK]);
 }
 
-fn put(d: &mut Device, address: u32, age: u32)
-    requires { (address < 65) × (age < 3) }
+// Data blocks put at an age, committed and saved.
+fn save(device: &mut Device, blocks: Range<u32>, age: Age)
+    requires { blocks.end ≤ 65 }
 {
-    d.put(address, &[byte(address, age); BLOCK]);
-}
-
-// Data blocks from an address on, put at an age, committed and saved.
-fn save(d: &mut Device, from: u32, count: u32, age: u32)
-    requires { (from + count ≤ 65) × (age < 3) }
-{
-    for address in from..from + count {
-        put(d, address, age);
+    for address in blocks {
+        put(device, address, age);
     }
-    d.commit();
-    d.sync();
+    device.commit();
+    device.sync();
 }
 
 // The three blocks of the save that is cut, put and committed.
-fn to_save(d: &mut Device) {
-    put(d, FIRST_DATA, 2);
-    put(d, MIDDLE, 2);
-    put(d, LAST, 2);
-    d.commit();
+fn to_save(device: &mut Device) {
+    put(device, FIRST_DATA, Age::Save);
+    put(device, MIDDLE, Age::Save);
+    put(device, LAST, Age::Save);
+    device.commit();
 }
 
-// A card with so many saves of three blocks each in its log, one behind the other, at age 1, and one more in its group. Its home blocks all
-// have age 0.
+// A card with so many saves of three blocks each in its log, one behind the other, and one more in its group. It is the one that is cut.
 #[derive(Clone, Copy)]
 pub(crate) struct Scenario {
     pub start: Device,
     pub saves: u32,
+    ghost few: { saves ≤ 10 },
 }
 
 pub(crate) fn ready(saves: u32) -> Scenario
@@ -70,18 +61,19 @@ pub(crate) fn ready(saves: u32) -> Scenario
     ensures { result.saves ≡ saves }
 {
     let mut start = Device::formatted();
-    save(&mut start, FIRST_DATA, DATA + 1, 0);
+    save(&mut start, FIRST_DATA..BLOCKS, Age::Home);
     start.apply();
     for i in 0..saves {
-        save(&mut start, FIRST_DATA + SAVED * i, SAVED, 1);
+        let first = FIRST_DATA + SAVED * i;
+        save(&mut start, first..first + SAVED, Age::Log);
     }
     to_save(&mut start);
     Scenario { start, saves }
 }
 
 // The photograph, written directly, so that it waits.
-pub(crate) fn photographed(d: &mut Device) {
-    d.direct(PHOTOGRAPH, &[byte(PHOTOGRAPH, 2); BLOCK]);
+pub(crate) fn photographed(device: &mut Device) {
+    device.direct(PHOTOGRAPH, &[byte(PHOTOGRAPH, Age::Save); BLOCK]);
 }
 
 // Whether the save has a block.
@@ -92,41 +84,41 @@ fn of_save(address: u32) -> bool
 }
 
 // The age of a data block before the save.
-fn old_age(address: u32, saves: u32) -> u32
+fn old_age(address: u32, saves: u32) -> Age
     requires { saves ≤ 10 }
-    ensures { (result ≡ old_age address saves) × (result < 3) }
+    ensures { number result ≡ old_age address saves }
 {
     if address < FIRST_DATA + SAVED * saves {
-        1
+        Age::Log
     } else {
-        0
+        Age::Home
     }
 }
 
 // Before the save, or after it.
-fn age(address: u32, saves: u32, after: bool) -> u32
+fn age(address: u32, saves: u32, after: bool) -> Age
     requires { saves ≤ 10 }
-    ensures { (result ≡ age_of address saves after) × (result < 3) }
+    ensures { number result ≡ age_of address saves after }
 {
     if after && of_save(address) {
-        return 2;
+        return Age::Save;
     }
     old_age(address, saves)
 }
 
 // Whether a get gives the block of that age.
-fn has(d: &Device, address: u32, age: u32) -> bool
-    requires { (address < 65) × (age < 3) }
-    ensures { result ≡ holds address age (state d.now) }
+fn has(device: &Device, address: u32, age: Age) -> bool
+    requires { address < 65 }
+    ensures { result ≡ holds address (number age) (state device.now) }
 {
-    same(d.get(address), &[byte(address, age); BLOCK])
+    same(device.get(address), &[byte(address, age); BLOCK])
 }
 
 // Whether a byte of the photograph's block is as it was, or the photograph's.
 fn is_either(found: u8) -> bool
     ensures { result ≡ is_either found }
 {
-    found == byte(PHOTOGRAPH, 0) || found == byte(PHOTOGRAPH, 2)
+    found == byte(PHOTOGRAPH, Age::Home) || found == byte(PHOTOGRAPH, Age::Save)
 }
 
 // Whether a byte is neither.
@@ -137,30 +129,30 @@ fn is_spoilt(block: &[u8]) -> bool
 }
 
 // Whether a get of the photograph's block gives such a byte.
-fn has_spoilt(d: &Device) -> bool
-    ensures { result ≡ is_spoilt (bytes_at (get_place trap photograph (state d.now)) (state d.now)) }
+fn has_spoilt(device: &Device) -> bool
+    ensures { result ≡ is_spoilt (bytes_at (get_place trap photograph (state device.now)) (state device.now)) }
 {
-    is_spoilt(d.get(PHOTOGRAPH))
+    is_spoilt(device.get(PHOTOGRAPH))
 }
 
 // Whether the photograph's block is spoilt, or another data block not as before the save, or not as after it.
-fn has_other(d: &Device, saves: u32, after: bool) -> bool
+fn has_other(device: &Device, saves: u32, after: bool) -> bool
     requires { saves ≤ 10 }
-    ensures { result ≡ has_other saves after (state d.now) }
+    ensures { result ≡ has_other saves after (state device.now) }
 {
-    has_spoilt(d)
-        || (FIRST_DATA..PHOTOGRAPH).any(|address| !has(d, address, age(address, saves, after)))
+    has_spoilt(device)
+        || (FIRST_DATA..PHOTOGRAPH).any(|address| !has(device, address, age(address, saves, after)))
 }
 
 // What is found: old, new, or something else.
-pub(crate) fn letter(d: &Device, saves: u32) -> Finding
+pub(crate) fn letter(device: &Device, saves: u32) -> Finding
     requires { saves ≤ 10 }
-    ensures { character result ≡ letter_of saves (state d.now) }
+    ensures { character result ≡ letter_of saves (state device.now) }
 {
-    if !has_other(d, saves, false) {
+    if !has_other(device, saves, false) {
         return Finding::Old;
     }
-    if !has_other(d, saves, true) {
+    if !has_other(device, saves, true) {
         return Finding::New;
     }
     Finding::Other

@@ -38,9 +38,7 @@ impl Device {
     }
 
     pub(crate) fn put(&mut self, address: u32, block: &[u8]) {
-        let a = self
-            .rec
-            .put(&self.settled, &self.waiting, &mut self.work, address, block);
+        let a = self.rec.put(&self.settled, &self.waiting, &mut self.work, address, block);
         self.rec = a.rec;
     }
 

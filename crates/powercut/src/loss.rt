@@ -1,5 +1,5 @@
 // Power losses: of the save, and of the recovery that follows. Each experiment starts from the same card, on which the photograph is written.
-ghost use Rattle.std.specs.Prelude.{◌≡◌, ◌≤◌};
+ghost use Rattle.std.specs.Prelude.{◌≡◌, ◌≤◌, ◌<◌};
 ghost use Rattle.store.specs.Cut.{cut_call};
 ghost use Rattle.journal.specs.Geometry.{trap};
 ghost use Rattle.powercut.specs.Device.{state};
@@ -23,45 +23,46 @@ pub(crate) struct Loss {
 pub(crate) const ENOUGH: u32 = 2;
 
 // The photograph, then the save with power for so many orders.
-pub(crate) fn saved(c: &Scenario, orders: u32) -> Device {
-    let mut d = c.start;
-    photographed(&mut d);
-    d.power(orders);
-    d.sync();
-    d
+pub(crate) fn saved(scenario: &Scenario, orders: u32) -> Device {
+    let mut device = scenario.start;
+    photographed(&mut device);
+    device.power(orders);
+    device.sync();
+    device
 }
 
 // The cut of a try. A card with more waiting writes than there are places stays as it is.
-fn cut(d: &mut Device, attempt: u32)
-    ensures { d.old.rec.waiting ≤ trap.places → state d.new ≡ (cut_call trap (try_marks d.old.rec.waiting (tearable d.old.waiting d.old.rec.waiting) attempt) (state d.old)).state }
+fn cut(device: &mut Device, attempt: u32)
+    ensures within { device.old.rec.waiting ≤ trap.places → state device.new ≡ (cut_call trap (try_marks device.old.rec.waiting (tearable device.old.waiting device.old.rec.waiting) attempt) (state device.old)).state }
+    ensures beyond { trap.places < device.old.rec.waiting → device.new ≡ device.old }
 {
-    let n = d.rec.waiting;
+    let n = device.rec.waiting;
     if PLACES < n as usize {
         return;
     }
     let mut marks = [0u8; BLOCK * PLACES];
-    tries::marks(n, tears::tearable(&d.waiting, n), attempt, &mut marks);
+    tries::marks(n, tears::tearable(&device.waiting, n), attempt, &mut marks);
     let end = BLOCK * (n as usize);
-    d.cut(&marks[..end]);
+    device.cut(&marks[..end]);
 }
 
 // The cut, then a recovery with power for so many orders.
-fn boot(d: &mut Device, attempt: u32, orders: u32) {
-    cut(d, attempt);
-    d.power(orders);
-    d.recover();
+fn boot(device: &mut Device, attempt: u32, orders: u32) {
+    cut(device, attempt);
+    device.power(orders);
+    device.recover();
 }
 
 // The save lost, then a recovery with power for so many orders.
-pub(crate) fn recovered(c: &Scenario, loss: Loss, orders: u32) -> Device {
-    let mut d = saved(c, loss.orders);
-    boot(&mut d, loss.attempt, orders);
-    d
+pub(crate) fn recovered(scenario: &Scenario, loss: Loss, orders: u32) -> Device {
+    let mut device = saved(scenario, loss.orders);
+    boot(&mut device, loss.attempt, orders);
+    device
 }
 
 // The save lost, the recovery lost, then a recovery with all its power.
-pub(crate) fn recovered_again(c: &Scenario, loss: Loss, again: Loss) -> Device {
-    let mut d = recovered(c, loss, again.orders);
-    boot(&mut d, again.attempt, ENOUGH);
-    d
+pub(crate) fn recovered_again(scenario: &Scenario, loss: Loss, again: Loss) -> Device {
+    let mut device = recovered(scenario, loss, again.orders);
+    boot(&mut device, again.attempt, ENOUGH);
+    device
 }

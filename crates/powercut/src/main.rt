@@ -14,6 +14,7 @@
 
 mod contents;
 mod device;
+mod filling;
 mod finding;
 mod loss;
 mod map;

@@ -13,14 +13,14 @@ use journal::PLACES;
 use std::io;
 
 // How many tries there are of a card's cut. One that can't be cut is tried once, and then found as `?`.
-fn tries_of(d: &Device) -> u32
-    ensures { d.now.rec.waiting ≤ trap.places → result ≡ try_count d.now.rec.waiting (tearable d.now.waiting d.now.rec.waiting) }
+fn tries_of(device: &Device) -> u32
+    ensures { device.now.rec.waiting ≤ trap.places → result ≡ try_count device.now.rec.waiting (tearable device.now.waiting device.now.rec.waiting) }
 {
-    let n = d.rec.waiting;
+    let n = device.rec.waiting;
     if PLACES < n as usize {
         return 1;
     }
-    tries::count(n, tears::tearable(&d.waiting, n))
+    tries::count(n, tears::tearable(&device.waiting, n))
 }
 
 // Two findings that should be one.
@@ -29,47 +29,39 @@ fn both(one: Finding, other: Finding) -> Finding {
 }
 
 // The recovery with power for so many orders, lost with every try of its cut.
-fn with_tries(c: &Scenario, loss: Loss, orders: u32, before: Finding) -> Finding
-    requires { c.now.saves ≤ 10 }
-{
+fn with_tries(scenario: &Scenario, loss: Loss, orders: u32, before: Finding) -> Finding {
     let mut found = before;
-    for attempt in 0..tries_of(&recovered(c, loss, orders)) {
-        let last = recovered_again(c, loss, Loss { orders, attempt });
-        found = both(found, letter(&last, c.saves));
+    for attempt in 0..tries_of(&recovered(scenario, loss, orders)) {
+        let last = recovered_again(scenario, loss, Loss { orders, attempt });
+        found = both(found, letter(&last, scenario.saves));
     }
     found
 }
 
 // What is found behind a loss: by a recovery with all its power, and by the one behind every cut inside it.
-fn found(c: &Scenario, loss: Loss) -> Finding
-    requires { c.now.saves ≤ 10 }
-{
-    let mut found = letter(&recovered(c, loss, ENOUGH), c.saves);
+fn found(scenario: &Scenario, loss: Loss) -> Finding {
+    let mut found = letter(&recovered(scenario, loss, ENOUGH), scenario.saves);
     for orders in 0..=ENOUGH {
-        found = with_tries(c, loss, orders, found);
+        found = with_tries(scenario, loss, orders, found);
     }
     found
 }
 
 // The characters of a line, and whether there is no `?`.
-fn characters(rt: &impl Print, c: &Scenario, orders: u32) -> io::Result<bool>
-    requires { c.now.saves ≤ 10 }
-{
+fn characters(rt: &impl Print, scenario: &Scenario, orders: u32) -> io::Result<bool> {
     let mut whole = true;
-    for attempt in 0..tries_of(&saved(c, orders)) {
-        let found = found(c, Loss { orders, attempt });
+    for attempt in 0..tries_of(&saved(scenario, orders)) {
+        let found = found(scenario, Loss { orders, attempt });
         rt.write_all(&[found.character()])?;
         whole = whole && found != Finding::Other;
     }
     Ok(whole)
 }
 
-fn line(rt: &impl Print, name: &[u8], c: &Scenario, orders: u32) -> io::Result<bool>
-    requires { c.now.saves ≤ 10 }
-{
+fn line(rt: &impl Print, name: &[u8], scenario: &Scenario, orders: u32) -> io::Result<bool> {
     rt.write_all(name)?;
     print!(rt; " {orders} ")?;
-    let whole = characters(rt, c, orders)?;
+    let whole = characters(rt, scenario, orders)?;
     rt.write_all(b"\n")?;
     Ok(whole)
 }
@@ -78,10 +70,10 @@ fn line(rt: &impl Print, name: &[u8], c: &Scenario, orders: u32) -> io::Result<b
 pub(crate) fn map(rt: &impl Print, name: &[u8], saves: u32, most: u32) -> io::Result<bool>
     requires { (saves ≤ 10) × (most ≤ 39) }
 {
-    let c = ready(saves);
+    let scenario = ready(saves);
     let mut whole = true;
     for orders in 0..=most {
-        let more = line(rt, name, &c, orders)?;
+        let more = line(rt, name, &scenario, orders)?;
         whole = whole && more;
     }
     Ok(whole)

@@ -1,5 +1,5 @@
 -- `powercut::contents::age` meets its contract.
-use Rattle.std.proofs.Common.{◌≡◌, sym, ◌∙◌, ℕ, Bool, true, false, cond, ◌&&◌, arith}
+use Rattle.std.proofs.Common.{◌≡◌, sym, ◌∙◌, ℕ, Bool, false, cond, ◌&&◌}
 use Rattle.powercut.specs.Contents.{of_save, age_of}
 use Rattle.powercut.proofs.contents.age.Goals as goal
 use Rattle.powercut.proofs.contents.age.Goals.{else-after-via-then-after+else-of_save, else-after-via-else-after}
@@ -10,7 +10,7 @@ unchanged both age e = rw e
 
 pub returns-then-of_save : goal.returns-then-of_save
 unfolding age_of
-returns-then-of_save c = (rw (c.if-after.true, sym c.of_save.ensures ∙ c.if-of_save.true), omega arith)
+returns-then-of_save c = rw (c.if-after.true, sym c.of_save.ensures ∙ c.if-of_save.true)
 
 pub returns : goal.returns
 unfolding age_of
@@ -20,4 +20,4 @@ returns c =
       | else-after-via-then-after+else-of_save w ↦ rw (w.if-after.true, sym w.of_save.ensures ∙ w.if-of_save.false)
       | else-after-via-else-after w ↦ rw w.if-after.false
     ] in
-    (c.old_age.ensures.0 ∙ unchanged _ _ old, c.old_age.ensures.1)
+    c.old_age.ensures ∙ unchanged _ _ old

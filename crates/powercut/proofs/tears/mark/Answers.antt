@@ -1,5 +1,5 @@
 -- `powercut::tears::mark` meets its contract.
-use Rattle.std.proofs.Common.{◌≡◌, refl, sym, ap, ◌∙◌, ℕ, ◌%◌, Bool, true, false, cond, not, ◌&&◌}
+use Rattle.std.proofs.Common.{◌≡◌, ap, ◌∙◌, ◌%◌, Bool, true, false, cond, not, ◌&&◌}
 use mir.Val.{bool_byte}
 use Rattle.powercut.specs.Tears as Tears
 use Rattle.powercut.proofs.tears.mark.Goals as goal
