@@ -48,8 +48,8 @@ fn to_save(device: &mut Device) {
     device.commit();
 }
 
-// A card with so many saves of three blocks each in its log, one behind the other, and one more in its group. It is the one that is cut.
-#[derive(Clone, Copy)]
+// A card with so many saves of three blocks each in its log, one behind the other, and in its group the one that is cut.
+#[derive(Drop)]
 pub(crate) struct Scenario {
     pub start: Device,
     pub saves: u32,
