@@ -4,11 +4,21 @@ use Rattle.cells.specs.Entry.{block_bytes}
 use Rattle.cells.specs.Same.{same}
 use Rattle.journal.specs.Geometry.{trap}
 use Rattle.journal.specs.Layout.{first_data}
+use Rattle.powercut.specs.declared.filling.Age.{Age}
+use Rattle.powercut.specs.declared.filling.Age.TheVariants.{Home, Log, Save}
+use Rattle.powercut.specs.declared.finding.Finding.{Finding}
+use Rattle.powercut.specs.declared.finding.Finding.TheVariants.{Old, New, Other}
 use Rattle.store.specs.State.{State}
 use Rattle.store.specs.Causes.{some}
 use Rattle.store.specs.Get.{get_place, bytes_at}
 
--- a block is filled with one byte, by its address and its age: 0 at home, 1 in the log, 2 in the save or as the photograph
+-- an age: 0 at home, 1 in the log, 2 in the save or as the photograph
+abbrev pub number : Age → ℕ
+number Home = 0
+number Log = 1
+number Save = 2
+
+-- a block is filled with one byte, by its address and its age
 abbrev pub byte_of : ℕ → ℕ → ℕ
 byte_of address age = address + 64 * age
 
@@ -58,3 +68,9 @@ has_other saves after st = is_spoilt (bytes_at (get_place trap photograph st) st
 -- the photograph's block aside: `o`, all are old; `n`, the save's are new and the others old; `?`, anything else
 unfoldable pub letter_of : ℕ → State → ℕ
 letter_of saves st = cond (has_other saves false st) (cond (has_other saves true st) 63 110) 111
+
+-- a finding's character
+abbrev pub character : Finding → ℕ
+character Old = 111
+character New = 110
+character Other = 63

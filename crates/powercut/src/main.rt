@@ -12,44 +12,22 @@
 // The last line says whether there is a `?`. The file stdout holds the map; docs/powercut.py draws it.
 #![tactic(auto)]
 
-mod buffers;
 mod contents;
+mod device;
+mod filling;
+mod finding;
 mod loss;
 mod map;
 mod sets;
 mod tears;
 mod tries;
 
-use crate::buffers::SETTLED;
 use crate::map::map;
 use std::io;
-use store::{WAITING, WORK};
 
 fn main(rt: HostRuntime) -> io::Result<()> {
-    let mut start = [0u8; SETTLED];
-    let mut settled = [0u8; SETTLED];
-    let mut waiting = [0u8; WAITING];
-    let mut work = [0u8; WORK];
-    let append = map(
-        &rt,
-        b"append",
-        1,
-        6,
-        &mut start,
-        &mut settled,
-        &mut waiting,
-        &mut work,
-    )?;
-    let apply = map(
-        &rt,
-        b"apply",
-        10,
-        39,
-        &mut start,
-        &mut settled,
-        &mut waiting,
-        &mut work,
-    )?;
+    let append = map(&rt, b"append", 1, 6)?;
+    let apply = map(&rt, b"apply", 10, 39)?;
     say(&rt, append && apply)
 }
 

@@ -40,8 +40,5 @@ pub(crate) fn mark(n: u32, set: u32, i: u32) -> u8
     requires { (n ≤ trap_places) × (i < n) }
     ensures { result ≡ Sets.mark n set i }
 {
-    if keeps(n, set, i) {
-        return 1;
-    }
-    0
+    u8::from(keeps(n, set, i))
 }

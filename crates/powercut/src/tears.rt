@@ -54,6 +54,7 @@ fn tears(k: u32, tear: u32, i: u32) -> bool
 }
 
 // Whether byte j of a write is kept that is torn in this way.
+// Stays a number: the way is what is left of the tear's number, and would be matched twice as an enum.
 fn keeps_byte(way: u32, j: u32) -> bool
     ensures { result ≡ Tears.keeps_byte way j }
 {
@@ -70,11 +71,5 @@ fn keeps_byte(way: u32, j: u32) -> bool
 pub(crate) fn mark(k: u32, tear: u32, i: u32, j: u32) -> u8
     ensures { result ≡ Tears.torn_mark k tear i j }
 {
-    if !tears(k, tear, i) {
-        return 1;
-    }
-    if keeps_byte(tear % WAYS, j) {
-        return 1;
-    }
-    0
+    u8::from(!tears(k, tear, i) || keeps_byte(tear % WAYS, j))
 }

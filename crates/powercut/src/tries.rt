@@ -35,9 +35,7 @@ pub(crate) fn marks(n: u32, k: u32, attempt: u32, to: &mut [u8])
     requires { (n ≤ trap_places) × (block_bytes * n ≤ length to.old) }
     ensures { take (block_bytes * n) to.new ≡ try_marks n k attempt }
 {
-    let mut x = 0;
-    while x < EACH * n {
+    for x in 0..EACH * n {
         to[x as usize] = mark(n, k, attempt, x / EACH, x % EACH);
-        x += 1;
     }
 }

@@ -1,24 +1,23 @@
 -- `powercut::contents::age` meets its contract.
-use mathlib.Core.Path.{◌≡◌, sym, ◌∙◌}
-use mathlib.Core.Bool.{true, false}
-use native.Mathlib.Omega.{arith}
-use Rattle.powercut.specs.Contents.{age_of}
+use Rattle.std.proofs.Common.{◌≡◌, sym, ◌∙◌, ℕ, Bool, false, cond, ◌&&◌}
+use Rattle.powercut.specs.Contents.{of_save, age_of}
 use Rattle.powercut.proofs.contents.age.Goals as goal
+use Rattle.powercut.proofs.contents.age.Goals.{else-after-via-then-after+else-of_save, else-after-via-else-after}
 
-pub returns-then-not-after : goal.returns-then-not-after
-unfolding age_of
-returns-then-not-after c =
-    let before : c.args.after ≡ false = c.if-not-after.true in
-    (rw before c.old_age.ensures.0, c.old_age.ensures.1)
+-- not a block of the save, or before it
+unchanged : (both : Bool) (age : ℕ) → both ≡ false → age ≡ cond both 2 age
+unchanged both age e = rw e
 
 pub returns-then-of_save : goal.returns-then-of_save
 unfolding age_of
-returns-then-of_save c =
-    let after : c.args.after ≡ true = c.if-not-after.false in
-    (rw (after, sym c.of_save.ensures ∙ c.if-of_save.true), omega arith)
+returns-then-of_save c = rw (c.if-after.true, sym c.of_save.ensures ∙ c.if-of_save.true)
 
 pub returns : goal.returns
 unfolding age_of
 returns c =
-    let after : c.args.after ≡ true = c.if-not-after.false in
-    (rw (after, sym c.of_save.ensures ∙ c.if-of_save.false) c.old_age-2.ensures.0, c.old_age-2.ensures.1)
+    let a = c.args in
+    let old : a.after && of_save a.address ≡ false = elim c.else-after.branch [
+      | else-after-via-then-after+else-of_save w ↦ rw (w.if-after.true, sym w.of_save.ensures ∙ w.if-of_save.false)
+      | else-after-via-else-after w ↦ rw w.if-after.false
+    ] in
+    c.old_age.ensures ∙ unchanged _ _ old

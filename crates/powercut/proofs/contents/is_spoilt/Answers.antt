@@ -1,47 +1,31 @@
 -- `powercut::contents::is_spoilt` meets its contract.
-use Prim.Native.Nat.{◌-◌}
-use mathlib.Core.Path.{◌≡◌, refl, sym, ap, ◌∙◌}
-use mathlib.Core.Bool.{true, false, not}
-use native.Mathlib.Omega.{arith}
-use borrow.Author.Tests.{eq-eqb, ne_eqb}
+use Rattle.std.specs.List.{list_any}
+use Rattle.std.proofs.Common.{arith, rules, tests, ◌≡◌, refl, ap, ◌∙◌, ℕ, Bool, not, ◌||◌, length, get_or}
+use Rattle.std.proofs.lemmas.Iterator.{YieldsList-from_slice}
+use Rattle.std.proofs.lemmas.Iterator.Search.{any_from_yields_List}
+use borrow.Author.Tests.{eq-eqb}
 use lib.Dec.{eqb}
-use lib.ListN.{length}
-use Rattle.store.proofs.Causes.{search_hit, search_on, search_over}
-use Rattle.powercut.specs.Contents.{is_spoilt}
-use Rattle.powercut.proofs.contents.is_spoilt.Invariants.{neither}
+use Rattle.store.specs.Causes.{some}
+use Rattle.powercut.specs.Contents.{is_either, is_spoilt}
+use Rattle.powercut.proofs.Searches.{any-some}
 use Rattle.powercut.proofs.contents.is_spoilt.Goals as goal
+
+-- a block of the right size
+sized : (f : ℕ → Bool) (n m : ℕ) → n ≡ m → some f n ≡ not (eqb n m) || some f m
+sized f n m e = rw (eq-eqb n m e) (ap (some f) e)
 
 pub returns-then-block-ne-BLOCK : goal.returns-then-block-ne-BLOCK
 unfolding is_spoilt
-returns-then-block-ne-BLOCK c =
-    let short : eqb (length c.args.block.now) 512 ≡ false = ne_eqb _ _ c.if-block-ne-BLOCK.true in
-    rw short
+returns-then-block-ne-BLOCK c = grind arith
 
-pub loop-i-init : goal.loop-i-init
-loop-i-init c = (omega arith, refl)
-
-pub returns-then-not-is_either : goal.returns-then-not-is_either
+pub returns-else-block-ne-BLOCK : goal.returns-else-block-ne-BLOCK
 unfolding is_spoilt
-returns-then-not-is_either c =
-    let l = c.loop-i in
-    let block = c.args.block.now in
-    let size : length block ≡ 512 = omega arith in
-    let whole : eqb (length block) 512 ≡ true = eq-eqb _ _ size in
-    let last : neither block (l.i - 1) ≡ true = ap not (sym c.is_either.ensures ∙ c.if-not-is_either.true) in
-    rw whole (search_hit (neither block) l.i 512 l.invariant.1 (omega arith) last)
-
-pub loop-i-preserved : goal.loop-i-preserved
-loop-i-preserved c =
-    let l = c.loop-i in
-    let block = c.args.block.now in
-    let last : neither block (l.i - 1) ≡ false = ap not (sym c.is_either.ensures ∙ c.if-not-is_either.false) in
-    (omega arith, search_on (neither block) l.i 512 l.invariant.1 (omega arith) last)
-
-pub returns : goal.returns
-unfolding is_spoilt
-returns c =
-    let l = c.loop-i in
-    let block = c.args.block.now in
-    let size : length block ≡ 512 = omega arith in
-    let whole : eqb (length block) 512 ≡ true = eq-eqb _ _ size in
-    rw whole (search_over (neither block) l.i 512 l.invariant.1 (omega arith))
+returns-else-block-ne-BLOCK c =
+    let block : _ = c.args.block.now in
+    let neither : ℕ → Bool = λ b. not (is_either b) in
+    let place : ℕ → Bool = λ j. neither (get_or block j 0) in
+    let size : length block ≡ 512 = c.if-block-ne-BLOCK.false in
+    let found : c.any.result ≡ list_any neither block =
+    any_from_yields_List neither _ _ c.any.result c.any.ensures.ran (YieldsList-from_slice block c.iter.ensures.rest) (λ x t q k. search (rules, tests)) in
+    let spoilt : list_any neither block ≡ some place (length block) = any-some neither place block (λ i h. refl) in
+    found ∙ spoilt ∙ sized place _ _ size

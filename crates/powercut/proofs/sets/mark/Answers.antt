@@ -1,12 +1,14 @@
 -- `powercut::sets::mark` meets its contract.
-use mathlib.Core.Path.{sym, ◌∙◌}
+use Rattle.std.proofs.Common.{◌≡◌, refl, ap, ◌∙◌, Bool, true, false, cond}
+use mir.Val.{bool_byte}
 use Rattle.powercut.specs.Sets as Sets
 use Rattle.powercut.proofs.sets.mark.Goals as goal
 
-pub returns-then-keeps : goal.returns-then-keeps
-unfolding Sets.mark
-returns-then-keeps c = rw (sym c.keeps.ensures ∙ c.if-keeps.true)
+-- a kept write's mark is 1
+marked : (b : Bool) → bool_byte b ≡ cond b 1 0
+marked true = refl
+marked false = refl
 
 pub returns : goal.returns
 unfolding Sets.mark
-returns c = rw (sym c.keeps.ensures ∙ c.if-keeps.false)
+returns c = c.from.ensures ∙ ap bool_byte c.keeps.ensures ∙ marked _

@@ -20,16 +20,16 @@ whole : (f : ℕ → ℕ) (to : List ℕ) (x m : ℕ) → x ≡ m → take x to 
 whole f to x m e h = rw (← e) h
 
 pub loop-x-init : goal.loop-x-init
-loop-x-init c = (omega arith, refl, refl)
+loop-x-init c = (refl, refl)
 
 pub loop-x-preserved : goal.loop-x-preserved
 loop-x-preserved c =
     let l = c.loop-x in
-    (omega arith, simp length-set l.invariant.1, more _ l.to l.x c.mark.result (omega arith) c.mark.ensures l.invariant.2)
+    (simp length-set l.invariant.0, more _ l.to l.x c.mark.result (omega arith) c.mark.ensures l.invariant.1)
 
 pub returns : goal.returns
 returns c =
     let l = c.loop-x in
     let a = c.args in
     let all : l.x ≡ 512 * a.n = omega arith in
-    whole _ l.to l.x _ all l.invariant.2 ∙ sym (try_bytes a.n a.k a.attempt)
+    whole _ l.to l.x _ all l.invariant.1 ∙ sym (try_bytes a.n a.k a.attempt)
