@@ -148,19 +148,8 @@ module _ (geo : Geometry) where
   unfolding slot_entry
   slot-entry s i e p q = entry_eq p q
 
--- the sum goes on over the next entry
-pub sum_more : (f : ℕ → Entry) (h i g : ℕ) (e : Entry) → g ≡ sum_of h (up_to f i) → e ≡ f i → sum_of g (e ∷ []) ≡ sum_of h (up_to f (i + 1))
-sum_more f h i g e p q = rw (add-one, p, q) (sym (sum_of-append h (up_to f i) (f i ∷ [])))
-
 module _ (geo : Geometry) where
-  -- one more address
-  pub data_more : (N : ℕ) (s : List ℕ) (i : ℕ) → all_data geo N (entries geo s (i + 1)) ≡ all_data geo N (entries geo s i) && is_data geo N (slot_address s i)
-  unfolding all_data slot_entry
-  data_more N s i =
-      rw (add-one)
-      (all_data-append geo N (entries geo s i) (slot_entry geo s i ∷ [])
-      ∙ ap (λ (t : Bool). all_data geo N (entries geo s i) && t) (and-true (is_data geo N (slot_address s i))))
-
+  -- whether each is a data block, as a fold over places
   pub data-fold : (N : ℕ) (s : List ℕ) (n : ℕ) → fold (λ all i. all && is_data geo N (slot_address s i)) true (range_with_len 0 n) ≡ all_data geo N (entries geo s n)
   unfolding all_data slot_entry
   data-fold N s n =

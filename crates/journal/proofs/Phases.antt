@@ -7,7 +7,7 @@ use native.Mathlib.Omega.{arith}
 use borrow.Author.Tests.{leb-true, leb-false, le-leb, lt-leb, ltb-true, ltb-false}
 use lib.Dec.{leb, ltb}
 use lib.ListN.{length, length-map}
-use Rattle.std.specs.Prelude.{Result, Ok, is_ok}
+use Rattle.std.specs.Prelude.{Result, is_ok}
 use Rattle.cells.specs.Upto.{up_to}
 use Rattle.cells.specs.Upto.Laws.{length-up_to, take-up_to}
 use Rattle.cells.specs.Entry.{entry_bytes, Entry}
@@ -138,6 +138,3 @@ module _ (f : ℕ → Entry) (i : ℕ) (w₀ : List ℕ) (q₀ : Queue) (w : Lis
       where
         upto : (s : List ℕ) (n : ℕ) → i ≤ n → q₀.power ≡ i → run (map write (up_to f n)) (card_of s w₀ q₀) ≡ run (map write (up_to f i)) (card_of s w₀ q₀)
         upto s n k all = writes_take (up_to f n) (card_of s w₀ q₀) ∙ rw (all, take-up_to f n i k)
-
-  pub written_all : Rowed f i w₀ q₀ w (Ok q)
-  written_all = (sym (le-leb i q₀.power before.power), (before.card, before.count))

@@ -20,9 +20,6 @@ slice_bounds-copy-end-2 c = simp length-take (omega (arith, trap.described, trap
 pub slice_bounds-copy-end-3 : goal.slice_bounds-copy-end-3
 slice_bounds-copy-end-3 c = simp length-take (omega (arith, trap.described, trap-descriptors))
 
-pub copy-requires : goal.copy-requires
-copy-requires c = simp length-take (omega (arith, trap.described, trap-descriptors))
-
 pub list_addresses-requires : goal.list_addresses-requires
 list_addresses-requires c = omega (arith, trap.described, trap-descriptors)
 

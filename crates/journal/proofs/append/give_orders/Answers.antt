@@ -34,31 +34,26 @@ split l s es =
 size : (s : List ℕ) (n : ℕ) (es : List Entry) (m : ℕ) → length es ≡ m → length (listed s n es) ≡ m + 1
 size s n es m e = rw (length-append, length-slot_writes trap, e)
 
-pub returns-in_err-listed : goal.returns-in_err-listed
-returns-in_err-listed c =
+pub returns-in_err-listed-clause-queue_after : goal.returns-in_err-listed-clause-queue_after
+returns-in_err-listed-clause-queue_after c =
     let a = c.args in
     let es = entries_from a.work.now a.group.from a.group.count in
     let w = c.in_err-listed.ensures in
     let same : c.from_residual.result ≡ Err c.in_err-listed.field-0.0 = search rules in
     let o = stopped _ (listed a.settled.now a.log.count es) (last a.log es) (split a.log a.settled.now es) (a.group.count + 1) 2 (a.group.count + 3) (size a.settled.now a.log.count es a.group.count (length_from a.work.now a.group.from a.group.count)) (omega arith)
     (card_of a.settled.now a.waiting.now a.queue) _ (w.by_index a.settled.now) false w.happened_value refl in
-    rw same (record { happened_value = o.0; queue_after = o.1 })
+    rw same o.1
 
 pub overflow_add-log : goal.overflow_add-log
 overflow_add-log c = omega (arith, trap.addressed)
 
-pub order-requires : goal.order-requires
-order-requires c =
+pub order-requires-clause-below : goal.order-requires-clause-below
+order-requires-clause-below c =
     let a = c.args in
     let es = entries_from a.work.now a.group.from a.group.count in
-    let w = c.in_ok-listed.ensures in
     let m : length es ≡ a.group.count = length_from a.work.now a.group.from a.group.count in
-    let old : length (block_at a.settled.now descriptor_at) ≡ block_bytes = length-block_at a.settled.now descriptor_at (omega arith) in record {
-      settled_nonzero = omega arith;
-      waiting_lt_most_places = omega (arith, w.waiting_bound);
-      entry_bytes_in_bounds = omega (arith, w.waiting_bound);
-      below = list_below trap (blocks_in a.settled.now) a.settled.now a.waiting.now a.queue c.write_list.new.waiting c.in_ok-listed.listed a.log.count es (one_descriptor a.settled.now a.log.count es ∷ []) (w.by_index a.settled.now) (omega arith) (from_whole a.work.now a.group.from a.group.count (omega arith)) (length-describe (block_at a.settled.now descriptor_at) a.log.count es, tt) (omega (arith, trap-descriptors), tt) (omega arith) (omega arith) c.requires.below;
-    }
+    let old : length (block_at a.settled.now descriptor_at) ≡ block_bytes = length-block_at a.settled.now descriptor_at (omega arith) in
+    list_below trap (blocks_in a.settled.now) a.settled.now a.waiting.now a.queue c.write_list.new.waiting c.in_ok-listed.listed a.log.count es (one_descriptor a.settled.now a.log.count es ∷ []) (c.in_ok-listed.ensures.by_index a.settled.now) (omega arith) (from_whole a.work.now a.group.from a.group.count (omega arith)) (length-describe (block_at a.settled.now descriptor_at) a.log.count es, tt) (omega (arith, trap-descriptors), tt) (omega arith) (omega arith) c.requires.below
 
 pub returns : goal.returns
 returns c =

@@ -14,25 +14,20 @@ use Rattle.journal.proofs.append.write_list.Goals as goal
 orders : (n : ℕ) (work : List ℕ) (from m : ℕ) → length (slot_writes trap n (entries_from work from m)) ≡ m
 orders n work from m = length-slot_writes trap n (entries_from work from m) ∙ length_from work from m
 
-pub returns-in_err-written : goal.returns-in_err-written
-returns-in_err-written c =
+pub returns-in_err-written-clause-by_index : goal.returns-in_err-written-clause-by_index
+returns-in_err-written-clause-by_index c =
     let a = c.args in
     let es = entries_from a.work.now a.group.from a.group.count in
     let w = c.in_err-written.ensures in
     let same : c.from_residual.result ≡ Err c.in_err-written.field-0.0 = search rules in
     let o = writes_stopped _ (slot_writes trap a.n es) (write (one_descriptor a.settled.now a.n es) ∷ []) refl a.group.count 1 _ (orders a.n a.work.now a.group.from a.group.count) refl
     a.waiting.now a.queue c.write_slots.new.waiting (Err c.in_err-written.field-0.0) w.happened_value w.by_index refl in
-    rw same (record { happened_value = o.0; by_index = o.1; waiting_bound = omega (arith, w.waiting_bound) })
+    rw same o.1
 
-pub describe-requires : goal.describe-requires
-describe-requires c =
+pub describe-requires-clause-len : goal.describe-requires-clause-len
+describe-requires-clause-len c =
     let s = c.args.settled in
-    record {
-      block_len = refl;
-      len = ap length (block_read c.read.result s descriptor_at c.read.ensures) ∙ length-block_at s.now descriptor_at (omega arith);
-      count_bound = omega arith;
-      count_in_bounds = omega arith;
-    }
+    ap length (block_read c.read.result s descriptor_at c.read.ensures) ∙ length-block_at s.now descriptor_at (omega arith)
 
 pub returns : goal.returns
 returns c =

@@ -26,18 +26,18 @@ homes s n = rw (length-map) (length-up_to (slot_entry trap s) n)
 homes_flush : (s : List ℕ) (n : ℕ) → length (map write (entries trap s n) ++ (flush ∷ [])) ≡ n + 1
 homes_flush s n = rw (length-append, homes s n)
 
-pub returns-in_err-written : goal.returns-in_err-written
+pub returns-in_err-written-clause-queue_after : goal.returns-in_err-written-clause-queue_after
 unfolding checkpoint_orders
-returns-in_err-written c =
+returns-in_err-written-clause-queue_after c =
     let a = c.args in
     let w = c.in_err-written.ensures in
     let same : c.from_residual.result ≡ Err c.in_err-written.field-0.0 = search rules in
     let o = stopped _ (map write (entries trap a.settled.now a.n)) (flush ∷ last a.blocks a.save) refl a.n 3 _ (homes a.settled.now a.n) refl
     (card_of a.settled.now a.waiting.now a.queue) _ (w.by_index a.settled.now) false w.happened_value refl in
-    rw same (record { happened_value = o.0; queue_after = o.1 })
+    rw same o.1
 
-pub flush-requires : goal.flush-requires
-flush-requires c =
+pub flush-requires-clause-below : goal.flush-requires-clause-below
+flush-requires-clause-below c =
     let a = c.args in
     let s = a.settled.now in
     let w = c.in_ok-written.ensures in
@@ -45,10 +45,7 @@ flush-requires c =
     let below = writes_below (blocks_in s) (entries trap s a.n) (card_of s a.waiting.now a.queue) (omega arith)
     (entries_whole trap s a.n (omega arith) (omega arith)) (entries-short trap s a.n (λ i. search rules) (omega arith) (omega arith))
     (entries_below trap (blocks_in s) s a.n c.requires.by_index) c.requires.below in
-    record {
-      waiting_in_bounds = omega (arith, w.waiting_bound);
-      below = below_card (blocks_in s) s c.write_homes.new.waiting c.in_ok-written.written _ (w.by_index s) below;
-    }
+    below_card (blocks_in s) s c.write_homes.new.waiting c.in_ok-written.written _ (w.by_index s) below
 
 pub returns-in_err-flushed : goal.returns-in_err-flushed
 returns-in_err-flushed c =

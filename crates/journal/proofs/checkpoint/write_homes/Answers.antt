@@ -37,13 +37,3 @@ loop-i-preserved c =
     slot-entry trap a.settled.now l.i _ c.slot_address.ensures (block_read c.slot_block.result a.settled (slot_at trap l.i) c.slot_block.ensures) in
     let w = c.in_ok-q.ensures in
     written_more (slot_entry trap a.settled.now) l.i a.waiting.now a.queue l.waiting l.q l.invariant _ sent c.write.new.waiting (Ok c.in_ok-q.q) (w.happened_value, (w.by_index, w.waiting_bound)) (omega arith) refl
-
-pub returns : goal.returns
-returns c =
-    let l = c.loop-i in
-    let all : l.i ≡ c.args.n = omega arith in
-    record {
-      happened_value = search rules;
-      by_index = rw all at l.invariant.card;
-      waiting_bound = search rules;
-    }

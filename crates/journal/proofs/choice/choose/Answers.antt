@@ -1,10 +1,9 @@
 -- `journal::choice::choose` meets its contract.
 use mathlib.Core.Path.{◌≡◌, sym, ◌∙◌}
 use mathlib.Core.Bool.{false}
-use native.Mathlib.Omega.{arith}
 use Rattle.journal.specs.Geometry.{trap}
 use Rattle.journal.specs.Choice.{foreign}
-use Rattle.journal.proofs.Choices.{ours, fallback_over_zero, choose-foreign, choose_whole, choose_fallback, choose-neither}
+use Rattle.journal.proofs.Choices.{choose-foreign, choose_whole, choose_fallback, choose-neither}
 use Rattle.journal.proofs.choice.choose.Goals as goal
 
 pub returns-then-is_foreign : goal.returns-then-is_foreign
@@ -12,36 +11,11 @@ returns-then-is_foreign c =
     let a = c.args in
     sym (choose-foreign trap a.blocks a.settled.now c.header_of-h.result c.header_of-h.ensures (sym c.is_foreign.ensures ∙ c.if-is_foreign.true))
 
-pub good-requires : goal.good-requires
-good-requires c =
-    let accepted : foreign trap c.args.blocks c.header_of-h.result ≡ false = sym c.is_foreign.ensures ∙ c.if-is_foreign.false in
-    record {
-      trap_bound = omega arith;
-      n_le_slots = (ours trap c.args.blocks c.header_of-h.result (accepted)).count;
-    }
-
 pub returns-then-good : goal.returns-then-good
 returns-then-good c =
     let accepted : foreign trap c.args.blocks c.header_of-h.result ≡ false = sym c.is_foreign.ensures ∙ c.if-is_foreign.false in
     let a = c.args in
     sym (choose_whole trap a.blocks a.settled.now c.header_of-h.result c.header_of-h.ensures (accepted) (sym c.good.ensures ∙ c.if-good.true))
-
-pub good-requires-2 : goal.good-requires-2
-good-requires-2 c =
-    let accepted : foreign trap c.args.blocks c.header_of-h.result ≡ false = sym c.is_foreign.ensures ∙ c.if-is_foreign.false in
-    let o = ours trap c.args.blocks c.header_of-h.result (accepted) in
-    record {
-      trap_bound = omega arith;
-      n_le_slots = omega (arith, o.count, o.previous);
-    }
-
-pub overflow_sub-save : goal.overflow_sub-save
-overflow_sub-save c =
-    let accepted : foreign trap c.args.blocks c.header_of-h.result ≡ false = sym c.is_foreign.ensures ∙ c.if-is_foreign.false in
-    let a = c.args in
-    let some = fallback_over_zero trap a.blocks a.settled.now c.header_of-h.result (accepted)
-    (sym c.good.ensures ∙ c.if-good.false) (sym c.good-2.ensures ∙ c.if-good-2.true) in
-    omega arith
 
 pub returns-then-good-2 : goal.returns-then-good-2
 returns-then-good-2 c =

@@ -7,11 +7,8 @@ use Rattle.journal.specs.declared.header.Header.{Header}
 use Rattle.journal.specs.Orders.{header_write, fallback_orders}
 use Rattle.journal.proofs.fallback.fallback.Goals as goal
 
-pub returns : goal.returns
+pub returns-clause-queue_after : goal.returns-clause-queue_after
 unfolding fallback_orders
-returns c =
+returns-clause-queue_after c =
     let a = c.args in
-    record {
-      happened_value = c.order.ensures.happened_value;
-      queue_after = c.order.ensures.queue_after ∙ ap (λ (h : Header). run (header_write h ∷ flush ∷ []) (card_of a.settled.now a.waiting.now a.queue)) c.new.ensures;
-    }
+    c.order.ensures.queue_after ∙ ap (λ (h : Header). run (header_write h ∷ flush ∷ []) (card_of a.settled.now a.waiting.now a.queue)) c.new.ensures

@@ -1,5 +1,5 @@
 -- `journal::wanted::mark` meets its contract: from place i on all were compared with the address.
-use Rattle.std.proofs.Common.{rules, ◌≡◌, ◌≤◌, ◌<◌, ◌+◌, ◌-◌, ◌%◌, refl, sym, ◌∙◌, arith, length, get_or}
+use Rattle.std.proofs.Common.{rules, ◌≡◌, ◌≤◌, ◌<◌, ◌+◌, ◌-◌, refl, sym, ◌∙◌, arith, length, get_or}
 use borrow.Author.Tests.{eq-eqb, ne_eqb}
 use lib.ListN.{set, length-set}
 use lib.Seq.{get_or-set_same, get_or-set_other}
@@ -12,20 +12,8 @@ pub overflow_add-place : goal.overflow_add-place
 unfolding trap
 overflow_add-place c = search rules
 
-pub overflow_cast-i-2 : goal.overflow_cast-i-2
-overflow_cast-i-2 c = omega (arith, c.type_inv.last (c.args.a % 128))
-
 pub loop-i-init : goal.loop-i-init
 loop-i-init c = let a = c.args in compared-last a.list.now a.last.now a.before.now a.a (a.k + 1) a.met.now c.requires.chained _ refl
-
-pub wanted-requires : goal.wanted-requires
-wanted-requires c = omega (arith, c.loop-i.invariant.inside)
-
-pub bounds-before-i : goal.bounds-before-i
-bounds-before-i c = omega (arith, c.loop-i.invariant.inside)
-
-pub overflow_cast-i-in-loop-i : goal.overflow_cast-i-in-loop-i
-overflow_cast-i-in-loop-i c = omega (arith, c.type_inv.before (c.loop-i.i - 1))
 
 pub loop-i-preserved : goal.loop-i-preserved
 loop-i-preserved c =
@@ -45,9 +33,6 @@ loop-i-smaller c =
     let l = c.loop-i in
     let less : get_or a.before.now (l.i - 1) 0 ≤ l.i - 1 = before_le a.list.now a.last.now a.before.now _ (l.i - 1) c.requires.chained (omega (arith, l.invariant.inside)) in
     omega arith
-
-pub shape_of-met : goal.shape_of-met
-shape_of-met c = c.loop-i.invariant.size
 
 pub returns : goal.returns
 returns c =
