@@ -8,7 +8,6 @@ use mir.Val.{bool_byte}
 use borrow.Author.Tests.{eq-eqb, ne_eqb, eqb-true}
 use lib.Dec.{eqb}
 use lib.ListN.{length}
-use Rattle.store.specs.declared.cost.Cost.{Cost}
 use Rattle.store.specs.declared.place.Place.{Place}
 use Rattle.store.specs.declared.place.Place.TheVariants.{Nowhere}
 use Rattle.store.specs.declared.record.Record.{Record}
@@ -18,9 +17,8 @@ use Rattle.store.specs.Request.{get}
 use Rattle.store.specs.Causes.{cause}
 use Rattle.store.specs.Get.{newest, get_place}
 use Rattle.store.specs.GetList.{listing_of, listing}
-use Rattle.store.specs.Cost.{no_figures}
-use Rattle.inspect.specs.declared.answer.Alike.{Alike}
-use Rattle.inspect.specs.Alike.{alike_of}
+use Rattle.store.specs.Cost.{Cost, no_figures}
+use Rattle.inspect.specs.Alike.{Alike, alike_of}
 use Rattle.journal.specs.Geometry.{Geometry}
 use Rattle.firmware.specs.Face.{record_bytes, encode_record, decode_record, face_of, handed, faced, buffer_number, buffer_offset, got_of, got_in, got, listed, Asked, told, asked, compared_of, compared}
 
