@@ -1,11 +1,6 @@
 -- `store::record::Record::put` meets its contract.
 use Rattle.std.proofs.Common.{rules, arith, ◌≡◌, ◌∙◌, refl, ap}
-<<<<<<< HEAD
 use Rattle.std.specs.Prelude.{Err}
-=======
-use Rattle.std.specs.Prelude.{Option, None, Err, false, not, ◌&&◌, ℕ, ◌<◌, leb}
-use borrow.Author.Tests.{eqb-true, leb-false, not-false}
->>>>>>> c1aecab81ba8a983713614e78c7ddbf97bebe83a
 use Rattle.journal.specs.Geometry.{trap}
 use Rattle.store.specs.Request.{put}
 use Rattle.store.specs.Outcomes.{completed}
