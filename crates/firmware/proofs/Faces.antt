@@ -138,16 +138,16 @@ as_byte true = refl
 as_byte false = refl
 
 module _ (geo : Geometry) where
-  pub compared-said : (a b : List ℕ) (q : Result Bool Refusal) (n y : ℕ) (yes : Bool)
+  pub compared-said : (a b : List ℕ) (q : Result Bool Refusal) (n y : ℕ) (byte : Bool)
       → alike_answer q ≡ alike_of geo a b
       → n ≡ answer q
-      → yes ≡ result_unwrap_or q false
-      → y ≡ bool_byte yes
+      → byte ≡ result_unwrap_or q false
+      → y ≡ bool_byte byte
       → compared_of n y ≡ compared geo a b
   unfolding compared
-  compared-said a b q n y yes e f g h =
-      let byte : y ≡ cond (result_unwrap_or q false) 1 0 = h ∙ as_byte yes ∙ ap (λ (t : Bool). cond t 1 0) g in
-      (λ j. compared_of (f j) (byte j)) ∙ said q ∙ ap (λ (z : Alike). compared_of z.number (cond z.yes 1 0)) e
+  compared-said a b q n y byte e f g h =
+      let one : y ≡ cond (result_unwrap_or q false) 1 0 = h ∙ as_byte byte ∙ ap (λ (t : Bool). cond t 1 0) g in
+      (λ j. compared_of (f j) (one j)) ∙ said q ∙ ap (λ (z : Alike). compared_of z.number (cond z.yes 1 0)) e
     where
       said : (r : Result Bool Refusal) → compared_of (answer r) (cond (result_unwrap_or r false) 1 0) ≡ compared_of (alike_answer r).number (cond (alike_answer r).yes 1 0)
       said (Ok x) = refl
