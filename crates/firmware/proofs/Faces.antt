@@ -2,27 +2,31 @@
 use Prim.Native.Nat.{ℕ}
 use mathlib.Core.Path.{◌≡◌, refl, ap, sym, ◌∙◌}
 use mathlib.Core.Bool.{Bool, true, false, cond}
+use Rattle.std.specs.Prelude.{Result, Ok, Err, MatchResult}
+use Rattle.std.specs.Result.{result_unwrap_or}
+use Rattle.refusals.specs.declared.Refusal.{Refusal}
+use Rattle.refusals.specs.declared.Refusal.TheVariants.{Size}
+use Rattle.refusals.specs.Numbers.{answer}
 use mathlib.Core.Logic.{◌≢◌}
 use mathlib.Core.List.{List}
-use mir.Val.{bool_byte}
 use borrow.Author.Tests.{eq-eqb, ne_eqb, eqb-true}
+use mir.Val.{bool_byte}
 use lib.Dec.{eqb}
 use lib.ListN.{length}
-use Rattle.store.specs.declared.cost.Cost.{Cost}
 use Rattle.store.specs.declared.place.Place.{Place}
 use Rattle.store.specs.declared.place.Place.TheVariants.{Nowhere}
 use Rattle.store.specs.declared.record.Record.{Record}
 use Rattle.store.specs.State.{State, Outcome}
-use Rattle.store.specs.CodeState.{state_of, outcome_of}
+use Rattle.store.specs.CodeState.{state_of}
 use Rattle.store.specs.Request.{get}
 use Rattle.store.specs.Causes.{cause}
 use Rattle.store.specs.Get.{newest, get_place}
-use Rattle.store.specs.GetList.{listing_of, listing}
-use Rattle.store.specs.Cost.{no_figures}
-use Rattle.inspect.specs.declared.answer.Alike.{Alike}
-use Rattle.inspect.specs.Alike.{alike_of}
+use Rattle.store.specs.GetList.{listing_of, slots_read, listing}
+use Rattle.store.specs.declared.cost as Code
+use Rattle.store.specs.Cost.{Cost, no_figures, costed}
+use Rattle.inspect.specs.Alike.{Alike, alike_answer, alike_of}
 use Rattle.journal.specs.Geometry.{Geometry}
-use Rattle.firmware.specs.Face.{record_bytes, encode_record, decode_record, face_of, handed, faced, buffer_number, buffer_offset, got_of, got_in, got, listed, Asked, told, asked, compared_of, compared}
+use Rattle.firmware.specs.Face.{record_bytes, decode_record, Face, face_of, handed, faced, buffer_number, buffer_offset, got_of, got_in, got, listed, Asked, told, asked, compared_of, compared}
 
 -- "another length is 1"
 pub faced-length : (call : State → Outcome) (r s w k : List ℕ) → length r ≢ record_bytes → face_of 1 0 r s w k ≡ faced call r s w k
@@ -34,17 +38,15 @@ pub faced-outcome : (call : State → Outcome) (r s w k : List ℕ) → length r
 unfolding faced
 faced-outcome call r s w k h = rw (eq-eqb (length r) record_bytes h)
 
--- decoded to d, left as q, encoded to r'
-pub faced-done : (call : State → Outcome) (r s w k r' s' w' k' : List ℕ) (n o : ℕ) (d q : Record)
+-- decoded to d; x is what was told of the outcome o
+pub faced-told : (call : State → Outcome) (r s w k : List ℕ) (d : Record) (o : Outcome) (x : Face)
     → length r ≡ record_bytes
     → d ≡ decode_record r
-    → outcome_of n o q s' w' k' ≡ call (state_of d s w k)
-    → r' ≡ encode_record q
-    → face_of n o r' s' w' k' ≡ faced call r s w k
-faced-done call r s w k r' s' w' k' n o d q h e p f =
-    ap (λ (x : List ℕ). face_of n o x s' w' k') f
-    ∙ ap handed (p ∙ ap (λ (x : Record). call (state_of x s w k)) e)
-    ∙ faced-outcome call r s w k h
+    → o ≡ call (state_of d s w k)
+    → x ≡ handed o
+    → x ≡ faced call r s w k
+faced-told call r s w k d o x h e p q =
+    q ∙ ap handed (p ∙ ap (λ (y : Record). call (state_of y s w k)) e) ∙ faced-outcome call r s w k h
 
 module _ (geo : Geometry) where
   -- likewise get
@@ -101,16 +103,13 @@ module _ (geo : Geometry) where
   unfolding listed
   listed-listing xs bs r s w k h = rw (eq-eqb (length r) record_bytes h)
 
--- a yes is 1
-as_byte : (y : Bool) → bool_byte y ≡ cond y 1 0
-as_byte true = refl
-as_byte false = refl
+-- the slots that are counted: none of a refusal
+pub told_slots : (q : Result ℕ Refusal) (n m : ℕ) (bs : List ℕ) → n ≡ answer q → m ≡ result_unwrap_or q 0
+    → listing_of n m bs ≡ listing_of (answer q) (slots_read q) bs
+told_slots (Ok x) n m bs e f = λ j. listing_of (e j) (f j) bs
+told_slots (Err x) n m bs e f = λ j. listing_of (e j) (f j) bs
 
 -- ---- an inquiry
-
-pub told_out : (c : Cost)
-    → ◌≡◌ {A = Asked} (record { number = c.number; orders = c.orders; applies = bool_byte c.applies; peak = c.peak; reaches = bool_byte c.reaches }) (told c)
-told_out c = λ j. record { number = c.number; orders = c.orders; applies = as_byte c.applies j; peak = c.peak; reaches = as_byte c.reaches j }
 
 pub asked-length : (cost : State → Cost) (r s w k : List ℕ) → length r ≢ record_bytes → told (no_figures 1) ≡ asked cost r s w k
 unfolding asked
@@ -120,18 +119,36 @@ pub asked_cost : (cost : State → Cost) (r s w k : List ℕ) → length r ≡ r
 unfolding asked
 asked_cost cost r s w k h = rw (eq-eqb (length r) record_bytes h)
 
--- x was handed out of c
-module _ (cost : State → Cost) (r s w k : List ℕ) (c : Cost) (x : Asked) (out : x ≡ told c) where
-  pub asked-refused : length r ≢ record_bytes → c ≡ no_figures 1 → x ≡ asked cost r s w k
-  asked-refused h e = out ∙ ap told e ∙ asked-length cost r s w k h
-
-  pub asked-done : length r ≡ record_bytes → (d : Record) → d ≡ decode_record r → c ≡ cost (state_of d s w k) → x ≡ asked cost r s w k
-  asked-done h d e f = out ∙ ap told (f ∙ ap (λ (y : Record). cost (state_of y s w k)) e) ∙ asked_cost cost r s w k h
+-- d is what was decoded, q what the inquiry of it answered
+module _ (cost : State → Cost) (r s w k : List ℕ) where
+  pub asked-said : (d : Result Record Refusal) (q : Result Code.Cost.Cost Refusal) (post : Record → Type 0)
+      → ((x : Record) → post x → costed q ≡ cost (state_of x s w k))
+      → MatchResult d (λ x. (length r ≡ record_bytes) × (x ≡ decode_record r)) (λ e. (length r ≢ record_bytes) × (e ≡ Size))
+      → MatchResult d post (λ e. q ≡ Err e)
+      → told (costed q) ≡ asked cost r s w k
+  asked-said (Ok x) q post f h p = ap told (f x p ∙ ap (λ (y : Record). cost (state_of y s w k)) h.1) ∙ asked_cost cost r s w k h.0
+  asked-said (Err e) q post f h p =
+      ap (λ (x : Result Code.Cost.Cost Refusal). told (costed x)) (p ∙ ap (λ (x : Refusal). Err x) h.1) ∙ asked-length cost r s w k h.0
 
 -- ---- alike
 
+-- a yes is 1
+as_byte : (b : Bool) → bool_byte b ≡ cond b 1 0
+as_byte true = refl
+as_byte false = refl
+
 module _ (geo : Geometry) where
-  pub compared-done : (a b : List ℕ) (r : Alike) → r ≡ alike_of geo a b → compared_of r.number (bool_byte r.yes) ≡ compared geo a b
+  pub compared-said : (a b : List ℕ) (q : Result Bool Refusal) (n y : ℕ) (byte : Bool)
+      → alike_answer q ≡ alike_of geo a b
+      → n ≡ answer q
+      → byte ≡ result_unwrap_or q false
+      → y ≡ bool_byte byte
+      → compared_of n y ≡ compared geo a b
   unfolding compared
-  compared-done a b r e =
-      ap (λ (y : ℕ). compared_of r.number y) (as_byte r.yes) ∙ ap (λ (x : Alike). compared_of x.number (cond x.yes 1 0)) e
+  compared-said a b q n y byte e f g h =
+      let one : y ≡ cond (result_unwrap_or q false) 1 0 = h ∙ as_byte byte ∙ ap (λ (t : Bool). cond t 1 0) g in
+      (λ j. compared_of (f j) (one j)) ∙ said q ∙ ap (λ (z : Alike). compared_of z.number (cond z.yes 1 0)) e
+    where
+      said : (r : Result Bool Refusal) → compared_of (answer r) (cond (result_unwrap_or r false) 1 0) ≡ compared_of (alike_answer r).number (cond (alike_answer r).yes 1 0)
+      said (Ok x) = refl
+      said (Err x) = refl

@@ -2,7 +2,6 @@
 -- length is 1." W-201: the save number "as 8 further bytes of the C face".
 use Rattle.std.specs.Prelude.{ℕ, cond, List, [], ◌∷◌, eqb, length, get_or}
 use Rattle.cells.specs.Row.{Field, row, values_from}
-use Rattle.store.specs.declared.cost.Cost.{Cost}
 use Rattle.store.specs.declared.place.Place.{Place}
 use Rattle.store.specs.declared.place.Place.TheVariants.{Settled, Waiting, Work, Nowhere}
 use Rattle.store.specs.declared.record.Record.{Record}
@@ -12,8 +11,8 @@ use Rattle.store.specs.Request.{get}
 use Rattle.store.specs.Causes.{cause}
 use Rattle.store.specs.Get.{get_place}
 use Rattle.store.specs.GetList.{Listing, listing_of, listing}
-use Rattle.store.specs.Cost.{no_figures}
-use Rattle.inspect.specs.declared.answer.Tally.{Tally}
+use Rattle.store.specs.Cost.{Cost, no_figures}
+use Rattle.inspect.specs.Tally.{Tally}
 use Rattle.inspect.specs.Alike.{alike_of}
 use Rattle.journal.specs.Geometry.{Geometry}
 

@@ -9,7 +9,9 @@ ghost use Rattle.store.specs.Cut.{cut_call};
 ghost use Rattle.journal.specs.Geometry.{trap};
 ghost use Rattle.firmware.specs.Face.{face_of, faced};
 
-use crate::record::{RECORD, SIZE, decode, encode};
+use crate::record::decode;
+use crate::told::told;
+use refusals::Refusal;
 
 pub fn trapcard_format(
     rec: &mut [u8],
@@ -19,13 +21,11 @@ pub fn trapcard_format(
 ) -> u32
     ensures { face_of result 0 rec.new settled.new waiting.new work.new ≡ faced (format_call trap) rec.old settled.old waiting.old work.old }
 {
-    if rec.len() != RECORD {
-        return SIZE;
-    }
-    let formatted = decode(rec).format(settled, waiting, work);
-    let left = formatted.rec;
-    encode(rec, left);
-    formatted.number
+    let Ok(held) = decode(rec) else {
+        return Refusal::Size.into();
+    };
+    let formatted = held.format(settled, waiting, work);
+    told(rec, held, formatted)
 }
 
 pub fn trapcard_power(
@@ -37,13 +37,11 @@ pub fn trapcard_power(
 ) -> u32
     ensures { face_of result 0 rec.new settled.now waiting.now work.now ≡ faced (power_call trap count) rec.old settled.now waiting.now work.now }
 {
-    if rec.len() != RECORD {
-        return SIZE;
-    }
-    let powered = decode(rec).power(settled, waiting, work, count);
-    let left = powered.rec;
-    encode(rec, left);
-    powered.number
+    let Ok(held) = decode(rec) else {
+        return Refusal::Size.into();
+    };
+    let powered = held.power(settled, waiting, work, count);
+    told(rec, held, powered)
 }
 
 pub fn trapcard_put(
@@ -56,37 +54,31 @@ pub fn trapcard_put(
 ) -> u32
     ensures { face_of result 0 rec.new settled.now waiting.now work.new ≡ faced (put_call trap address block.now) rec.old settled.now waiting.now work.old }
 {
-    if rec.len() != RECORD {
-        return SIZE;
-    }
-    let placed = decode(rec).put(settled, waiting, work, address, block);
-    let left = placed.rec;
-    encode(rec, left);
-    placed.number
+    let Ok(held) = decode(rec) else {
+        return Refusal::Size.into();
+    };
+    let placed = held.put(settled, waiting, work, address, block);
+    told(rec, held, placed)
 }
 
 pub fn trapcard_commit(rec: &mut [u8], settled: &[u8], waiting: &[u8], work: &mut [u8]) -> u32
     ensures { face_of result 0 rec.new settled.now waiting.now work.new ≡ faced (commit_call trap) rec.old settled.now waiting.now work.old }
 {
-    if rec.len() != RECORD {
-        return SIZE;
-    }
-    let committed = decode(rec).commit(settled, waiting, work);
-    let left = committed.rec;
-    encode(rec, left);
-    committed.number
+    let Ok(held) = decode(rec) else {
+        return Refusal::Size.into();
+    };
+    let committed = held.commit(settled, waiting, work);
+    told(rec, held, committed)
 }
 
 pub fn trapcard_abandon(rec: &mut [u8], settled: &[u8], waiting: &[u8], work: &[u8]) -> u32
     ensures { face_of result 0 rec.new settled.now waiting.now work.now ≡ faced (abandon_call trap) rec.old settled.now waiting.now work.now }
 {
-    if rec.len() != RECORD {
-        return SIZE;
-    }
-    let abandoned = decode(rec).abandon(settled, waiting, work);
-    let left = abandoned.rec;
-    encode(rec, left);
-    abandoned.number
+    let Ok(held) = decode(rec) else {
+        return Refusal::Size.into();
+    };
+    let abandoned = held.abandon(settled, waiting, work);
+    told(rec, held, abandoned)
 }
 
 pub fn trapcard_cut(
@@ -98,11 +90,9 @@ pub fn trapcard_cut(
 ) -> u32
     ensures { face_of result 0 rec.new settled.new waiting.now work.now ≡ faced (cut_call trap marks.now) rec.old settled.old waiting.now work.now }
 {
-    if rec.len() != RECORD {
-        return SIZE;
-    }
-    let cut = decode(rec).cut(settled, waiting, work, marks);
-    let left = cut.rec;
-    encode(rec, left);
-    cut.number
+    let Ok(held) = decode(rec) else {
+        return Refusal::Size.into();
+    };
+    let cut = held.cut(settled, waiting, work, marks);
+    told(rec, held, cut)
 }

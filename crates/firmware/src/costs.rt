@@ -1,22 +1,39 @@
 // The inquiries: what a sync, an apply or a recover will take. They change nothing.
 ghost use Rattle.std.specs.Prelude.{◌≡◌};
 ghost use Rattle.store.specs.Save as Save;
-ghost use Rattle.store.specs.Cost.{cost_of};
+ghost use Rattle.store.specs.Cost.{costed, cost_of};
 ghost use Rattle.journal.specs.Geometry.{trap};
 ghost use Rattle.firmware.specs.Face.{Asked, told, asked};
 
-use crate::record::{RECORD, SIZE, decode};
+use crate::record::decode;
+use crate::told::number;
+use refusals::Refusal;
 use store::cost::Cost;
 
+// A refusal has no figures.
+const NO_COST: Cost = Cost {
+    orders: 0,
+    applies: false,
+    peak: 0,
+    reaches: false,
+};
+
 // Hands out the figures, 1 for yes; the number.
-fn tell(cost: Cost, orders: &mut u32, applies: &mut u32, peak: &mut u32, reaches: &mut u32) -> u32
-    ensures { ◌≡◌ {A = Asked} (record { number = result; orders = orders.new; applies = applies.new; peak = peak.new; reaches = reaches.new }) (told cost) }
+fn tell(
+    said: Result<Cost, Refusal>,
+    orders: &mut u32,
+    applies: &mut u32,
+    peak: &mut u32,
+    reaches: &mut u32,
+) -> u32
+    ensures { ◌≡◌ {A = Asked} (record { number = result; orders = orders.new; applies = applies.new; peak = peak.new; reaches = reaches.new }) (told (costed said)) }
 {
+    let cost = said.unwrap_or(NO_COST);
     *orders = cost.orders;
-    *applies = cost.applies as u32;
+    *applies = u32::from(cost.applies);
     *peak = cost.peak;
-    *reaches = cost.reaches as u32;
-    cost.number
+    *reaches = u32::from(cost.reaches);
+    number(said)
 }
 
 pub fn trapcard_sync_cost(
@@ -31,10 +48,7 @@ pub fn trapcard_sync_cost(
 ) -> u32
     ensures { ◌≡◌ {A = Asked} (record { number = result; orders = orders.new; applies = applies.new; peak = peak.new; reaches = reaches.new }) (asked (cost_of trap Save.sync) rec.now settled.now waiting.now work.now) }
 {
-    if rec.len() != RECORD {
-        return tell(Cost::refusal(SIZE), orders, applies, peak, reaches);
-    }
-    let sync_cost = decode(rec).sync_cost(settled, waiting, work);
+    let sync_cost = decode(rec).and_then(|held| held.sync_cost(settled, waiting, work));
     tell(sync_cost, orders, applies, peak, reaches)
 }
 
@@ -50,10 +64,7 @@ pub fn trapcard_apply_cost(
 ) -> u32
     ensures { ◌≡◌ {A = Asked} (record { number = result; orders = orders.new; applies = applies.new; peak = peak.new; reaches = reaches.new }) (asked (cost_of trap Save.apply) rec.now settled.now waiting.now work.now) }
 {
-    if rec.len() != RECORD {
-        return tell(Cost::refusal(SIZE), orders, applies, peak, reaches);
-    }
-    let apply_cost = decode(rec).apply_cost(settled, waiting, work);
+    let apply_cost = decode(rec).and_then(|held| held.apply_cost(settled, waiting, work));
     tell(apply_cost, orders, applies, peak, reaches)
 }
 
@@ -69,9 +80,6 @@ pub fn trapcard_recover_cost(
 ) -> u32
     ensures { ◌≡◌ {A = Asked} (record { number = result; orders = orders.new; applies = applies.new; peak = peak.new; reaches = reaches.new }) (asked (cost_of trap Save.recover) rec.now settled.now waiting.now work.now) }
 {
-    if rec.len() != RECORD {
-        return tell(Cost::refusal(SIZE), orders, applies, peak, reaches);
-    }
-    let recover_cost = decode(rec).recover_cost(settled, waiting, work);
+    let recover_cost = decode(rec).and_then(|held| held.recover_cost(settled, waiting, work));
     tell(recover_cost, orders, applies, peak, reaches)
 }

@@ -7,3 +7,4 @@ pub mod costs;
 pub mod orders;
 pub mod reads;
 mod record;
+mod told;

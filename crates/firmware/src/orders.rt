@@ -5,7 +5,9 @@ ghost use Rattle.store.specs.Direct.{direct_call};
 ghost use Rattle.journal.specs.Geometry.{trap};
 ghost use Rattle.firmware.specs.Face.{face_of, faced};
 
-use crate::record::{RECORD, SIZE, decode, encode};
+use crate::record::decode;
+use crate::told::told_orders;
+use refusals::Refusal;
 
 pub fn trapcard_sync(
     rec: &mut [u8],
@@ -16,15 +18,12 @@ pub fn trapcard_sync(
 ) -> u32
     ensures { face_of result orders.new rec.new settled.new waiting.new work.now ≡ faced (sync_call trap) rec.old settled.old waiting.old work.now }
 {
-    if rec.len() != RECORD {
+    let Ok(held) = decode(rec) else {
         *orders = 0;
-        return SIZE;
-    }
-    let synced = decode(rec).sync(settled, waiting, work);
-    let left = synced.rec;
-    encode(rec, left);
-    *orders = synced.orders;
-    synced.number
+        return Refusal::Size.into();
+    };
+    let synced = held.sync(settled, waiting, work);
+    told_orders(rec, orders, held, synced)
 }
 
 pub fn trapcard_apply(
@@ -36,15 +35,12 @@ pub fn trapcard_apply(
 ) -> u32
     ensures { face_of result orders.new rec.new settled.new waiting.new work.now ≡ faced (apply_call trap) rec.old settled.old waiting.old work.now }
 {
-    if rec.len() != RECORD {
+    let Ok(held) = decode(rec) else {
         *orders = 0;
-        return SIZE;
-    }
-    let applied = decode(rec).apply(settled, waiting, work);
-    let left = applied.rec;
-    encode(rec, left);
-    *orders = applied.orders;
-    applied.number
+        return Refusal::Size.into();
+    };
+    let applied = held.apply(settled, waiting, work);
+    told_orders(rec, orders, held, applied)
 }
 
 pub fn trapcard_recover(
@@ -56,15 +52,12 @@ pub fn trapcard_recover(
 ) -> u32
     ensures { face_of result orders.new rec.new settled.new waiting.new work.now ≡ faced (recover_call trap) rec.old settled.old waiting.old work.now }
 {
-    if rec.len() != RECORD {
+    let Ok(held) = decode(rec) else {
         *orders = 0;
-        return SIZE;
-    }
-    let recovered = decode(rec).recover(settled, waiting, work);
-    let left = recovered.rec;
-    encode(rec, left);
-    *orders = recovered.orders;
-    recovered.number
+        return Refusal::Size.into();
+    };
+    let recovered = held.recover(settled, waiting, work);
+    told_orders(rec, orders, held, recovered)
 }
 
 pub fn trapcard_direct(
@@ -78,13 +71,10 @@ pub fn trapcard_direct(
 ) -> u32
     ensures { face_of result orders.new rec.new settled.new waiting.new work.now ≡ faced (direct_call trap address block.now) rec.old settled.old waiting.old work.now }
 {
-    if rec.len() != RECORD {
+    let Ok(held) = decode(rec) else {
         *orders = 0;
-        return SIZE;
-    }
-    let written = decode(rec).direct(settled, waiting, work, address, block);
-    let left = written.rec;
-    encode(rec, left);
-    *orders = written.orders;
-    written.number
+        return Refusal::Size.into();
+    };
+    let written = held.direct(settled, waiting, work, address, block);
+    told_orders(rec, orders, held, written)
 }

@@ -5,7 +5,9 @@ ghost use Rattle.inspect.specs.Tally.{tally_of};
 ghost use Rattle.journal.specs.Geometry.{trap};
 ghost use Rattle.firmware.specs.Face.{buffer_number, buffer_offset, got_of, got, listed, tallied, compared_of, compared};
 
-use crate::record::{RECORD, SIZE, decode};
+use crate::record::decode;
+use crate::told::number;
+use refusals::Refusal;
 use store::place::Place;
 
 // The buffers that a get names.
@@ -50,19 +52,18 @@ pub fn trapcard_get(
 ) -> u32
     ensures { got_of result buffer.new offset.new ≡ got trap address rec.now settled.now waiting.now work.now }
 {
-    if rec.len() != RECORD {
+    let Ok(held) = decode(rec) else {
         *buffer = NOWHERE;
         *offset = 0;
-        return SIZE;
-    }
-    let held = decode(rec);
+        return Refusal::Size.into();
+    };
     let place = held.get_place(settled, waiting, work, address);
     *buffer = buffer_number(place);
     *offset = buffer_offset(place);
     if *buffer != NOWHERE {
         return 0;
     }
-    held.get_number(settled, waiting, work, address)
+    number(held.check_get(settled, waiting, work, address))
 }
 
 pub fn trapcard_get_list(
@@ -76,27 +77,27 @@ pub fn trapcard_get_list(
 ) -> u32
     ensures { ◌≡◌ {A = Listing} (record { number = result; slots = slots.new; blocks = blocks.new }) (listed trap addresses.now blocks.old rec.now settled.now waiting.now work.now) }
 {
-    if rec.len() != RECORD {
+    let Ok(held) = decode(rec) else {
         *slots = 0;
-        return SIZE;
-    }
-    let listed = decode(rec).get_list(settled, waiting, work, addresses, blocks);
-    *slots = listed.slots;
-    listed.number
+        return Refusal::Size.into();
+    };
+    let listed = held.get_list(settled, waiting, work, addresses, blocks);
+    *slots = listed.unwrap_or(0);
+    number(listed)
 }
 
 pub fn trapcard_tally(settled: &[u8], sum: &mut u64) -> u32
     ensures { tallied result sum.new ≡ tally_of trap settled.now }
 {
     let tally = inspect::tally::tally(settled);
-    *sum = tally.sum;
-    tally.number
+    *sum = tally.unwrap_or(0);
+    number(tally)
 }
 
 pub fn trapcard_alike(a: &[u8], b: &[u8], yes: &mut u32) -> u32
     ensures { compared_of result yes.new ≡ compared trap a.now b.now }
 {
     let alike = inspect::alike::alike(a, b);
-    *yes = alike.yes as u32;
-    alike.number
+    *yes = u32::from(alike.unwrap_or(false));
+    number(alike)
 }

@@ -1,21 +1,23 @@
 // The record as lent bytes.
-ghost use Rattle.std.specs.Prelude.{◌≡◌, length};
+ghost use Rattle.std.specs.Prelude.{◌≡◌, ◌≢◌, MatchResult, length};
+ghost use Rattle.refusals.specs.declared.Refusal.TheVariants.{Size};
 ghost use Rattle.firmware.specs.Face.{record_bytes, decode_record, encode_record};
 
 use cells::number::{read_u32, read_u64, write_u32, write_u64};
+use refusals::Refusal;
 use store::record::Record;
 
-// Its length, and the number of another one.
-pub(crate) const RECORD: usize = 44;
+// Its length.
+const RECORD: usize = 44;
 
-pub(crate) const SIZE: u32 = 1;
-
-// The record that the bytes stand for.
-pub(crate) fn decode(bytes: &[u8]) -> Record
-    requires { length bytes.now ≡ record_bytes }
-    ensures { result ≡ decode_record bytes.now }
+// The record that the bytes stand for. Another length is refused.
+pub(crate) fn decode(bytes: &[u8]) -> Result<Record, Refusal>
+    ensures { MatchResult result (λ r. (length bytes.now ≡ record_bytes) × (r ≡ decode_record bytes.now)) (λ e. (length bytes.now ≢ record_bytes) × (e ≡ Size)) }
 {
-    Record {
+    if bytes.len() != RECORD {
+        return Err(Refusal::Size);
+    }
+    Ok(Record {
         mode: read_u32(bytes, 0),
         blocks: read_u32(bytes, 4),
         opened: read_u32(bytes, 8),
@@ -25,7 +27,7 @@ pub(crate) fn decode(bytes: &[u8]) -> Record
         power: read_u32(bytes, 24),
         sum: read_u64(bytes, 28),
         save: read_u64(bytes, 36),
-    }
+    })
 }
 
 // Stores the record.

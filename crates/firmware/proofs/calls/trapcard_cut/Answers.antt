@@ -1,9 +1,9 @@
 -- `firmware::calls::trapcard_cut` meets its contract.
-use Rattle.firmware.proofs.Faces.{faced-length, faced-done}
+use Rattle.firmware.proofs.Faces.{faced-length, faced-told}
 use Rattle.firmware.proofs.calls.trapcard_cut.Goals as goal
 
-pub returns-then-rec-ne-RECORD : goal.returns-then-rec-ne-RECORD
-returns-then-rec-ne-RECORD c = faced-length _ _ _ _ _ c.if-rec-ne-RECORD.true
+pub returns-in_default : goal.returns-in_default
+returns-in_default c = rw c.into.ensures (faced-length _ _ _ _ _ c.in_default.ensures.0)
 
 pub returns : goal.returns
-returns c = faced-done _ _ _ _ _ _ _ _ _ _ _ _ _ c.if-rec-ne-RECORD.false c.decode.ensures c.cut-cut.ensures c.encode.ensures
+returns c = faced-told _ _ _ _ _ _ _ _ c.in-Ok.ensures.0 c.in-Ok.ensures.1 c.cut-cut.ensures (c.told.ensures _ _ _)

@@ -1,9 +1,7 @@
 -- `firmware::costs::trapcard_recover_cost` meets its contract.
-use Rattle.firmware.proofs.Faces.{asked-refused, asked-done}
+use Rattle.std.proofs.Common.{rules, ◌∙◌}
+use Rattle.firmware.proofs.Faces.{asked-said}
 use Rattle.firmware.proofs.costs.trapcard_recover_cost.Goals as goal
 
-pub returns-then-rec-ne-RECORD : goal.returns-then-rec-ne-RECORD
-returns-then-rec-ne-RECORD c = asked-refused _ _ _ _ _ _ _ c.tell.ensures c.if-rec-ne-RECORD.true c.refusal.ensures
-
 pub returns : goal.returns
-returns c = asked-done _ _ _ _ _ _ _ c.tell-2.ensures c.if-rec-ne-RECORD.false _ c.decode.ensures c.recover_cost-recover_cost.ensures
+returns c = c.tell.ensures ∙ asked-said _ _ _ _ _ _ _ _ (λ x p. search rules) c.decode.ensures c.and_then-recover_cost.ensures

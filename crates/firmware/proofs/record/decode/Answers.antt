@@ -6,9 +6,10 @@ use Rattle.firmware.proofs.record.decode.Goals as goal
 
 pub returns : goal.returns
 unfolding decode_record
-returns c =
-    ap record_of_values
-    (λ j.
+returns c = (
+  c.if-bytes-ne-RECORD.false,
+  ap record_of_values
+  (λ j.
     c.read_u32.ensures j
     ∷ c.read_u32-2.ensures j
     ∷ c.read_u32-3.ensures j
@@ -18,4 +19,5 @@ returns c =
     ∷ c.read_u32-7.ensures j
     ∷ c.read_u64.ensures j
     ∷ c.read_u64-2.ensures j
-    ∷ [])
+    ∷ []),
+)

@@ -1,0 +1,55 @@
+// What C is told: a number, 0 for done; the record as it is left; the orders carried out.
+ghost use Rattle.std.specs.Prelude.{◌≡◌, List, ℕ, length};
+ghost use Rattle.refusals.specs.Numbers.{answer};
+ghost use Rattle.store.specs.CodeState.{answered, saved_as};
+ghost use Rattle.firmware.specs.Face.{record_bytes, face_of, handed};
+
+use crate::record::encode;
+use refusals::Refusal;
+use store::record::Record;
+use store::saved::{Saved, Stopped};
+
+// The number that a result stands for.
+pub(crate) fn number<T: Copy>(said: Result<T, Refusal>) -> u32
+    ensures { result ≡ answer said }
+{
+    match said {
+        Ok(_) => 0,
+        Err(refusal) => refusal.into(),
+    }
+}
+
+// Stores the record that a call without orders left; a refusal leaves what was held.
+pub(crate) fn told(rec: &mut [u8], held: Record, said: Result<Record, Refusal>) -> u32
+    requires { length rec.old ≡ record_bytes }
+    ensures { (s w k : List ℕ) → face_of result 0 rec.new s w k ≡ handed (answered said held s w k) }
+{
+    encode(rec, said.unwrap_or(held));
+    number(said)
+}
+
+// Likewise for a call that gives orders, which are counted.
+pub(crate) fn told_orders(
+    rec: &mut [u8],
+    orders: &mut u32,
+    held: Record,
+    said: Result<Saved, Stopped>,
+) -> u32
+    requires { length rec.old ≡ record_bytes }
+    ensures { (s w k : List ℕ) → face_of result orders.new rec.new s w k ≡ handed (saved_as said held s w k) }
+{
+    let (number, left) = match said {
+        Ok(saved) => (0, saved),
+        Err(Stopped::PowerLost(saved)) => (u32::from(Refusal::Down), saved),
+        Err(Stopped::Refused(refusal)) => (
+            u32::from(refusal),
+            Saved {
+                orders: 0,
+                rec: held,
+            },
+        ),
+    };
+    encode(rec, left.rec);
+    *orders = left.orders;
+    number
+}
