@@ -6,12 +6,5 @@ ghost use Rattle.script.specs.Fields.{to_tab};
 pub(crate) fn to_tab(s: &[u8]) -> usize
     ensures { (result ≡ to_tab s.now) × (result ≤ length s.now) }
 {
-    let mut i = 0;
-    while i < s.len() {
-        if s[i] == b'\t' {
-            return i;
-        }
-        i += 1;
-    }
-    i
+    s.iter().position(|&b| b == b'\t').unwrap_or(s.len())
 }

@@ -14,7 +14,6 @@ use crate::KEPT;
 use crate::command::Command;
 use crate::number::value_of;
 use cells::BLOCK;
-use cells::bytes::fill;
 use store::record::{Answer, Record};
 use store::saved::Saved;
 
@@ -38,11 +37,10 @@ pub(crate) struct Done {
 fn called(a: Answer) -> Done
     ensures { result ≡ record { number = a.number; third = 0; rec = a.rec } }
 {
-    let rec = a.rec;
     Done {
         number: a.number,
         third: 0,
-        rec,
+        rec: a.rec,
     }
 }
 
@@ -50,11 +48,10 @@ fn called(a: Answer) -> Done
 fn saved(s: Saved) -> Done
     ensures { result ≡ record { number = s.number; third = s.orders; rec = s.rec } }
 {
-    let rec = s.rec;
     Done {
         number: s.number,
         third: s.orders,
-        rec,
+        rec: s.rec,
     }
 }
 
@@ -110,10 +107,7 @@ fn get<'a>(rec: Record, settled: &'a [u8], waiting: &'a [u8], work: &'a [u8], ad
 fn first(s: &[u8]) -> u32
     ensures { result ≡ get_or s.now 0 0 }
 {
-    if s.len() == 0 {
-        return 0;
-    }
-    s[0] as u32
+    s.first().map_or(0, |&b| u32::from(b))
 }
 
 // A cut with the marks of its line.
@@ -132,11 +126,10 @@ fn read_marks(line: &[u8], marks: &mut [u8]) -> usize
     requires marks_len { length marks.old ≡ most_marks }
     ensures { (result ≤ most_marks) × (take result marks.new ≡ Replies.marks line.now) }
 {
-    let mut i = 0;
-    while i + DIGITS_AT < line.len() {
+    let count = line.len().saturating_sub(DIGITS_AT);
+    for i in 0..count {
         let at = BLOCK * i;
-        fill(&mut marks[at..at + BLOCK], value_of(line[i + DIGITS_AT]));
-        i += 1;
+        marks[at..at + BLOCK].fill(value_of(line[i + DIGITS_AT]));
     }
-    BLOCK * i
+    BLOCK * count
 }
