@@ -11,6 +11,7 @@ use lib.ListN.{length, take, drop, get_or, length-drop}
 use lib.Seq.{drop-cons, drop-length, take_all}
 use Rattle.std.specs.Prelude.{Option, Some, None, Result, Ok, Err, OkIff, MatchOption, unwrap_or, position}
 use Rattle.std.specs.Result.{result_ok}
+use Rattle.std.specs.Bool.{then_some}
 use Rattle.std.specs.List.{position_or_len, list_all}
 use Rattle.std.proofs.lemmas.List.Recursion.{is_position_or_len}
 use Rattle.std.specs.Str.{bytes_eq}
@@ -97,6 +98,16 @@ value_on s i v h = rw (drop-cons s i 0 h)
 pub value_over : (s : List ℕ) (i v : ℕ) → i ≡ length s → value_from v (drop i s) ≡ v
 unfolding value_from
 value_over s i v h = let p : drop i s ≡ [] = rw h (drop-length s) in rw p
+
+-- what `filter` says, where the closure answers as p
+pub filtered : (o r : Option ℕ) (P : ℕ → Bool → Type 0) (p : ℕ → Bool) → ((x : ℕ) (b : Bool) → P x b → b ≡ p x)
+    → MatchOption o (r ≡ None) (λ x. (b : Bool) × P x b × (r ≡ then_some b x)) → MatchOption o (r ≡ None) (λ x. r ≡ cond (p x) (Some x) None)
+filtered None r P p t h = h
+filtered (Some x) r P p t h = go h.0 h.2 (t x h.0 h.1)
+  where
+    go : (b : Bool) → r ≡ then_some b x → b ≡ p x → r ≡ cond (p x) (Some x) None
+    go true e q = rw (sym q) e
+    go false e q = rw (sym q) e
 
 -- a value that fits 4 bytes, if it is no more than most
 pub number-fits : {E : Type 0} (most n : ℕ) (q : Result ℕ E) (r : Option ℕ) → most < 2 ^ 32 → OkIff q (n < 2 ^ 32) n

@@ -11,7 +11,7 @@ loop-i-preserved c =
     let l = c.loop-i in
     let line = c.args.line.now in
     let at = 512 * l.i in
-    marks_turn line l.marks c.fill.new.self l.i c.value_of.result (at + 512 - at) (omega arith) (omega arith) (omega arith) c.value_of.ensures c.fill.ensures.all ∙ l.invariant
+    marks_turn line l.marks c.fill.new.self l.i c.value_of.result (at + 512 - at) (omega arith) (omega arith) (omega arith) c.value_of.ensures (c.fill.ensures.after (λ y e. e)) ∙ l.invariant
 
 pub returns : goal.returns
 returns c =
