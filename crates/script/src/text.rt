@@ -2,34 +2,11 @@
 ghost use Rattle.std.specs.Prelude.{◌≡◌, ◌∷◌, ◌+◌, ◌≤◌, ◌<◌, length, drop};
 ghost use Rattle.std.proofs.lemmas.List.Edits.{sets};
 ghost use Rattle.script.specs.Fields.{tab};
-ghost use Rattle.script.specs.Numbers.{number_digits};
 ghost use Rattle.script.specs.Answers.{field_bytes, longest_word, answer_bytes, decimal, word_of, answer_line};
 
-use crate::DIGITS;
 use crate::command::Command;
 use crate::words;
-
-// What a digit counts more than the one behind it.
-const BASE: u32 = 10;
-
-// Where the last digit stands.
-const LAST: usize = DIGITS - 1;
-
-// Puts the digits of n at the end of the buffer; where they start.
-fn digits(buffer: &mut [u8], n: u32) -> usize
-    requires { length buffer.old ≡ number_digits }
-    ensures { (result < number_digits) × (drop result buffer.new ≡ decimal n) }
-{
-    let mut i = LAST;
-    let mut rest = n / BASE;
-    buffer[i] = b'0' + (n % BASE) as u8;
-    while 0 < rest {
-        i -= 1;
-        buffer[i] = b'0' + (rest % BASE) as u8;
-        rest = rest / BASE;
-    }
-    i
-}
+use itoa::Buffer;
 
 // Bytes behind the first at of out; where they end.
 pub(crate) fn append(out: &mut [u8], at: usize, bytes: &[u8]) -> usize
@@ -46,10 +23,10 @@ fn append_number(out: &mut [u8], at: usize, n: u32) -> usize
     requires { at + field_bytes ≤ length out.old }
     ensures { (result ≤ at + field_bytes) × (result ≡ at + length (tab ∷ decimal n)) × (out.new ≡ sets out.old at (tab ∷ decimal n)) }
 {
-    let mut buffer = [0u8; DIGITS];
-    let from = digits(&mut buffer, n);
+    let mut buffer = Buffer::new();
+    let digits = buffer.format(n);
     let next = append(out, at, b"\t");
-    append(out, next, &buffer[from..])
+    append(out, next, digits.as_bytes())
 }
 
 // The word of a command.
