@@ -5,7 +5,7 @@ use mathlib.Core.Bool.{Bool, true, false, cond, not, ◌&&◌, and-eq-true_iff}
 use mathlib.Core.List.{List, [], ◌∷◌}
 use native.Mathlib.Omega.{arith}
 use native.Mathlib.Numerals.{add-one}
-use borrow.Author.Tests.{eq-eqb, ne_eqb, ltb-false, leb-true, lt-leb}
+use borrow.Author.Tests.{eq-eqb, ne_eqb, ltb-true, ltb-false, leb-true, lt-leb}
 use lib.Dec.{eqb, ltb, leb}
 use lib.ListN.{length, take, drop, get_or, length-drop}
 use lib.Seq.{drop-cons, drop-length, take_all}
@@ -29,7 +29,7 @@ to_tab-position : (s : List ℕ) → to_tab s ≡ position_or_len (λ b. eqb b t
 unfolding to_tab
 to_tab-position s = is_position_or_len to_tab (λ b. eqb b tab) refl (λ b t. ap (λ (n : ℕ). cond (eqb b tab) 0 n) (omega arith)) s
 
-pub to_tab-le : (s : List ℕ) → to_tab s ≤ length s
+to_tab-le : (s : List ℕ) → to_tab s ≤ length s
 unfolding to_tab
 to_tab-le [] = omega arith
 to_tab-le (b ∷ s) = go (eqb b tab) (to_tab-le s)
@@ -38,13 +38,22 @@ to_tab-le (b ∷ s) = go (eqb b tab) (to_tab-le s)
     go true h = omega arith
     go false h = omega arith
 
--- the library's search finds it
-pub to_tab_found : (s : List ℕ) → unwrap_or (position (λ b. eqb b tab) s) (length s) ≡ to_tab s
-to_tab_found s = rw (← to_tab-position s) (go (ltb (to_tab s) (length s)) refl)
+-- where the library's search finds it, and where it finds none
+pub tab_at : (s : List ℕ) (i : ℕ) → position (λ b. eqb b tab) s ≡ Some i → (i ≡ to_tab s) × (i < length s)
+tab_at s i h = go (ltb (position_or_len (λ b. eqb b tab) s) (length s)) refl h
   where
-    go : (t : Bool) → ltb (to_tab s) (length s) ≡ t → unwrap_or (cond t (Some (to_tab s)) None) (length s) ≡ to_tab s
-    go true q = refl
-    go false q = omega (arith, ltb-false _ _ q, to_tab-le s)
+    go : (t : Bool) → ltb (position_or_len (λ b. eqb b tab) s) (length s) ≡ t → cond t (Some (position_or_len (λ b. eqb b tab) s)) None ≡ Some i → (i ≡ to_tab s) × (i < length s)
+    go true q e =
+        let at : position_or_len (λ b. eqb b tab) s ≡ i = ap (λ (o : Option ℕ). unwrap_or o 0) e in
+        (sym (to_tab-position s ∙ at), omega (arith, ltb-true _ _ q))
+    go false q e = absurd (grind arith)
+
+pub no_tab : (s : List ℕ) → position (λ b. eqb b tab) s ≡ None → to_tab s ≡ length s
+no_tab s h = to_tab-position s ∙ go (ltb (position_or_len (λ b. eqb b tab) s) (length s)) refl h
+  where
+    go : (t : Bool) → ltb (position_or_len (λ b. eqb b tab) s) (length s) ≡ t → cond t (Some (position_or_len (λ b. eqb b tab) s)) None ≡ None → position_or_len (λ b. eqb b tab) s ≡ length s
+    go true q e = absurd (grind arith)
+    go false q e = omega (arith, ltb-false _ _ q, to_tab-position s, to_tab-le s)
 
 -- ---- fields
 
@@ -149,14 +158,6 @@ with_number-map_or None f r h = h
 with_number-map_or (Some n) f r h = h
 
 -- ---- a line in its fields
-
--- the first field and what stands behind its tab
-pub fields-first : (s : List ℕ) (e : ℕ) → e ≡ to_tab s → e ≤ length s → (e ≡ length s → ⊥)
-    → fields s ≡ take e s ∷ fields (take (length s - (e + 1)) (drop (e + 1) s))
-fields-first s e h l n =
-    let less : to_tab s < length s = omega arith in
-    let all : length (drop (e + 1) s) ≤ length s - (e + 1) = rw (length-drop) (omega arith) in
-    rw (take_all (length s - (e + 1)) (drop (e + 1) s) all, add-one, h) (fields_more s less)
 
 -- four fields or more say nothing
 pub understood_many : (w x y q : List ℕ) → understood (w ∷ x ∷ y ∷ fields q) ≡ Bad

@@ -6,7 +6,7 @@ ghost use Rattle.script.specs.Commands as Commands;
 
 use crate::LINE;
 use crate::words;
-use crate::field::to_tab;
+use crate::field::split_once;
 use crate::number::{is_marks, to_number};
 
 // The most that a byte holds.
@@ -34,27 +34,23 @@ pub(crate) fn parse(line: &[u8]) -> Command
     if LINE < line.len() {
         return Command::Bad;
     }
-    let end = to_tab(line);
-    let word = &line[..end];
-    if end == line.len() {
-        return alone(word);
+    match split_once(line) {
+        (word, None) => alone(word),
+        (word, Some(rest)) => with_fields(word, rest),
     }
-    with_fields(word, &line[end + 1..])
 }
 
 // A word and at least one field.
 fn with_fields(word: &[u8], rest: &[u8]) -> Command
     ensures { result ≡ Commands.understood (word.now ∷ fields rest.now) }
 {
-    let end = to_tab(rest);
-    if end == rest.len() {
-        return with_one(word, rest);
+    match split_once(rest) {
+        (x, None) => with_one(word, x),
+        (x, Some(more)) => match split_once(more) {
+            (y, None) => with_two(word, x, y),
+            (_, Some(_)) => Command::Bad,
+        },
     }
-    let second = &rest[end + 1..];
-    if to_tab(second) == second.len() {
-        return with_two(word, &rest[..end], second);
-    }
-    Command::Bad
 }
 
 // A word alone.
