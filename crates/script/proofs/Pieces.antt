@@ -4,11 +4,10 @@ use mathlib.Core.Path.{◌≡◌, refl, ap, sym, ◌∙◌}
 use mathlib.Core.Bool.{Bool, true, false, cond, not, ◌&&◌, and-eq-true_iff}
 use mathlib.Core.List.{List, [], ◌∷◌}
 use native.Mathlib.Omega.{arith}
-use native.Mathlib.Numerals.{add-one}
-use borrow.Author.Tests.{eq-eqb, ne_eqb, ltb-true, ltb-false, leb-true, lt-leb}
+use borrow.Author.Tests.{ltb-true, ltb-false, leb-true, lt-leb}
 use lib.Dec.{eqb, ltb, leb}
-use lib.ListN.{length, take, drop, get_or, length-drop}
-use lib.Seq.{drop-cons, drop-length, take_all}
+use lib.ListN.{length, take, drop, get_or}
+use lib.Seq.{drop-cons, drop-length}
 use Rattle.std.specs.Prelude.{Option, Some, None, Result, Ok, Err, OkIff, MatchOption, unwrap_or, position}
 use Rattle.std.specs.Result.{result_ok}
 use Rattle.std.specs.Bool.{then_some}

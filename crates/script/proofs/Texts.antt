@@ -1,22 +1,21 @@
 -- The laws of what is written: digits, and bytes behind bytes.
-use Prim.Native.Nat.{ℕ, zero, suc, ◌+◌, ◌*◌, ◌-◌, ◌/◌, ◌%◌, ◌^◌, ◌≤◌, ◌<◌}
+use Prim.Native.Nat.{ℕ, zero, suc, ◌+◌, ◌*◌, ◌/◌, ◌%◌, ◌^◌, ◌≤◌, ◌<◌}
 use mathlib.Core.Path.{◌≡◌, refl, sym, ap, ◌∙◌}
 use mathlib.Core.Bool.{Bool, true, false, cond}
-use mathlib.Core.List.{List, [], ◌∷◌, ◌++◌, append_assoc}
+use mathlib.Core.List.{List, [], ◌∷◌, ◌++◌}
 use native.Mathlib.Omega.{arith}
 use native.Mathlib.Nat.{pow-suc, zero-add}
 use native.Mathlib.Numerals.{add-one}
 use borrow.Author.Tests.{eqb-true, eqb-false}
 use lib.Dec.{eqb}
-use lib.ListN.{length, take, drop, set, length-set, length-drop, length-append, drop_of_length-le}
-use lib.Seq.{sets, take_all, drop-cons, drop-set-lt, get_or-set_same}
+use lib.ListN.{length, length-append}
+use lib.Seq.{sets}
 use Rattle.std.specs.Fmt.{decimal as printed}
 use Rattle.std.proofs.lemmas.Fmt.{decimal_digit, decimal_step}
 use Rattle.script.specs.Numbers.{zero_digit}
 use Rattle.cells.specs.Cell.Laws.{sets-append}
-use Rattle.script.specs.declared.command.Command.{Command}
 use Rattle.script.specs.Fields.{tab}
-use Rattle.script.specs.Answers.{digits, decimal, word_of}
+use Rattle.script.specs.Answers.{digits, decimal}
 
 -- ---- digits
 

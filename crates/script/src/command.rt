@@ -4,10 +4,9 @@ ghost use Rattle.script.specs.Fields.{fields};
 ghost use Rattle.script.specs.Numbers.{most4_bytes, most1_byte, number_of};
 ghost use Rattle.script.specs.Commands as Commands;
 
-use crate::LINE;
-use crate::words;
 use crate::field::split_once;
 use crate::number::{is_marks, to_number};
+use crate::{LINE, words};
 
 // The most that a byte holds.
 const MOST_BYTE: u32 = u8::MAX as u32;
@@ -54,6 +53,7 @@ fn with_fields(word: &[u8], rest: &[u8]) -> Command
 }
 
 // A word alone.
+// Stays a row of tests: a match on byte strings is proved byte by byte, and has 38 goals where no word fits.
 fn alone(word: &[u8]) -> Command
     ensures { result ≡ Commands.alone word.now }
 {

@@ -34,24 +34,28 @@ pub(crate) struct Done {
 }
 
 // A call that gives no orders.
-fn called(a: Answer) -> Done
-    ensures { result ≡ record { number = a.number; third = 0; rec = a.rec } }
-{
-    Done {
-        number: a.number,
-        third: 0,
-        rec: a.rec,
+impl From<Answer> for Done {
+    fn from(a: Answer) -> Done
+        ensures { result ≡ record { number = a.number; third = 0; rec = a.rec } }
+    {
+        Done {
+            number: a.number,
+            third: 0,
+            rec: a.rec,
+        }
     }
 }
 
 // A call that hands back its orders.
-fn saved(s: Saved) -> Done
-    ensures { result ≡ record { number = s.number; third = s.orders; rec = s.rec } }
-{
-    Done {
-        number: s.number,
-        third: s.orders,
-        rec: s.rec,
+impl From<Saved> for Done {
+    fn from(s: Saved) -> Done
+        ensures { result ≡ record { number = s.number; third = s.orders; rec = s.rec } }
+    {
+        Done {
+            number: s.number,
+            third: s.orders,
+            rec: s.rec,
+        }
     }
 }
 
@@ -68,15 +72,15 @@ pub(crate) fn perform(
     ensures { reply_of result.number result.third result.rec settled.new waiting.new work.new ≡ Replies.perform command line.now (state_of rec settled.old waiting.old work.old) }
 {
     match command {
-        Command::Format => called(rec.format(settled, waiting, work)),
-        Command::Power(count) => called(rec.power(settled, waiting, work, count)),
+        Command::Format => Done::from(rec.format(settled, waiting, work)),
+        Command::Power(count) => Done::from(rec.power(settled, waiting, work, count)),
         Command::Put(address, byte) => put(rec, settled, waiting, work, address, byte),
         Command::Get(address) => get(rec, settled, waiting, work, address),
-        Command::Commit => called(rec.commit(settled, waiting, work)),
-        Command::Abandon => called(rec.abandon(settled, waiting, work)),
-        Command::Sync => saved(rec.sync(settled, waiting, work)),
-        Command::Apply => saved(rec.apply(settled, waiting, work)),
-        Command::Recover => saved(rec.recover(settled, waiting, work)),
+        Command::Commit => Done::from(rec.commit(settled, waiting, work)),
+        Command::Abandon => Done::from(rec.abandon(settled, waiting, work)),
+        Command::Sync => Done::from(rec.sync(settled, waiting, work)),
+        Command::Apply => Done::from(rec.apply(settled, waiting, work)),
+        Command::Recover => Done::from(rec.recover(settled, waiting, work)),
         Command::Cut => cut(line, rec, settled, waiting, work),
         Command::Bad => Done {
             number: NOT_UNDERSTOOD,
@@ -91,7 +95,7 @@ fn put(rec: Record, settled: &[u8], waiting: &[u8], work: &mut [u8], address: u3
     ensures { reply_of result.number result.third result.rec settled.now waiting.now work.new ≡ Replies.called (put_call trap address (replicate block_bytes byte) (state_of rec settled.now waiting.now work.old)) }
 {
     let block = [byte; BLOCK];
-    called(rec.put(settled, waiting, work, address, &block))
+    Done::from(rec.put(settled, waiting, work, address, &block))
 }
 
 // A get, and the first byte that it hands out.
@@ -117,7 +121,7 @@ fn cut(line: &[u8], rec: Record, settled: &mut [u8], waiting: &[u8], work: &[u8]
 {
     let mut marks = [0u8; MARKS];
     let count = read_marks(line, &mut marks);
-    called(rec.cut(settled, waiting, work, &marks[..count]))
+    Done::from(rec.cut(settled, waiting, work, &marks[..count]))
 }
 
 // For each digit behind the line's fourth byte 512 marks, its value each; how many marks there are.

@@ -9,7 +9,7 @@ ghost use Rattle.script.specs.Steps.{printed_bytes};
 ghost use Rattle.script.specs.CodeSession.{session_of, step_of};
 
 use crate::command::parse;
-use crate::perform::perform;
+use crate::perform::{Done, perform};
 use crate::text::{append, write_line};
 use crate::{ANSWER, BLOCKS, FED, KEPT, PRINTED};
 use card::queue::Queue;
@@ -153,13 +153,9 @@ impl Session {
         let len = self.len;
         let whole = &line[..len];
         let command = parse(whole);
-        let done = perform(command, whole, self.rec, settled, waiting, work);
-        let print = write_line(out, command, done.number, done.third);
-        Session {
-            rec: done.rec,
-            len: 0,
-            print,
-        }
+        let Done { number, third, rec } = perform(command, whole, self.rec, settled, waiting, work);
+        let print = write_line(out, command, number, third);
+        Session { rec, len: 0, print }
     }
 }
 

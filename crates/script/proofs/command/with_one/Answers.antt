@@ -30,9 +30,9 @@ pub returns : goal.returns
 unfolding with_one
 returns c =
     let w = c.args.word.now in
-    elim c.else-eq-3.branch
-      [ else-eq-3-via-then-eq-3+else-is_marks v ↦
-        rw (same_is w power_word _ _ c.eq.ensures c.if-eq.false, same_is w get_word _ _ c.eq-2.ensures c.if-eq-2.false, same_is w cut_word _ _ c.eq-3.ensures v.if-eq-3.true, sym v.is_marks.ensures ∙ v.if-is_marks.false)
+    elim c.else-eq-3.branch [
+      | else-eq-3-via-then-eq-3+else-is_marks v ↦
+          rw (same_is w power_word _ _ c.eq.ensures c.if-eq.false, same_is w get_word _ _ c.eq-2.ensures c.if-eq-2.false, same_is w cut_word _ _ c.eq-3.ensures v.if-eq-3.true, sym v.is_marks.ensures ∙ v.if-is_marks.false)
       | else-eq-3-via-else-eq-3 v ↦
-        rw (same_is w power_word _ _ c.eq.ensures c.if-eq.false, same_is w get_word _ _ c.eq-2.ensures c.if-eq-2.false, same_is w cut_word _ _ c.eq-3.ensures v.if-eq-3.false)
-      ]
+          rw (same_is w power_word _ _ c.eq.ensures c.if-eq.false, same_is w get_word _ _ c.eq-2.ensures c.if-eq-2.false, same_is w cut_word _ _ c.eq-3.ensures v.if-eq-3.false)
+    ]

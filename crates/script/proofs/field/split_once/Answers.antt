@@ -1,16 +1,16 @@
 -- `script::field::split_once` meets its contract.
-use Prim.Native.Nat.{ℕ, ◌+◌, ◌-◌, ◌≤◌, ◌<◌}
+use Prim.Native.Nat.{◌+◌, ◌-◌, ◌≤◌}
 use mathlib.Core.Path.{◌≡◌, sym, ◌∙◌}
 use native.Mathlib.Omega.{arith}
 use lib.Dec.{eqb}
 use native.Mathlib.Numerals.{add-one}
 use lib.ListN.{length, drop, length-drop}
 use lib.Seq.{take_all}
-use Rattle.std.specs.Prelude.{Option, position}
+use Rattle.std.specs.Prelude.{position}
 use Rattle.std.proofs.Common.{rules, tests}
 use Rattle.std.proofs.lemmas.Iterator.{YieldsList-from_slice}
 use Rattle.std.proofs.lemmas.Iterator.Search.{position_from_yields_List}
-use Rattle.script.specs.Fields.{tab, to_tab, fields}
+use Rattle.script.specs.Fields.{tab}
 use Rattle.script.proofs.Pieces.{tab_at, no_tab, fields-one, fields_more}
 use Rattle.script.proofs.field.split_once.Goals as goal
 

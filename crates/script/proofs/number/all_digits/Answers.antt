@@ -9,4 +9,4 @@ use Rattle.script.proofs.number.all_digits.Goals as goal
 pub returns : goal.returns
 returns c =
     all_from_yields_List is_ascii_digit _ _ c.all.result c.all.ensures.ran (YieldsList-from_slice c.args.s.now c.iter.ensures.rest) (λ x b q k. search (rules, tests))
-        ∙ all_digits-list_all _
+    ∙ all_digits-list_all _

@@ -1,7 +1,7 @@
 -- `script::number::to_number` meets its contract.
 use Prim.Native.Nat.{◌<◌, ◌≤◌}
-use mathlib.Core.Path.{◌≡◌, refl, sym, ◌∙◌}
-use mathlib.Core.Bool.{cond, true, false}
+use mathlib.Core.Path.{◌≡◌, sym, ◌∙◌}
+use mathlib.Core.Bool.{cond}
 use native.Mathlib.Omega.{arith}
 use borrow.Author.Tests.{le-leb, lt-leb}
 use lib.Dec.{leb}
@@ -17,17 +17,17 @@ pub returns-then-is_empty : goal.returns-then-is_empty
 unfolding number_of
 returns-then-is_empty c =
     let n = length c.args.s.now in
-    elim c.then-is_empty.branch
-      [ then-is_empty-via-then-is_empty w ↦ let none : n < 1 = grind arith in (rw (lt-leb _ _ none), tt)
+    elim c.then-is_empty.branch [
+      | then-is_empty-via-then-is_empty w ↦ let none : n < 1 = grind arith in (rw (lt-leb _ _ none), tt)
       | then-is_empty-via-else-is_empty+then-s-gt-DIGITS w ↦
-        let some : 1 ≤ n = grind arith in
-        let long : 10 < n = omega arith in
-        (rw (le-leb _ _ some, lt-leb _ _ long), tt)
+          let some : 1 ≤ n = grind arith in
+          let long : 10 < n = omega arith in
+          (rw (le-leb _ _ some, lt-leb _ _ long), tt)
       | then-is_empty-via-else-is_empty+else-s-gt-DIGITS+then-not-all_digits w ↦
-        let some : 1 ≤ n = grind arith in
-        let short : n ≤ 10 = omega arith in
-        (rw (le-leb _ _ some, le-leb _ _ short, sym w.all_digits.ensures ∙ w.if-not-all_digits.true), tt)
-      ]
+          let some : 1 ≤ n = grind arith in
+          let short : n ≤ 10 = omega arith in
+          (rw (le-leb _ _ some, le-leb _ _ short, sym w.all_digits.ensures ∙ w.if-not-all_digits.true), tt)
+    ]
 
 pub returns : goal.returns
 unfolding number_of
