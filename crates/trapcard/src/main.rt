@@ -30,9 +30,7 @@ fn read_all(
 ) -> Turn
     ensures stops { Stops result.more result.reads × (result.more ≡ goes_on (is_ok result.sent.said) (got result.received.said) (interrupted result.received.said)) × ((all : List ℕ) × (session_of result.session.len line.new result.session.rec settled.new waiting.new work.new ≡ (fed all (session_of session.len line.old session.rec settled.old waiting.old work.old)).next)) }
 {
-    let mut last = take_turn(
-        rt, session, 0, bytes, line, settled, waiting, work, printed,
-    );
+    let mut last = take_turn(rt, session, 0, bytes, line, settled, waiting, work, printed);
     for reads in 1..MOST_READS {
         if !last.more {
             return last;

@@ -8,5 +8,5 @@ use Rattle.trapcard.proofs.read_all.Given as goal
 abbrev pub invariant-loop-reads : goal.invariant-loop-reads
 invariant-loop-reads g l =
     (l.last.reads ≡ l.reads)
-        × (l.last.more ≡ goes_on (is_ok l.last.sent.said) (got l.last.received.said) (interrupted l.last.received.said))
-        × ((all : List ℕ) × (session_of l.last.session.len l.line l.last.session.rec l.settled l.waiting l.work ≡ (fed all (session_of l.fn.session.len l.fn.line l.fn.session.rec l.fn.settled l.fn.waiting l.fn.work)).next))
+    × (l.last.more ≡ goes_on (is_ok l.last.sent.said) (got l.last.received.said) (interrupted l.last.received.said))
+    × ((all : List ℕ) × (session_of l.last.session.len l.line l.last.session.rec l.settled l.waiting l.work ≡ (fed all (session_of l.fn.session.len l.fn.line l.fn.session.rec l.fn.settled l.fn.waiting l.fn.work)).next))
