@@ -80,9 +80,9 @@ impl Session {
         ensures { result ≡ record { rec = self.rec; len = min self.len kept_bytes; print = 0 } }
     {
         Session {
-            rec: self.rec,
             len: self.len.min(KEPT),
             print: 0,
+            ..self
         }
     }
 
@@ -131,9 +131,9 @@ impl Session {
         }
         let len = keep(line, self.len, byte);
         Session {
-            rec: self.rec,
             len,
             print: 0,
+            ..self
         }
     }
 

@@ -1,5 +1,5 @@
 // The line that answers a command.
-ghost use Rattle.std.specs.Prelude.{◌≡◌, ◌∷◌, ◌+◌, ◌≤◌, ◌<◌, length, drop};
+ghost use Rattle.std.specs.Prelude.{◌≡◌, ◌∷◌, ◌+◌, ◌≤◌, length};
 ghost use Rattle.std.proofs.lemmas.List.Edits.{sets};
 ghost use Rattle.script.specs.Fields.{tab};
 ghost use Rattle.script.specs.Answers.{field_bytes, longest_word, answer_bytes, decimal, word_of, answer_line};
