@@ -1,5 +1,5 @@
 -- `trapcard::read_all` meets its contract.
-use Rattle.std.proofs.Common.{◌∙◌, ap, ◌+◌, ℕ, ◌++◌, take}
+use Rattle.std.proofs.Common.{◌++◌, take}
 use Rattle.io.specs.Counts.{clamp_len}
 use Rattle.script.specs.Steps.{fed_bytes}
 use Rattle.trapcard.specs.Turns.{got}
