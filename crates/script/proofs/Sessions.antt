@@ -122,7 +122,7 @@ answer_within len line st h = ap (λ (k : List ℕ). answer (record { kept = k; 
 -- ---- the end
 
 pub finish_none : (o line : List ℕ) (len : ℕ) (st : State) → len ≡ 0
-    → ◌≡◌ {A = Step} (record { print = take 0 o; next = record { kept = take 0 line; state = st } }) (finish (record { kept = take len line; state = st }))
+    → ◌≡◌ {A = Step} (record { print = take 0 o; next = record { kept = take len line; state = st } }) (finish (record { kept = take len line; state = st }))
 unfolding finish
 finish_none o line len st h = rw h
 

@@ -1,8 +1,6 @@
 -- What a line says.
-use Rattle.std.specs.Prelude.{ℕ, suc, cond, List, [], ◌∷◌, ltb, length}
+use Rattle.std.specs.Prelude.{ℕ, suc, cond, List, [], ◌∷◌, Option, Some, None, ltb, length}
 use Rattle.cells.specs.Same.{same}
-use Rattle.script.specs.declared.number.Number.{Number}
-use Rattle.script.specs.declared.number.Number.TheVariants.{Of, Not}
 use Rattle.script.specs.declared.command.Command.{Command}
 use Rattle.script.specs.declared.command.Command.TheVariants.{Format, Power, Put, Get, Commit, Abandon, Sync, Apply, Recover, Cut, Bad}
 use Rattle.script.specs.Fields.{fields}
@@ -29,9 +27,9 @@ alone w =
     (cond (same w cut_word) Cut
     Bad))))))
 
-abbrev pub with_number : Number → (ℕ → Command) → Command
-with_number (Of n) f = f n
-with_number Not f = Bad
+abbrev pub with_number : Option ℕ → (ℕ → Command) → Command
+with_number (Some n) f = f n
+with_number None f = Bad
 
 -- "get: address; power: count; cut: marks"
 unfoldable pub with_one : List ℕ → List ℕ → Command

@@ -1,5 +1,6 @@
 -- "a word, then tab-parted fields"
-use Rattle.std.specs.Prelude.{ℕ, suc, cond, List, [], ◌∷◌, eqb}
+use Rattle.std.specs.Prelude.{ℕ, suc, cond, List, [], ◌∷◌, Option, Some, None, eqb}
+use denote.Ref.{Bor}
 
 abbrev pub tab : ℕ
 tab = 9
@@ -13,6 +14,11 @@ push b (p ∷ ps) = (b ∷ p) ∷ ps
 unfoldable pub fields : List ℕ → List (List ℕ)
 fields [] = [] ∷ []
 fields (b ∷ s) = cond (eqb b tab) ([] ∷ fields s) (push b (fields s))
+
+-- what stands behind a field's tab, in its fields; nothing where there is no tab
+abbrev pub behind : Option (Bor (List ℕ)) → List (List ℕ)
+behind None = []
+behind (Some s) = fields s.now
 
 -- how many bytes stand before the first tab
 unfoldable pub to_tab : List ℕ → ℕ

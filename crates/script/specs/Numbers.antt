@@ -1,7 +1,5 @@
 -- "Numbers have 1 to 10 digits and fit 4 bytes, or 1 for the byte; marks are one run of at least one digit, a digit each."
-use Rattle.std.specs.Prelude.{ℕ, ◌+◌, ◌*◌, ◌-◌, ◌≤◌, Bool, true, cond, ◌&&◌, List, [], ◌∷◌, leb, length}
-use Rattle.script.specs.declared.number.Number.{Number}
-use Rattle.script.specs.declared.number.Number.TheVariants.{Of, Not}
+use Rattle.std.specs.Prelude.{ℕ, ◌+◌, ◌*◌, ◌-◌, ◌≤◌, Bool, true, cond, ◌&&◌, List, [], ◌∷◌, Option, Some, None, leb, length}
 
 -- the digits that a number may have
 abbrev pub number_digits : ℕ
@@ -30,14 +28,14 @@ abbrev pub most1_byte : ℕ
 most1_byte = 255
 
 -- a field as a number of at most `most`
-unfoldable pub number_of : ℕ → List ℕ → Number
+unfoldable pub number_of : ℕ → List ℕ → Option ℕ
 number_of most s =
-    cond (leb 1 (length s) && leb (length s) number_digits && all_digits s && leb (value_from 0 s) most) (Of (value_from 0 s)) Not
+    cond (leb 1 (length s) && leb (length s) number_digits && all_digits s && leb (value_from 0 s) most) (Some (value_from 0 s)) None
 
 -- it is no more than that
-abbrev pub AtMost : ℕ → Number → Type 0
-AtMost most (Of n) = n ≤ most
-AtMost most Not = Unit {0}
+abbrev pub AtMost : ℕ → Option ℕ → Type 0
+AtMost most (Some n) = n ≤ most
+AtMost most None = Unit {0}
 
 -- a field as marks
 abbrev pub is_marks : List ℕ → Bool

@@ -1,17 +1,15 @@
 // What a line says: a word and its fields.
-ghost use Rattle.std.specs.Prelude.{◌≡◌, ◌∷◌};
+ghost use Rattle.std.specs.Prelude.{◌≡◌, ◌∷◌, unwrap_or};
 ghost use Rattle.script.specs.Fields.{fields};
+ghost use Rattle.script.specs.Numbers.{most4_bytes, most1_byte, number_of};
 ghost use Rattle.script.specs.Commands as Commands;
 
-use crate::LINE;
-use crate::field::to_tab;
-use crate::number::{Number, is_marks, to_number};
-use cells::bytes::same;
+use crate::field::split_once;
+use crate::number::{is_marks, to_number};
+use crate::{LINE, words};
 
-// The most that 4 bytes hold, and 1.
-const MOST: u32 = 4294967295;
-
-const MOST_BYTE: u32 = 255;
+// The most that a byte holds.
+const MOST_BYTE: u32 = u8::MAX as u32;
 
 // A cut's digits stay in the line, behind its word and a tab. The type is public for proofs above: no public function has it.
 #[derive(Clone, Copy)]
@@ -35,52 +33,49 @@ pub(crate) fn parse(line: &[u8]) -> Command
     if LINE < line.len() {
         return Command::Bad;
     }
-    let end = to_tab(line);
-    let word = &line[..end];
-    if end == line.len() {
-        return alone(word);
+    match split_once(line) {
+        (word, None) => alone(word),
+        (word, Some(rest)) => with_fields(word, rest),
     }
-    with_fields(word, &line[end + 1..])
 }
 
 // A word and at least one field.
 fn with_fields(word: &[u8], rest: &[u8]) -> Command
     ensures { result ≡ Commands.understood (word.now ∷ fields rest.now) }
 {
-    let end = to_tab(rest);
-    if end == rest.len() {
-        return with_one(word, rest);
+    match split_once(rest) {
+        (x, None) => with_one(word, x),
+        (x, Some(more)) => match split_once(more) {
+            (y, None) => with_two(word, x, y),
+            (_, Some(_)) => Command::Bad,
+        },
     }
-    let second = &rest[end + 1..];
-    if to_tab(second) == second.len() {
-        return with_two(word, &rest[..end], second);
-    }
-    Command::Bad
 }
 
 // A word alone.
+// Stays a row of tests: a match on byte strings is proved byte by byte, and has 38 goals where no word fits.
 fn alone(word: &[u8]) -> Command
     ensures { result ≡ Commands.alone word.now }
 {
-    if same(word, b"format") {
+    if word == words::FORMAT {
         return Command::Format;
     }
-    if same(word, b"commit") {
+    if word == words::COMMIT {
         return Command::Commit;
     }
-    if same(word, b"abandon") {
+    if word == words::ABANDON {
         return Command::Abandon;
     }
-    if same(word, b"sync") {
+    if word == words::SYNC {
         return Command::Sync;
     }
-    if same(word, b"apply") {
+    if word == words::APPLY {
         return Command::Apply;
     }
-    if same(word, b"recover") {
+    if word == words::RECOVER {
         return Command::Recover;
     }
-    if same(word, b"cut") {
+    if word == words::CUT {
         return Command::Cut;
     }
     Command::Bad
@@ -90,22 +85,13 @@ fn alone(word: &[u8]) -> Command
 fn with_one(word: &[u8], x: &[u8]) -> Command
     ensures { result ≡ Commands.with_one word.now x.now }
 {
-    if same(word, b"power") {
-        let Number::Of(count) = to_number(x, MOST) else {
-            return Command::Bad;
-        };
-        return Command::Power(count);
+    if word == words::POWER {
+        return to_number(x, u32::MAX).map_or(Command::Bad, Command::Power);
     }
-    if same(word, b"get") {
-        let Number::Of(address) = to_number(x, MOST) else {
-            return Command::Bad;
-        };
-        return Command::Get(address);
+    if word == words::GET {
+        return to_number(x, u32::MAX).map_or(Command::Bad, Command::Get);
     }
-    if !same(word, b"cut") {
-        return Command::Bad;
-    }
-    if is_marks(x) {
+    if word == words::CUT && is_marks(x) {
         return Command::Cut;
     }
     Command::Bad
@@ -115,14 +101,17 @@ fn with_one(word: &[u8], x: &[u8]) -> Command
 fn with_two(word: &[u8], x: &[u8], y: &[u8]) -> Command
     ensures { result ≡ Commands.with_two word.now x.now y.now }
 {
-    if !same(word, b"put") {
+    if word != words::PUT {
         return Command::Bad;
     }
-    let Number::Of(address) = to_number(x, MOST) else {
-        return Command::Bad;
-    };
-    let Number::Of(byte) = to_number(y, MOST_BYTE) else {
-        return Command::Bad;
-    };
-    Command::Put(address, byte as u8)
+    put(x, y).unwrap_or(Command::Bad)
+}
+
+// A put's fields.
+fn put(x: &[u8], y: &[u8]) -> Option<Command>
+    ensures { unwrap_or result Command.Bad ≡ Commands.with_number (number_of most4_bytes x.now) (λ a. Commands.with_number (number_of most1_byte y.now) (λ b. Command.Put a b)) }
+{
+    let address = to_number(x, u32::MAX)?;
+    let byte = to_number(y, MOST_BYTE)?;
+    Some(Command::Put(address, byte as u8))
 }

@@ -1,17 +1,13 @@
 // The fields of a line.
-ghost use Rattle.std.specs.Prelude.{◌≡◌, ◌≤◌, length};
-ghost use Rattle.script.specs.Fields.{to_tab};
+ghost use Rattle.std.specs.Prelude.{◌≡◌, ◌∷◌};
+ghost use Rattle.script.specs.Fields.{fields, behind};
 
-// Where the first tab stands, or the length where there is none.
-pub(crate) fn to_tab(s: &[u8]) -> usize
-    ensures { (result ≡ to_tab s.now) × (result ≤ length s.now) }
+// The first field, and what stands behind its tab, if there is one.
+pub(crate) fn split_once(s: &[u8]) -> (&[u8], Option<&[u8]>)
+    ensures { fields s.now ≡ result.0.now ∷ behind result.1 }
 {
-    let mut i = 0;
-    while i < s.len() {
-        if s[i] == b'\t' {
-            return i;
-        }
-        i += 1;
+    match s.iter().position(|&b| b == b'\t') {
+        Some(at) => (&s[..at], Some(&s[at + 1..])),
+        None => (s, None),
     }
-    i
 }

@@ -7,6 +7,7 @@ mod number;
 mod perform;
 pub mod session;
 mod text;
+mod words;
 
 // The bytes that a line may have, its LF not counted.
 const LINE: usize = 80;

@@ -14,7 +14,6 @@ use crate::KEPT;
 use crate::command::Command;
 use crate::number::value_of;
 use cells::BLOCK;
-use cells::bytes::fill;
 use store::record::{Answer, Record};
 use store::saved::Saved;
 
@@ -35,26 +34,28 @@ pub(crate) struct Done {
 }
 
 // A call that gives no orders.
-fn called(a: Answer) -> Done
-    ensures { result ≡ record { number = a.number; third = 0; rec = a.rec } }
-{
-    let rec = a.rec;
-    Done {
-        number: a.number,
-        third: 0,
-        rec,
+impl From<Answer> for Done {
+    fn from(a: Answer) -> Done
+        ensures { result ≡ record { number = a.number; third = 0; rec = a.rec } }
+    {
+        Done {
+            number: a.number,
+            third: 0,
+            rec: a.rec,
+        }
     }
 }
 
 // A call that hands back its orders.
-fn saved(s: Saved) -> Done
-    ensures { result ≡ record { number = s.number; third = s.orders; rec = s.rec } }
-{
-    let rec = s.rec;
-    Done {
-        number: s.number,
-        third: s.orders,
-        rec,
+impl From<Saved> for Done {
+    fn from(s: Saved) -> Done
+        ensures { result ≡ record { number = s.number; third = s.orders; rec = s.rec } }
+    {
+        Done {
+            number: s.number,
+            third: s.orders,
+            rec: s.rec,
+        }
     }
 }
 
@@ -71,15 +72,15 @@ pub(crate) fn perform(
     ensures { reply_of result.number result.third result.rec settled.new waiting.new work.new ≡ Replies.perform command line.now (state_of rec settled.old waiting.old work.old) }
 {
     match command {
-        Command::Format => called(rec.format(settled, waiting, work)),
-        Command::Power(count) => called(rec.power(settled, waiting, work, count)),
+        Command::Format => Done::from(rec.format(settled, waiting, work)),
+        Command::Power(count) => Done::from(rec.power(settled, waiting, work, count)),
         Command::Put(address, byte) => put(rec, settled, waiting, work, address, byte),
         Command::Get(address) => get(rec, settled, waiting, work, address),
-        Command::Commit => called(rec.commit(settled, waiting, work)),
-        Command::Abandon => called(rec.abandon(settled, waiting, work)),
-        Command::Sync => saved(rec.sync(settled, waiting, work)),
-        Command::Apply => saved(rec.apply(settled, waiting, work)),
-        Command::Recover => saved(rec.recover(settled, waiting, work)),
+        Command::Commit => Done::from(rec.commit(settled, waiting, work)),
+        Command::Abandon => Done::from(rec.abandon(settled, waiting, work)),
+        Command::Sync => Done::from(rec.sync(settled, waiting, work)),
+        Command::Apply => Done::from(rec.apply(settled, waiting, work)),
+        Command::Recover => Done::from(rec.recover(settled, waiting, work)),
         Command::Cut => cut(line, rec, settled, waiting, work),
         Command::Bad => Done {
             number: NOT_UNDERSTOOD,
@@ -94,7 +95,7 @@ fn put(rec: Record, settled: &[u8], waiting: &[u8], work: &mut [u8], address: u3
     ensures { reply_of result.number result.third result.rec settled.now waiting.now work.new ≡ Replies.called (put_call trap address (replicate block_bytes byte) (state_of rec settled.now waiting.now work.old)) }
 {
     let block = [byte; BLOCK];
-    called(rec.put(settled, waiting, work, address, &block))
+    Done::from(rec.put(settled, waiting, work, address, &block))
 }
 
 // A get, and the first byte that it hands out.
@@ -110,10 +111,7 @@ fn get<'a>(rec: Record, settled: &'a [u8], waiting: &'a [u8], work: &'a [u8], ad
 fn first(s: &[u8]) -> u32
     ensures { result ≡ get_or s.now 0 0 }
 {
-    if s.len() == 0 {
-        return 0;
-    }
-    s[0] as u32
+    s.first().map_or(0, |&b| u32::from(b))
 }
 
 // A cut with the marks of its line.
@@ -123,7 +121,7 @@ fn cut(line: &[u8], rec: Record, settled: &mut [u8], waiting: &[u8], work: &[u8]
 {
     let mut marks = [0u8; MARKS];
     let count = read_marks(line, &mut marks);
-    called(rec.cut(settled, waiting, work, &marks[..count]))
+    Done::from(rec.cut(settled, waiting, work, &marks[..count]))
 }
 
 // For each digit behind the line's fourth byte 512 marks, its value each; how many marks there are.
@@ -132,11 +130,10 @@ fn read_marks(line: &[u8], marks: &mut [u8]) -> usize
     requires marks_len { length marks.old ≡ most_marks }
     ensures { (result ≤ most_marks) × (take result marks.new ≡ Replies.marks line.now) }
 {
-    let mut i = 0;
-    while i + DIGITS_AT < line.len() {
+    let count = line.len().saturating_sub(DIGITS_AT);
+    for i in 0..count {
         let at = BLOCK * i;
-        fill(&mut marks[at..at + BLOCK], value_of(line[i + DIGITS_AT]));
-        i += 1;
+        marks[at..at + BLOCK].fill(value_of(line[i + DIGITS_AT]));
     }
-    BLOCK * i
+    BLOCK * count
 }

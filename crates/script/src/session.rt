@@ -9,7 +9,7 @@ ghost use Rattle.script.specs.Steps.{printed_bytes};
 ghost use Rattle.script.specs.CodeSession.{session_of, step_of};
 
 use crate::command::parse;
-use crate::perform::perform;
+use crate::perform::{Done, perform};
 use crate::text::{append, write_line};
 use crate::{ANSWER, BLOCKS, FED, KEPT, PRINTED};
 use card::queue::Queue;
@@ -53,7 +53,7 @@ impl Session {
     ) -> Session
         ensures { (result.print ≤ printed_bytes) × (step_of result.print printed.new (session_of result.len line.new result.rec settled.new waiting.new work.new) ≡ Steps.fed (take count bytes.now) (session_of self.len line.old self.rec settled.old waiting.old work.old)) }
     {
-        let end = least(count, FED);
+        let end = count.min(FED);
         self.within()
             .run(bytes, end, line, settled, waiting, work, printed)
     }
@@ -70,12 +70,7 @@ impl Session {
         ensures { (result.print ≤ printed_bytes) × (step_of result.print printed.new (session_of result.len line.now result.rec settled.new waiting.new work.new) ≡ Steps.finish (session_of self.len line.now self.rec settled.old waiting.old work.old)) }
     {
         if self.len == 0 {
-            let rec = self.rec;
-            return Session {
-                rec,
-                len: 0,
-                print: 0,
-            };
+            return Session { print: 0, ..self };
         }
         self.within().answer(line, settled, waiting, work, printed)
     }
@@ -84,9 +79,11 @@ impl Session {
     fn within(self) -> Session
         ensures { result ≡ record { rec = self.rec; len = min self.len kept_bytes; print = 0 } }
     {
-        let len = least(self.len, KEPT);
-        let rec = self.rec;
-        Session { rec, len, print: 0 }
+        Session {
+            len: self.len.min(KEPT),
+            print: 0,
+            ..self
+        }
     }
 
     // The first count bytes, in turn, and what they print.
@@ -107,12 +104,9 @@ impl Session {
         let mut out = [0u8; ANSWER];
         let mut next = self;
         let mut at = 0;
-        let mut i = 0;
-        while i < count {
-            next = next.step(bytes[i], line, settled, waiting, work, &mut out);
-            let n = next.print;
-            at = append(printed, at, &out[..n]);
-            i += 1;
+        for &byte in &bytes[..count] {
+            next = next.step(byte, line, settled, waiting, work, &mut out);
+            at = append(printed, at, &out[..next.print]);
         }
         next.print = at;
         next
@@ -136,8 +130,11 @@ impl Session {
             return self.answer(line, settled, waiting, work, out);
         }
         let len = keep(line, self.len, byte);
-        let rec = self.rec;
-        Session { rec, len, print: 0 }
+        Session {
+            len,
+            print: 0,
+            ..self
+        }
     }
 
     // Carries out the line that is kept, and keeps nothing.
@@ -156,21 +153,10 @@ impl Session {
         let len = self.len;
         let whole = &line[..len];
         let command = parse(whole);
-        let done = perform(command, whole, self.rec, settled, waiting, work);
-        let print = write_line(out, command, done.number, done.third);
-        let rec = done.rec;
+        let Done { number, third, rec } = perform(command, whole, self.rec, settled, waiting, work);
+        let print = write_line(out, command, number, third);
         Session { rec, len: 0, print }
     }
-}
-
-// The smaller of two numbers.
-fn least(a: usize, b: usize) -> usize
-    ensures { (result ≤ b) × (result ≡ min a b) }
-{
-    if b < a {
-        return b;
-    }
-    a
 }
 
 // One byte more of a line of which len are kept; how many are kept then.

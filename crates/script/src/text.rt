@@ -1,35 +1,12 @@
 // The line that answers a command.
-ghost use Rattle.std.specs.Prelude.{◌≡◌, ◌∷◌, ◌+◌, ◌≤◌, ◌<◌, length, drop};
+ghost use Rattle.std.specs.Prelude.{◌≡◌, ◌∷◌, ◌+◌, ◌≤◌, length};
 ghost use Rattle.std.proofs.lemmas.List.Edits.{sets};
 ghost use Rattle.script.specs.Fields.{tab};
-ghost use Rattle.script.specs.Numbers.{number_digits};
 ghost use Rattle.script.specs.Answers.{field_bytes, longest_word, answer_bytes, decimal, word_of, answer_line};
 
-use crate::DIGITS;
 use crate::command::Command;
-use cells::bytes::copy;
-
-// What a digit counts more than the one behind it.
-const BASE: u32 = 10;
-
-// Where the last digit stands.
-const LAST: usize = DIGITS - 1;
-
-// Puts the digits of n at the end of the buffer; where they start.
-fn digits(buffer: &mut [u8], n: u32) -> usize
-    requires { length buffer.old ≡ number_digits }
-    ensures { (result < number_digits) × (drop result buffer.new ≡ decimal n) }
-{
-    let mut i = LAST;
-    let mut rest = n / BASE;
-    buffer[i] = b'0' + (n % BASE) as u8;
-    while 0 < rest {
-        i -= 1;
-        buffer[i] = b'0' + (rest % BASE) as u8;
-        rest = rest / BASE;
-    }
-    i
-}
+use crate::words;
+use itoa::Buffer;
 
 // Bytes behind the first at of out; where they end.
 pub(crate) fn append(out: &mut [u8], at: usize, bytes: &[u8]) -> usize
@@ -37,7 +14,7 @@ pub(crate) fn append(out: &mut [u8], at: usize, bytes: &[u8]) -> usize
     ensures { (result ≡ at + length bytes.now) × (out.new ≡ sets out.old at bytes.now) }
 {
     let end = at + bytes.len();
-    copy(&mut out[at..end], bytes);
+    out[at..end].copy_from_slice(bytes);
     end
 }
 
@@ -46,29 +23,28 @@ fn append_number(out: &mut [u8], at: usize, n: u32) -> usize
     requires { at + field_bytes ≤ length out.old }
     ensures { (result ≤ at + field_bytes) × (result ≡ at + length (tab ∷ decimal n)) × (out.new ≡ sets out.old at (tab ∷ decimal n)) }
 {
-    let mut buffer = [0u8; DIGITS];
-    let from = digits(&mut buffer, n);
+    let mut buffer = Buffer::new();
+    let digits = buffer.format(n);
     let next = append(out, at, b"\t");
-    append(out, next, &buffer[from..])
+    append(out, next, digits.as_bytes())
 }
 
-// The word of a command, in front.
-fn append_word(out: &mut [u8], command: Command) -> usize
-    requires { longest_word ≤ length out.old }
-    ensures { (result ≤ longest_word) × (result ≡ length (word_of command)) × (out.new ≡ sets out.old 0 (word_of command)) }
+// The word of a command.
+fn word(command: Command) -> &'static [u8]
+    ensures { (length result.now ≤ longest_word) × (result.now ≡ word_of command) }
 {
     match command {
-        Command::Format => append(out, 0, b"format"),
-        Command::Power(_) => append(out, 0, b"power"),
-        Command::Put(_, _) => append(out, 0, b"put"),
-        Command::Get(_) => append(out, 0, b"get"),
-        Command::Commit => append(out, 0, b"commit"),
-        Command::Abandon => append(out, 0, b"abandon"),
-        Command::Sync => append(out, 0, b"sync"),
-        Command::Apply => append(out, 0, b"apply"),
-        Command::Recover => append(out, 0, b"recover"),
-        Command::Cut => append(out, 0, b"cut"),
-        Command::Bad => append(out, 0, b"bad"),
+        Command::Format => words::FORMAT,
+        Command::Power(_) => words::POWER,
+        Command::Put(_, _) => words::PUT,
+        Command::Get(_) => words::GET,
+        Command::Commit => words::COMMIT,
+        Command::Abandon => words::ABANDON,
+        Command::Sync => words::SYNC,
+        Command::Apply => words::APPLY,
+        Command::Recover => words::RECOVER,
+        Command::Cut => words::CUT,
+        Command::Bad => words::BAD,
     }
 }
 
@@ -77,7 +53,7 @@ pub(crate) fn write_line(out: &mut [u8], command: Command, answer: u32, third: u
     requires { answer_bytes ≤ length out.old }
     ensures { (result ≤ answer_bytes) × (result ≡ length (answer_line command answer third)) × (out.new ≡ sets out.old 0 (answer_line command answer third)) }
 {
-    let first = append_word(out, command);
+    let first = append(out, 0, word(command));
     let second = append_number(out, first, answer);
     let last = append_number(out, second, third);
     append(out, last, b"\n")

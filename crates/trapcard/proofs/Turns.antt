@@ -1,7 +1,6 @@
--- The laws of turns: when they stop, and what has been fed.
+-- The laws of turns: what has been fed, and the buffers at the start.
 use Prim.Native.Nat.{ℕ, ◌*◌}
 use mathlib.Core.Path.{◌≡◌, ap, sym, ◌∙◌}
-use mathlib.Core.Bool.{Bool, true, false}
 use mathlib.Core.List.{List, ◌++◌}
 use lib.ListN.{take, replicate}
 use Rattle.cells.specs.Entry.{block_bytes}
@@ -12,14 +11,6 @@ use Rattle.script.specs.Steps.{Session, Step, fed, fresh}
 use Rattle.script.specs.CodeSession.{session_of}
 use Rattle.script.proofs.Sessions.{fed-append}
 use Rattle.journal.specs.Geometry.{trap}
-use Rattle.trapcard.specs.Turns.{most_reads, Stops}
-
-pub stops_done : (more : Bool) (reads : ℕ) → more ≡ false → Stops more reads
-stops_done more reads h = rw h tt
-
-pub stops_long : (more : Bool) (reads : ℕ) → reads ≡ most_reads → Stops more reads
-stops_long true reads h = h
-stops_long false reads h = tt
 
 -- what was fed before and what a turn feeds
 pub fed_on : (a b : List ℕ) (p : List ℕ) (s t u : Session) → t ≡ (fed a s).next → ◌≡◌ {A = Step} (record { print = p; next = u }) (fed b t) → u ≡ (fed (a ++ b) s).next

@@ -1,5 +1,9 @@
 -- What a read and a write come to, and when the program stops.
-use Rattle.std.specs.Prelude.{ℕ, ◌≡◌, Bool, true, false, ◌&&◌, eqb, ltb, ℤ, pos, negsuc}
+use Rattle.std.specs.Prelude.{ℕ, ◌≡◌, Bool, true, false, ◌&&◌, eqb, ltb, ℤ, pos, negsuc, Result, Ok, Err}
+use Rattle.std.specs.IoError.{error_kind}
+use Rattle.std.specs.declared.io.Error.{Error}
+use Rattle.std.specs.declared.io.ErrorKind.{ErrorKind}
+use Rattle.std.specs.declared.io.ErrorKind.TheVariants.{Interrupted}
 
 -- the descriptors that the program reads and writes
 abbrev pub input : ℤ
@@ -7,6 +11,20 @@ input = pos 0
 
 abbrev pub output : ℤ
 output = pos 1
+
+-- what a read came to: the bytes that it moved, below 0 if it failed
+abbrev pub got : Result ℕ Error → ℤ
+got (Ok n) = pos n
+got (Err e) = negsuc 0
+
+abbrev pub is_signal : ErrorKind → Bool
+is_signal Interrupted = true
+is_signal _ = false
+
+-- whether it failed because a signal interrupted it
+abbrev pub interrupted : Result ℕ Error → Bool
+interrupted (Ok n) = false
+interrupted (Err e) = is_signal (error_kind e)
 
 -- more is read if all was written and the read moved bytes, or failed because a signal interrupted it: so not at the
 -- input's end, which is a read of no bytes
@@ -27,8 +45,3 @@ most_reads = 18446744073709551615
 abbrev pub Stops : Bool → ℕ → Type 0
 Stops false reads = Unit {0}
 Stops true reads = reads ≡ most_reads
-
--- a read that did not fail
-abbrev pub has_read : ℤ → Bool
-has_read (pos n) = true
-has_read (negsuc n) = false

@@ -8,7 +8,7 @@ mod turn;
 ghost use Rattle.std.specs.Prelude.{◌≡◌, true, List, ℕ, take, is_ok, IsOk, IsErrOf, IfErr, OnOk};
 ghost use Rattle.script.specs.Steps.{fresh, fed, finish};
 ghost use Rattle.script.specs.CodeSession.{session_of};
-ghost use Rattle.trapcard.specs.Turns.{output, goes_on, at_end, has_read, Stops};
+ghost use Rattle.trapcard.specs.Turns.{output, got, interrupted, goes_on, at_end, Stops};
 
 use crate::output::{STDOUT_FILENO, Sent, send};
 use crate::sizes::{SETTLED, WAITING, WORK};
@@ -28,24 +28,26 @@ fn read_all(
     work: &mut [u8; WORK],
     printed: &mut [u8; PRINTED],
 ) -> Turn
-    ensures stops { Stops result.more result.reads × (result.more ≡ goes_on result.sent.whole result.received.got result.received.interrupted) × ((all : List ℕ) × (session_of result.session.len line.new result.session.rec settled.new waiting.new work.new ≡ (fed all (session_of session.len line.old session.rec settled.old waiting.old work.old)).next)) }
-    ensures told { (result.sent.whole ≡ is_ok result.sent.said) × (is_ok result.received.said ≡ has_read result.received.got) }
+    ensures stops { Stops result.more result.reads × (result.more ≡ goes_on (is_ok result.sent.said) (got result.received.said) (interrupted result.received.said)) × ((all : List ℕ) × (session_of result.session.len line.new result.session.rec settled.new waiting.new work.new ≡ (fed all (session_of session.len line.old session.rec settled.old waiting.old work.old)).next)) }
 {
-    let mut next = session;
-    let mut reads = 0;
-    loop {
-        let last = take_turn(
-            rt, next, reads, bytes, line, settled, waiting, work, printed,
-        );
+    let mut last = take_turn(rt, session, 0, bytes, line, settled, waiting, work, printed);
+    for reads in 1..MOST_READS {
         if !last.more {
             return last;
         }
-        if last.reads == MOST_READS {
-            return last;
-        }
-        next = last.session;
-        reads = last.reads;
+        last = take_turn(
+            rt,
+            last.session,
+            reads,
+            bytes,
+            line,
+            settled,
+            waiting,
+            work,
+            printed,
+        );
     }
+    last
 }
 
 // The end of the input: what a last line prints that lacks its LF.
@@ -59,7 +61,6 @@ fn close(
     printed: &mut [u8; PRINTED],
 ) -> Sent
     ensures sent { (result.to ≡ output) × (take result.count printed.new ≡ (finish (session_of session.len line.now session.rec settled.old waiting.old work.old)).print) }
-    ensures told { result.whole ≡ is_ok result.said }
 {
     let last = session.finish(line, settled, waiting, work, printed);
     send(rt, STDOUT_FILENO, printed, last.print)
@@ -74,15 +75,9 @@ struct Ending {
 
 // Whether the input ended, with all written.
 fn at_end(sent: Sent, received: Received) -> bool
-    ensures { result ≡ at_end sent.whole received.got }
+    ensures { result ≡ at_end (is_ok sent.said) (got received.said) }
 {
-    if !sent.whole {
-        return false;
-    }
-    if received.got < 0 {
-        return false;
-    }
-    !(0 < received.got)
+    sent.said.is_ok() && matches!(received.said, Ok(0))
 }
 
 // The whole input, from the card as it is at the beginning.
@@ -97,8 +92,7 @@ fn run(
     printed: &mut [u8; PRINTED],
 ) -> Ending
     requires { session_of session.len line.old session.rec settled.old waiting.old work.old ≡ fresh }
-    ensures stops { Stops result.last.more result.last.reads × (result.last.more ≡ goes_on result.last.sent.whole result.last.received.got result.last.received.interrupted) × ((all : List ℕ) × (at_end result.last.sent.whole result.last.received.got ≡ true → (result.sent.to ≡ output) × (take result.sent.count printed.new ≡ (finish (fed all fresh).next).print))) }
-    ensures told { (result.sent.whole ≡ is_ok result.sent.said) × (is_ok result.last.received.said ≡ has_read result.last.received.got) }
+    ensures stops { Stops result.last.more result.last.reads × (result.last.more ≡ goes_on (is_ok result.last.sent.said) (got result.last.received.said) (interrupted result.last.received.said)) × ((all : List ℕ) × (at_end (is_ok result.last.sent.said) (got result.last.received.said) ≡ true → (result.sent.to ≡ output) × (take result.sent.count printed.new ≡ (finish (fed all fresh).next).print))) }
 {
     let last = read_all(rt, session, bytes, line, settled, waiting, work, printed);
     let sent = last.sent;
@@ -123,7 +117,8 @@ fn report(ending: Ending) -> Result<(), Failure>
     ensures none { OnOk ending.sent.said (OnOk ending.last.received.said (IsOk result)) }
 {
     ending.sent.said.map_err(Failure::StandardOutput)?;
-    ending.last.received.said.map_err(Failure::StandardInput)
+    ending.last.received.said.map_err(Failure::StandardInput)?;
+    Ok(())
 }
 
 fn main(rt: HostRuntime) -> Result<(), Failure> {

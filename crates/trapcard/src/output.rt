@@ -1,6 +1,6 @@
 // Output. The contracts of std's calls say nothing of the descriptor or of the bytes: `send` is the one place where they are
 // handed over, and says by its result which.
-ghost use Rattle.std.specs.Prelude.{◌≡◌, ◌≤◌, is_ok, OnOk};
+ghost use Rattle.std.specs.Prelude.{◌≡◌, ◌≤◌, OnOk};
 ghost use Rattle.script.specs.Steps.{printed_bytes};
 ghost use Rattle.trapcard.specs.Turns.{output};
 
@@ -10,28 +10,22 @@ use std::io;
 // The descriptor of standard output.
 pub(crate) const STDOUT_FILENO: i32 = 1;
 
-// What was handed over: to which descriptor, how many bytes of the output's buffer, whether all were written, and the error if not.
+// What was handed over: to which descriptor, how many bytes of the output's buffer, and whether all were written, or the error.
 #[derive(Clone, Copy)]
 pub(crate) struct Sent {
     pub to: i32,
     pub count: usize,
-    pub whole: bool,
     pub said: io::Result<()>,
 }
 
 pub(crate) fn send(rt: &impl Print, to: i32, printed: &[u8; PRINTED], count: usize) -> Sent
     requires { count ≤ printed_bytes }
     ensures handed { (result.to ≡ to) × (result.count ≡ count) }
-    ensures told { result.whole ≡ is_ok result.said }
 {
-    let all: &[u8] = printed;
-    let said = write_all(rt, to, &all[..count]);
-    let whole = said.is_ok();
     Sent {
         to,
         count,
-        whole,
-        said,
+        said: write_all(rt, to, &printed[..count]),
     }
 }
 

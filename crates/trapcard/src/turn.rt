@@ -1,11 +1,11 @@
 // A turn: one read, the bytes fed, and one write of what they print.
-ghost use Rattle.std.specs.Prelude.{◌≡◌, ◌+◌, ◌<◌, ◌↔◌, take, is_ok, IfErr, OnOk, IsTrue};
+ghost use Rattle.std.specs.Prelude.{◌≡◌, ◌+◌, ◌<◌, take, is_ok, OnOk};
 ghost use Rattle.std.specs.Io.{ReadsAtMost};
-ghost use Rattle.std.specs.IoError.{error_kind};
+ghost use Rattle.std.specs.Result.{result_unwrap_or};
 ghost use Rattle.io.specs.Counts.{clamp_len};
 ghost use Rattle.script.specs.Steps.{fed_bytes, fed};
 ghost use Rattle.script.specs.CodeSession.{session_of, step_of};
-ghost use Rattle.trapcard.specs.Turns.{input, output, goes_on, has_read, most_reads};
+ghost use Rattle.trapcard.specs.Turns.{input, output, got, interrupted, goes_on, most_reads};
 
 use crate::output::{STDOUT_FILENO, Sent, send};
 use crate::sizes::{SETTLED, WAITING, WORK};
@@ -20,15 +20,11 @@ const STDIN_FILENO: i32 = 0;
 // The reads of a run, at the most: a run has to end, and nothing says that its input does.
 pub(crate) const MOST_READS: u64 = u64::MAX;
 
-// What a read from a descriptor answered, below 0 if it failed, how many bytes it put in front of the buffer, whether a signal
-// interrupted it, and the error if it failed.
+// What a read from a descriptor answered: how many bytes it put in front of the buffer, or the error.
 #[derive(Clone, Copy)]
 pub(crate) struct Received {
     pub from: i32,
-    pub got: isize,
-    pub count: usize,
-    pub interrupted: bool,
-    pub said: io::Result<()>,
+    pub said: io::Result<usize>,
 }
 
 // The session then, the read, the write, whether there is to be another turn, and the reads so far.
@@ -43,25 +39,11 @@ pub(crate) struct Turn {
 
 // The one read of the program.
 fn receive(rt: &impl Input, from: i32, bytes: &mut [u8; FED]) -> Received
-    ensures received { (result.from ≡ from) × (result.count ≡ clamp_len result.got fed_bytes) }
-    ensures told { is_ok result.said ≡ has_read result.got }
-    ensures signal { IfErr result.said (λ e. IsTrue result.interrupted ↔ (error_kind e ≡ ErrorKind.Interrupted)) }
+    ensures received { (result.from ≡ from) × (result_unwrap_or result.said 0 ≡ clamp_len (got result.said) fed_bytes) }
 {
-    match read(rt, from, bytes) {
-        Ok(n) => Received {
-            from,
-            got: n as isize,
-            count: n,
-            interrupted: false,
-            said: Ok(()),
-        },
-        Err(e) => Received {
-            from,
-            got: -1,
-            count: 0,
-            interrupted: e.kind() == ErrorKind::Interrupted,
-            said: Err(e),
-        },
+    Received {
+        from,
+        said: read(rt, from, bytes),
     }
 }
 
@@ -79,15 +61,13 @@ fn read(rt: &impl Input, from: i32, bytes: &mut [u8]) -> io::Result<usize>
 
 // Whether there is to be another turn.
 fn goes_on(sent: Sent, received: Received) -> bool
-    ensures { result ≡ goes_on sent.whole received.got received.interrupted }
+    ensures { result ≡ goes_on (is_ok sent.said) (got received.said) (interrupted received.said) }
 {
-    if !sent.whole {
-        return false;
-    }
-    if received.got < 0 {
-        return received.interrupted;
-    }
-    0 < received.got
+    sent.said.is_ok()
+        && match received.said {
+            Ok(n) => 0 < n,
+            Err(e) => matches!(e.kind(), ErrorKind::Interrupted),
+        }
 }
 
 pub(crate) fn take_turn(
@@ -102,11 +82,11 @@ pub(crate) fn take_turn(
     printed: &mut [u8; PRINTED],
 ) -> Turn
     requires { reads < most_reads }
-    ensures turn { (result.reads ≡ reads + 1) × (result.more ≡ goes_on result.sent.whole result.received.got result.received.interrupted) × (result.received.from ≡ input) × (result.sent.to ≡ output) × (step_of result.sent.count printed.new (session_of result.session.len line.new result.session.rec settled.new waiting.new work.new) ≡ fed (take (clamp_len result.received.got fed_bytes) bytes.new) (session_of session.len line.old session.rec settled.old waiting.old work.old)) }
-    ensures told { (result.sent.whole ≡ is_ok result.sent.said) × (is_ok result.received.said ≡ has_read result.received.got) }
+    ensures turn { (result.reads ≡ reads + 1) × (result.more ≡ goes_on (is_ok result.sent.said) (got result.received.said) (interrupted result.received.said)) × (result.received.from ≡ input) × (result.sent.to ≡ output) × (step_of result.sent.count printed.new (session_of result.session.len line.new result.session.rec settled.new waiting.new work.new) ≡ fed (take (clamp_len (got result.received.said) fed_bytes) bytes.new) (session_of session.len line.old session.rec settled.old waiting.old work.old)) }
 {
     let received = receive(rt, STDIN_FILENO, bytes);
-    let next = session.feed(bytes, received.count, line, settled, waiting, work, printed);
+    let count = received.said.unwrap_or(0);
+    let next = session.feed(bytes, count, line, settled, waiting, work, printed);
     let sent = send(rt, STDOUT_FILENO, printed, next.print);
     let more = goes_on(sent, received);
     Turn {

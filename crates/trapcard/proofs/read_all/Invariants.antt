@@ -1,13 +1,12 @@
--- `trapcard::read_all` meets its contract. The invariant: reads are left, and what has been fed is some input.
-use Rattle.std.proofs.Common.{◌≡◌, ℕ, ◌-◌, ◌<◌, List}
+-- `trapcard::read_all` meets its contract. The invariant: what has been fed is some input, and the last turn was the one of this count.
+use Rattle.std.proofs.Common.{◌≡◌, ℕ, List, is_ok}
 use Rattle.script.specs.Steps.{fed}
 use Rattle.script.specs.CodeSession.{session_of}
-use Rattle.trapcard.specs.Turns.{most_reads}
+use Rattle.trapcard.specs.Turns.{got, interrupted, goes_on}
 use Rattle.trapcard.proofs.read_all.Given as goal
 
-abbrev pub invariant-loop-last : goal.invariant-loop-last
-invariant-loop-last g l =
-    (l.reads < most_reads) × ((all : List ℕ) × (session_of l.next.len l.line l.next.rec l.settled l.waiting l.work ≡ (fed all (session_of l.initial.next.len l.initial.line l.initial.next.rec l.initial.settled l.initial.waiting l.initial.work)).next))
-
-abbrev pub decreases-loop-last : goal.decreases-loop-last
-decreases-loop-last g l = most_reads - l.reads
+abbrev pub invariant-loop-reads : goal.invariant-loop-reads
+invariant-loop-reads g l =
+    (l.last.reads ≡ l.reads)
+    × (l.last.more ≡ goes_on (is_ok l.last.sent.said) (got l.last.received.said) (interrupted l.last.received.said))
+    × ((all : List ℕ) × (session_of l.last.session.len l.line l.last.session.rec l.settled l.waiting l.work ≡ (fed all (session_of l.fn.session.len l.fn.line l.fn.session.rec l.fn.settled l.fn.waiting l.fn.work)).next))

@@ -1,84 +1,92 @@
 -- `script::command::alone` meets its contract.
-use mathlib.Core.Path.{sym, ◌∙◌}
+use Rattle.script.specs.Words.{format_word, commit_word, abandon_word, sync_word, apply_word, recover_word, cut_word}
 use Rattle.script.specs.Commands.{alone}
+use Rattle.script.proofs.Pieces.{same_is}
 use Rattle.script.proofs.command.alone.Goals as goal
 
-pub returns-then-same : goal.returns-then-same
+pub returns-then-eq : goal.returns-then-eq
 unfolding alone
-returns-then-same c = rw (sym c.same.ensures ∙ c.if-same.true)
+returns-then-eq c = let w = c.args.word.now in rw (same_is w format_word _ _ c.eq.ensures c.if-eq.true)
 
-pub returns-then-same-2 : goal.returns-then-same-2
+pub returns-then-eq-2 : goal.returns-then-eq-2
 unfolding alone
-returns-then-same-2 c =
+returns-then-eq-2 c =
+    let w = c.args.word.now in
     rw (
-      sym c.same.ensures ∙ c.if-same.false,
-      sym c.same-2.ensures ∙ c.if-same-2.true,
+      same_is w format_word _ _ c.eq.ensures c.if-eq.false,
+      same_is w commit_word _ _ c.eq-2.ensures c.if-eq-2.true,
     )
 
-pub returns-then-same-3 : goal.returns-then-same-3
+pub returns-then-eq-3 : goal.returns-then-eq-3
 unfolding alone
-returns-then-same-3 c =
+returns-then-eq-3 c =
+    let w = c.args.word.now in
     rw (
-      sym c.same.ensures ∙ c.if-same.false,
-      sym c.same-2.ensures ∙ c.if-same-2.false,
-      sym c.same-3.ensures ∙ c.if-same-3.true,
+      same_is w format_word _ _ c.eq.ensures c.if-eq.false,
+      same_is w commit_word _ _ c.eq-2.ensures c.if-eq-2.false,
+      same_is w abandon_word _ _ c.eq-3.ensures c.if-eq-3.true,
     )
 
-pub returns-then-same-4 : goal.returns-then-same-4
+pub returns-then-eq-4 : goal.returns-then-eq-4
 unfolding alone
-returns-then-same-4 c =
+returns-then-eq-4 c =
+    let w = c.args.word.now in
     rw (
-      sym c.same.ensures ∙ c.if-same.false,
-      sym c.same-2.ensures ∙ c.if-same-2.false,
-      sym c.same-3.ensures ∙ c.if-same-3.false,
-      sym c.same-4.ensures ∙ c.if-same-4.true,
+      same_is w format_word _ _ c.eq.ensures c.if-eq.false,
+      same_is w commit_word _ _ c.eq-2.ensures c.if-eq-2.false,
+      same_is w abandon_word _ _ c.eq-3.ensures c.if-eq-3.false,
+      same_is w sync_word _ _ c.eq-4.ensures c.if-eq-4.true,
     )
 
-pub returns-then-same-5 : goal.returns-then-same-5
+pub returns-then-eq-5 : goal.returns-then-eq-5
 unfolding alone
-returns-then-same-5 c =
+returns-then-eq-5 c =
+    let w = c.args.word.now in
     rw (
-      sym c.same.ensures ∙ c.if-same.false,
-      sym c.same-2.ensures ∙ c.if-same-2.false,
-      sym c.same-3.ensures ∙ c.if-same-3.false,
-      sym c.same-4.ensures ∙ c.if-same-4.false,
-      sym c.same-5.ensures ∙ c.if-same-5.true,
+      same_is w format_word _ _ c.eq.ensures c.if-eq.false,
+      same_is w commit_word _ _ c.eq-2.ensures c.if-eq-2.false,
+      same_is w abandon_word _ _ c.eq-3.ensures c.if-eq-3.false,
+      same_is w sync_word _ _ c.eq-4.ensures c.if-eq-4.false,
+      same_is w apply_word _ _ c.eq-5.ensures c.if-eq-5.true,
     )
 
-pub returns-then-same-6 : goal.returns-then-same-6
+pub returns-then-eq-6 : goal.returns-then-eq-6
 unfolding alone
-returns-then-same-6 c =
+returns-then-eq-6 c =
+    let w = c.args.word.now in
     rw (
-      sym c.same.ensures ∙ c.if-same.false,
-      sym c.same-2.ensures ∙ c.if-same-2.false,
-      sym c.same-3.ensures ∙ c.if-same-3.false,
-      sym c.same-4.ensures ∙ c.if-same-4.false,
-      sym c.same-5.ensures ∙ c.if-same-5.false,
-      sym c.same-6.ensures ∙ c.if-same-6.true,
+      same_is w format_word _ _ c.eq.ensures c.if-eq.false,
+      same_is w commit_word _ _ c.eq-2.ensures c.if-eq-2.false,
+      same_is w abandon_word _ _ c.eq-3.ensures c.if-eq-3.false,
+      same_is w sync_word _ _ c.eq-4.ensures c.if-eq-4.false,
+      same_is w apply_word _ _ c.eq-5.ensures c.if-eq-5.false,
+      same_is w recover_word _ _ c.eq-6.ensures c.if-eq-6.true,
     )
 
-pub returns-then-same-7 : goal.returns-then-same-7
+pub returns-then-eq-7 : goal.returns-then-eq-7
 unfolding alone
-returns-then-same-7 c =
+returns-then-eq-7 c =
+    let w = c.args.word.now in
     rw (
-      sym c.same.ensures ∙ c.if-same.false,
-      sym c.same-2.ensures ∙ c.if-same-2.false,
-      sym c.same-3.ensures ∙ c.if-same-3.false,
-      sym c.same-4.ensures ∙ c.if-same-4.false,
-      sym c.same-5.ensures ∙ c.if-same-5.false,
-      sym c.same-6.ensures ∙ c.if-same-6.false,
-      sym c.same-7.ensures ∙ c.if-same-7.true,
+      same_is w format_word _ _ c.eq.ensures c.if-eq.false,
+      same_is w commit_word _ _ c.eq-2.ensures c.if-eq-2.false,
+      same_is w abandon_word _ _ c.eq-3.ensures c.if-eq-3.false,
+      same_is w sync_word _ _ c.eq-4.ensures c.if-eq-4.false,
+      same_is w apply_word _ _ c.eq-5.ensures c.if-eq-5.false,
+      same_is w recover_word _ _ c.eq-6.ensures c.if-eq-6.false,
+      same_is w cut_word _ _ c.eq-7.ensures c.if-eq-7.true,
     )
 
 pub returns : goal.returns
 unfolding alone
 returns c =
+    let w = c.args.word.now in
     rw (
-      sym c.same.ensures ∙ c.if-same.false,
-      sym c.same-2.ensures ∙ c.if-same-2.false,
-      sym c.same-3.ensures ∙ c.if-same-3.false,
-      sym c.same-4.ensures ∙ c.if-same-4.false,
-      sym c.same-5.ensures ∙ c.if-same-5.false,
-      sym c.same-6.ensures ∙ c.if-same-6.false,
-      sym c.same-7.ensures ∙ c.if-same-7.false,
+      same_is w format_word _ _ c.eq.ensures c.if-eq.false,
+      same_is w commit_word _ _ c.eq-2.ensures c.if-eq-2.false,
+      same_is w abandon_word _ _ c.eq-3.ensures c.if-eq-3.false,
+      same_is w sync_word _ _ c.eq-4.ensures c.if-eq-4.false,
+      same_is w apply_word _ _ c.eq-5.ensures c.if-eq-5.false,
+      same_is w recover_word _ _ c.eq-6.ensures c.if-eq-6.false,
+      same_is w cut_word _ _ c.eq-7.ensures c.if-eq-7.false,
     )

@@ -1,32 +1,32 @@
 -- `script::command::parse` meets its contract.
-use Prim.Native.Nat.{◌≤◌, ◌<◌}
-use mathlib.Core.Path.{◌≡◌, sym, ◌∙◌}
+use Prim.Native.Nat.{ℕ, ◌≤◌, ◌<◌}
+use mathlib.Core.Path.{◌≡◌, ap, ◌∙◌}
+use mathlib.Core.List.{List, [], ◌∷◌}
 use native.Mathlib.Omega.{arith}
+use denote.Ref.{Bor}
 use borrow.Author.Tests.{lt-ltb, le-ltb}
 use lib.ListN.{length}
-use lib.Seq.{length-take-le, take_all}
+use Rattle.std.specs.Prelude.{Option}
+use Rattle.script.specs.Fields.{fields, behind}
 use Rattle.script.specs.Commands.{line_bytes, parse, understood}
-use Rattle.script.proofs.Pieces.{fields-one, fields-first}
 use Rattle.script.proofs.command.parse.Goals as goal
 
 pub returns-then-line-gt-LINE : goal.returns-then-line-gt-LINE
 unfolding parse
 returns-then-line-gt-LINE c = let long : line_bytes < length c.args.line.now = omega arith in rw (lt-ltb _ _ long)
 
-pub slice_bounds-word-end : goal.slice_bounds-word-end
-slice_bounds-word-end c = sym (length-take-le c.to_tab-end.result c.args.line.now c.to_tab-end.ensures.1)
-
-pub returns-then-end-line : goal.returns-then-end-line
+pub returns-in_default-None : goal.returns-in_default-None
 unfolding parse understood
-returns-then-end-line c =
-    let line = c.args.line.now in
-    let fits : length line ≤ line_bytes = omega arith in
-    let whole : c.to_tab-end.result ≡ length line = omega arith in
-    rw (le-ltb _ _ fits, fields-one line (sym c.to_tab-end.ensures.0 ∙ whole), ← take_all c.to_tab-end.result line (omega arith)) c.alone.ensures
+returns-in_default-None c =
+    let word = c.split_once.result.0.now in
+    let fits : length c.args.line.now ≤ line_bytes = omega arith in
+    let one : fields c.args.line.now ≡ word ∷ [] = c.split_once.ensures ∙ ap (λ (o : Option (Bor (List ℕ))). word ∷ behind o) c.in_default-None.is-1 in
+    rw (le-ltb _ _ fits, one) c.alone.ensures
 
-pub returns : goal.returns
+pub returns-in_default-Some : goal.returns-in_default-Some
 unfolding parse
-returns c =
-    let line = c.args.line.now in
-    let fits : length line ≤ line_bytes = omega arith in
-    rw (le-ltb _ _ fits, fields-first line c.to_tab-end.result c.to_tab-end.ensures.0 c.to_tab-end.ensures.1 c.if-end-line.false) c.with_fields.ensures
+returns-in_default-Some c =
+    let word = c.split_once.result.0.now in
+    let fits : length c.args.line.now ≤ line_bytes = omega arith in
+    let more : fields c.args.line.now ≡ word ∷ fields c.in_default-Some.rest.now = c.split_once.ensures ∙ ap (λ (o : Option (Bor (List ℕ))). word ∷ behind o) c.in_default-Some.is-1 in
+    rw (le-ltb _ _ fits, more) (c.with_fields.ensures ∙ ap (λ (r : Bor (List ℕ)). understood (word ∷ fields r.now)) c.in_default-Some.rest-is)

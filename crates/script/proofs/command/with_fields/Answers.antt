@@ -1,29 +1,37 @@
 -- `script::command::with_fields` meets its contract.
-use Prim.Native.Nat.{◌-◌, ◌+◌}
-use mathlib.Core.Path.{sym, ◌∙◌}
-use lib.ListN.{length, take, drop}
-use lib.Seq.{length-take-le}
+use Prim.Native.Nat.{ℕ}
+use mathlib.Core.Path.{◌≡◌, ap, sym, ◌∙◌}
+use mathlib.Core.List.{List, [], ◌∷◌}
+use denote.Ref.{Bor}
+use Rattle.std.specs.Prelude.{Option}
+use Rattle.script.specs.Fields.{fields, behind}
 use Rattle.script.specs.Commands.{understood}
-use Rattle.script.proofs.Pieces.{fields-one, fields-first, understood_many}
+use Rattle.script.proofs.Pieces.{understood_many}
 use Rattle.script.proofs.command.with_fields.Goals as goal
 
-pub returns-then-end-rest : goal.returns-then-end-rest
+pub returns-in_default-None : goal.returns-in_default-None
 unfolding understood
-returns-then-end-rest c = rw (fields-one c.args.rest.now (sym c.to_tab-end.ensures.0 ∙ c.if-end-rest.true)) c.with_one.ensures
+returns-in_default-None c =
+    let x = c.split_once.result.0.now in
+    let one : fields c.args.rest.now ≡ x ∷ [] = c.split_once.ensures ∙ ap (λ (o : Option (Bor (List ℕ))). x ∷ behind o) c.in_default-None.is-1 in
+    rw one c.with_one.ensures
 
-pub slice_bounds-with_two-end : goal.slice_bounds-with_two-end
-slice_bounds-with_two-end c = sym (length-take-le c.to_tab-end.result c.args.rest.now c.to_tab-end.ensures.1)
-
-pub returns-then-to_tab-second : goal.returns-then-to_tab-second
+pub returns-in_default-None-split_once : goal.returns-in_default-None-split_once
 unfolding understood
-returns-then-to_tab-second c =
-    let s = c.args.rest.now in
-    let z = take (length s - (c.to_tab-end.result + 1)) (drop (c.to_tab-end.result + 1) s) in
-    rw (fields-first s c.to_tab-end.result c.to_tab-end.ensures.0 c.to_tab-end.ensures.1 c.if-end-rest.false, fields-one z (sym c.to_tab.ensures.0 ∙ c.if-to_tab-second.true)) c.with_two.ensures
+returns-in_default-None-split_once c =
+    let x = c.split_once.result.0.now in
+    let second = c.split_once-in_default-Some in
+    let y = second.result.0.now in
+    let more : fields c.args.rest.now ≡ x ∷ fields c.in_default-Some.more.now = c.split_once.ensures ∙ ap (λ (o : Option (Bor (List ℕ))). x ∷ behind o) c.in_default-Some.is-1 in
+    let last : fields c.in_default-Some.more.now ≡ y ∷ [] =
+    sym (ap (λ (r : Bor (List ℕ)). fields r.now) c.in_default-Some.more-is) ∙ second.ensures ∙ ap (λ (o : Option (Bor (List ℕ))). y ∷ behind o) c.in_default-None-split_once.is-1 in
+    rw (more, last) c.with_two.ensures
 
-pub returns : goal.returns
-unfolding understood
-returns c =
-    let s = c.args.rest.now in
-    let z = take (length s - (c.to_tab-end.result + 1)) (drop (c.to_tab-end.result + 1) s) in
-    rw (fields-first s c.to_tab-end.result c.to_tab-end.ensures.0 c.to_tab-end.ensures.1 c.if-end-rest.false, fields-first z c.to_tab.result c.to_tab.ensures.0 c.to_tab.ensures.1 c.if-to_tab-second.false) (sym (understood_many _ _ _ _))
+pub returns-in_default-Some-split_once : goal.returns-in_default-Some-split_once
+returns-in_default-Some-split_once c =
+    let x = c.split_once.result.0.now in
+    let second = c.split_once-in_default-Some in
+    let y = second.result.0.now in
+    let more : fields c.args.rest.now ≡ x ∷ fields c.in_default-Some.more.now = c.split_once.ensures ∙ ap (λ (o : Option (Bor (List ℕ))). x ∷ behind o) c.in_default-Some.is-1 in
+    let others : fields c.in_default-Some.more.now ≡ y ∷ behind second.result.1 = sym (ap (λ (r : Bor (List ℕ)). fields r.now) c.in_default-Some.more-is) ∙ second.ensures in
+    rw (more, others, c.in_default-Some-split_once.is-1) (sym (understood_many _ _ _ _))

@@ -1,32 +1,38 @@
 -- `script::command::with_one` meets its contract.
+use Prim.Native.Nat.{ℕ}
 use mathlib.Core.Path.{sym, ◌∙◌}
+use Rattle.script.specs.declared.command.Command.TheVariants.{Power, Get}
+use Rattle.script.specs.Words.{power_word, get_word, cut_word}
 use Rattle.script.specs.Commands.{with_one}
+use Rattle.script.proofs.Pieces.{same_is, with_number-map_or}
+use Rattle.script.proofs.command.with_one.Goals.{else-eq-3-via-then-eq-3+else-is_marks, else-eq-3-via-else-eq-3}
 use Rattle.script.proofs.command.with_one.Goals as goal
 
-pub returns-in_default : goal.returns-in_default
+pub returns-then-eq : goal.returns-then-eq
 unfolding with_one
-returns-in_default c = rw (sym c.same.ensures ∙ c.if-same.true, ← c.to_number.ensures.0, c.in_default.is)
+returns-then-eq c =
+    let w = c.args.word.now in
+    rw (same_is w power_word _ _ c.eq.ensures c.if-eq.true, ← c.to_number.ensures.0) (with_number-map_or _ (λ (k : ℕ). Power k) _ c.map_or.ensures)
 
-pub returns-then-same : goal.returns-then-same
+pub returns-then-eq-2 : goal.returns-then-eq-2
 unfolding with_one
-returns-then-same c = rw (sym c.same.ensures ∙ c.if-same.true, ← c.to_number.ensures.0, c.in-Of.is)
-
-pub returns-in_default-to_number : goal.returns-in_default-to_number
-unfolding with_one
-returns-in_default-to_number c = rw (sym c.same.ensures ∙ c.if-same.false, sym c.same-2.ensures ∙ c.if-same-2.true, ← c.to_number-then-same-2.ensures.0, c.in_default-to_number.is)
-
-pub returns-then-same-2 : goal.returns-then-same-2
-unfolding with_one
-returns-then-same-2 c = rw (sym c.same.ensures ∙ c.if-same.false, sym c.same-2.ensures ∙ c.if-same-2.true, ← c.to_number-then-same-2.ensures.0, c.in-Of-to_number.is)
-
-pub returns-then-not-same : goal.returns-then-not-same
-unfolding with_one
-returns-then-not-same c = rw (sym c.same.ensures ∙ c.if-same.false, sym c.same-2.ensures ∙ c.if-same-2.false, sym c.same-3.ensures ∙ c.if-not-same.true)
+returns-then-eq-2 c =
+    let w = c.args.word.now in
+    rw (same_is w power_word _ _ c.eq.ensures c.if-eq.false, same_is w get_word _ _ c.eq-2.ensures c.if-eq-2.true, ← c.to_number-then-eq-2.ensures.0) (with_number-map_or _ (λ (a : ℕ). Get a) _ c.map_or-then-eq-2.ensures)
 
 pub returns-then-is_marks : goal.returns-then-is_marks
 unfolding with_one
-returns-then-is_marks c = rw (sym c.same.ensures ∙ c.if-same.false, sym c.same-2.ensures ∙ c.if-same-2.false, sym c.same-3.ensures ∙ c.if-not-same.false, sym c.is_marks.ensures ∙ c.if-is_marks.true)
+returns-then-is_marks c =
+    let w = c.args.word.now in
+    rw (same_is w power_word _ _ c.eq.ensures c.if-eq.false, same_is w get_word _ _ c.eq-2.ensures c.if-eq-2.false, same_is w cut_word _ _ c.eq-3.ensures c.if-eq-3.true, sym c.is_marks.ensures ∙ c.if-is_marks.true)
 
 pub returns : goal.returns
 unfolding with_one
-returns c = rw (sym c.same.ensures ∙ c.if-same.false, sym c.same-2.ensures ∙ c.if-same-2.false, sym c.same-3.ensures ∙ c.if-not-same.false, sym c.is_marks.ensures ∙ c.if-is_marks.false)
+returns c =
+    let w = c.args.word.now in
+    elim c.else-eq-3.branch [
+      | else-eq-3-via-then-eq-3+else-is_marks v ↦
+          rw (same_is w power_word _ _ c.eq.ensures c.if-eq.false, same_is w get_word _ _ c.eq-2.ensures c.if-eq-2.false, same_is w cut_word _ _ c.eq-3.ensures v.if-eq-3.true, sym v.is_marks.ensures ∙ v.if-is_marks.false)
+      | else-eq-3-via-else-eq-3 v ↦
+          rw (same_is w power_word _ _ c.eq.ensures c.if-eq.false, same_is w get_word _ _ c.eq-2.ensures c.if-eq-2.false, same_is w cut_word _ _ c.eq-3.ensures v.if-eq-3.false)
+    ]

@@ -4,4 +4,4 @@ use Rattle.script.specs.Replies.{called}
 use Rattle.script.proofs.perform.put.Goals as goal
 
 pub returns : goal.returns
-returns c = rw c.called.ensures (ap called c.put.ensures)
+returns c = rw c.from.ensures (ap called c.put.ensures)

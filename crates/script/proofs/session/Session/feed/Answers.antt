@@ -17,7 +17,7 @@ run-requires c =
     let len : c.within.result.len ≡ min a.self.len kept_bytes = ap (λ (s : Session). s.len) c.within.ensures in
     record {
       len_le_kept_bytes = (omega arith, omega (arith, c.run-arg-2-1.given));
-      count_in_bounds = (omega (arith, c.least-end.ensures.0, c.run-arg-1.given), omega (arith, c.least-end.ensures.0, c.run-arg-6-1.given));
+      count_in_bounds = (omega (arith, c.min-end.ensures, c.run-arg-1.given), omega (arith, c.min-end.ensures, c.run-arg-6-1.given));
     }
 
 pub returns : goal.returns
@@ -25,8 +25,8 @@ returns c =
     let a = c.args in
     let bytes : length a.bytes.now ≡ fed_bytes = c.run-arg-1.given in
     let line : length a.line.now ≡ kept_bytes = c.run-arg-2-1.given.0.1 in (
-      omega (arith, c.run.ensures.0, c.least-end.ensures.0),
+      omega (arith, c.run.ensures.0, c.min-end.ensures),
       c.run.ensures.1
-          ∙ ap (λ (s : Session). fed (take c.least-end.result a.bytes.now) (session_of s.len a.line.now s.rec a.settled.now a.waiting.now a.work.now)) c.within.ensures
-          ∙ fed_within c.least-end.result a.count a.self.len a.bytes.now a.line.now (state_of a.self.rec a.settled.now a.waiting.now a.work.now) c.least-end.ensures.1 bytes line,
+          ∙ ap (λ (s : Session). fed (take c.min-end.result a.bytes.now) (session_of s.len a.line.now s.rec a.settled.now a.waiting.now a.work.now)) c.within.ensures
+          ∙ fed_within c.min-end.result a.count a.self.len a.bytes.now a.line.now (state_of a.self.rec a.settled.now a.waiting.now a.work.now) c.min-end.ensures bytes line,
     )
