@@ -1,7 +1,8 @@
 // What a command does to the store.
-ghost use Rattle.std.specs.Prelude.{◌≡◌, ◌≤◌, length, take, get_or, replicate};
+ghost use Rattle.std.specs.Prelude.{◌≡◌, ◌≤◌, List, ℕ, length, take, get_or, replicate};
 ghost use Rattle.cells.specs.Entry.{block_bytes};
-ghost use Rattle.store.specs.CodeState.{state_of};
+ghost use Rattle.refusals.specs.Numbers.{answer};
+ghost use Rattle.store.specs.CodeState.{state_of, answered, saved_as};
 ghost use Rattle.store.specs.Put.{put_call};
 ghost use Rattle.store.specs.Cut.{cut_call};
 ghost use Rattle.journal.specs.Geometry.{trap};
@@ -14,8 +15,9 @@ use crate::KEPT;
 use crate::command::Command;
 use crate::number::value_of;
 use cells::BLOCK;
-use store::record::{Answer, Record};
-use store::saved::Saved;
+use refusals::Refusal;
+use store::record::Record;
+use store::saved::{Saved, Stopped};
 
 // The answer to a line that is not understood.
 const NOT_UNDERSTOOD: u32 = 11;
@@ -33,28 +35,45 @@ pub(crate) struct Done {
     pub rec: Record,
 }
 
-// A call that gives no orders.
-impl From<Answer> for Done {
-    fn from(a: Answer) -> Done
-        ensures { result ≡ record { number = a.number; third = 0; rec = a.rec } }
+impl Done {
+    // A call that gives no orders. A refusal leaves the record.
+    fn called(before: Record, said: Result<Record, Refusal>) -> Done
+        ensures { (s w k : List ℕ) → reply_of result.number result.third result.rec s w k ≡ Replies.called (answered said before s w k) }
     {
-        Done {
-            number: a.number,
-            third: 0,
-            rec: a.rec,
+        match said {
+            Ok(rec) => Done {
+                number: 0,
+                third: 0,
+                rec,
+            },
+            Err(refusal) => Done {
+                number: refusal.into(),
+                third: 0,
+                rec: before,
+            },
         }
     }
-}
 
-// A call that hands back its orders.
-impl From<Saved> for Done {
-    fn from(s: Saved) -> Done
-        ensures { result ≡ record { number = s.number; third = s.orders; rec = s.rec } }
+    // A call that hands back its orders.
+    fn saved(before: Record, said: Result<Saved, Stopped>) -> Done
+        ensures { (s w k : List ℕ) → reply_of result.number result.third result.rec s w k ≡ Replies.saved (saved_as said before s w k) }
     {
-        Done {
-            number: s.number,
-            third: s.orders,
-            rec: s.rec,
+        match said {
+            Ok(saved) => Done {
+                number: 0,
+                third: saved.orders,
+                rec: saved.rec,
+            },
+            Err(Stopped::PowerLost(saved)) => Done {
+                number: Refusal::Down.into(),
+                third: saved.orders,
+                rec: saved.rec,
+            },
+            Err(Stopped::Refused(refusal)) => Done {
+                number: refusal.into(),
+                third: 0,
+                rec: before,
+            },
         }
     }
 }
@@ -72,15 +91,15 @@ pub(crate) fn perform(
     ensures { reply_of result.number result.third result.rec settled.new waiting.new work.new ≡ Replies.perform command line.now (state_of rec settled.old waiting.old work.old) }
 {
     match command {
-        Command::Format => Done::from(rec.format(settled, waiting, work)),
-        Command::Power(count) => Done::from(rec.power(settled, waiting, work, count)),
+        Command::Format => Done::called(rec, rec.format(settled, waiting, work)),
+        Command::Power(count) => Done::called(rec, rec.power(settled, waiting, work, count)),
         Command::Put(address, byte) => put(rec, settled, waiting, work, address, byte),
         Command::Get(address) => get(rec, settled, waiting, work, address),
-        Command::Commit => Done::from(rec.commit(settled, waiting, work)),
-        Command::Abandon => Done::from(rec.abandon(settled, waiting, work)),
-        Command::Sync => Done::from(rec.sync(settled, waiting, work)),
-        Command::Apply => Done::from(rec.apply(settled, waiting, work)),
-        Command::Recover => Done::from(rec.recover(settled, waiting, work)),
+        Command::Commit => Done::called(rec, rec.commit(settled, waiting, work)),
+        Command::Abandon => Done::called(rec, rec.abandon(settled, waiting, work)),
+        Command::Sync => Done::saved(rec, rec.sync(settled, waiting, work)),
+        Command::Apply => Done::saved(rec, rec.apply(settled, waiting, work)),
+        Command::Recover => Done::saved(rec, rec.recover(settled, waiting, work)),
         Command::Cut => cut(line, rec, settled, waiting, work),
         Command::Bad => Done {
             number: NOT_UNDERSTOOD,
@@ -95,16 +114,26 @@ fn put(rec: Record, settled: &[u8], waiting: &[u8], work: &mut [u8], address: u3
     ensures { reply_of result.number result.third result.rec settled.now waiting.now work.new ≡ Replies.called (put_call trap address (replicate block_bytes byte) (state_of rec settled.now waiting.now work.old)) }
 {
     let block = [byte; BLOCK];
-    Done::from(rec.put(settled, waiting, work, address, &block))
+    Done::called(rec, rec.put(settled, waiting, work, address, &block))
 }
 
 // A get, and the first byte that it hands out.
 fn get<'a>(rec: Record, settled: &'a [u8], waiting: &'a [u8], work: &'a [u8], address: u32) -> Done
     ensures { reply_of result.number result.third result.rec settled.now waiting.now work.now ≡ got address (state_of rec settled.now waiting.now work.now) }
 {
-    let number = rec.get_number(settled, waiting, work, address);
+    let number = number(rec.check_get(settled, waiting, work, address));
     let third = first(rec.get(settled, waiting, work, address));
     Done { number, third, rec }
+}
+
+// The number that refuses a question, 0 for none.
+fn number(said: Result<(), Refusal>) -> u32
+    ensures { result ≡ answer said }
+{
+    match said {
+        Ok(()) => 0,
+        Err(refusal) => refusal.into(),
+    }
 }
 
 // The first byte, 0 where there is none.
@@ -121,7 +150,7 @@ fn cut(line: &[u8], rec: Record, settled: &mut [u8], waiting: &[u8], work: &[u8]
 {
     let mut marks = [0u8; MARKS];
     let count = read_marks(line, &mut marks);
-    Done::from(rec.cut(settled, waiting, work, &marks[..count]))
+    Done::called(rec, rec.cut(settled, waiting, work, &marks[..count]))
 }
 
 // For each digit behind the line's fourth byte 512 marks, its value each; how many marks there are.

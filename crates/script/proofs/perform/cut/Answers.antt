@@ -17,4 +17,4 @@ pub returns : goal.returns
 returns c =
     let a = c.args in
     let st = state_of a.rec a.settled.now a.waiting.now a.work.now in
-    rw c.from.ensures (ap called (c.cut.ensures ∙ ap (λ (ms : List ℕ). cut_call trap ms st) c.read_marks-count.ensures.1))
+    c.called.ensures _ _ _ ∙ (ap called (c.cut.ensures ∙ ap (λ (ms : List ℕ). cut_call trap ms st) c.read_marks-count.ensures.1))

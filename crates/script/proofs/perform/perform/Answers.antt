@@ -1,15 +1,15 @@
 -- `script::perform::perform` meets its contract.
-use mathlib.Core.Path.{ap}
+use mathlib.Core.Path.{ap, ◌∙◌}
 use Rattle.script.specs.Replies.{called, saved, perform}
 use Rattle.script.proofs.perform.perform.Goals as goal
 
 pub returns-in-Format : goal.returns-in-Format
 unfolding perform
-returns-in-Format c = rw (c.in-Format.is, c.from.ensures) (ap called c.format.ensures)
+returns-in-Format c = rw c.in-Format.is (c.called.ensures _ _ _ ∙ ap called c.format.ensures)
 
 pub returns-in-Power : goal.returns-in-Power
 unfolding perform
-returns-in-Power c = rw (c.in-Power.is, c.from-in-Power.ensures) (ap called c.power.ensures)
+returns-in-Power c = rw c.in-Power.is (c.called-in-Power.ensures _ _ _ ∙ ap called c.power.ensures)
 
 pub returns-in-Put : goal.returns-in-Put
 unfolding perform
@@ -21,23 +21,23 @@ returns-in-Get c = rw c.in-Get.is c.get.ensures
 
 pub returns-in-Commit : goal.returns-in-Commit
 unfolding perform
-returns-in-Commit c = rw (c.in-Commit.is, c.from-in-Commit.ensures) (ap called c.commit.ensures)
+returns-in-Commit c = rw c.in-Commit.is (c.called-in-Commit.ensures _ _ _ ∙ ap called c.commit.ensures)
 
 pub returns-in-Abandon : goal.returns-in-Abandon
 unfolding perform
-returns-in-Abandon c = rw (c.in-Abandon.is, c.from-in-Abandon.ensures) (ap called c.abandon.ensures)
+returns-in-Abandon c = rw c.in-Abandon.is (c.called-in-Abandon.ensures _ _ _ ∙ ap called c.abandon.ensures)
 
 pub returns-in-Sync : goal.returns-in-Sync
 unfolding perform
-returns-in-Sync c = rw (c.in-Sync.is, c.from-in-Sync.ensures) (ap saved c.sync.ensures)
+returns-in-Sync c = rw c.in-Sync.is (c.saved.ensures _ _ _ ∙ ap saved c.sync.ensures)
 
 pub returns-in-Apply : goal.returns-in-Apply
 unfolding perform
-returns-in-Apply c = rw (c.in-Apply.is, c.from-in-Apply.ensures) (ap saved c.apply.ensures)
+returns-in-Apply c = rw c.in-Apply.is (c.saved-in-Apply.ensures _ _ _ ∙ ap saved c.apply.ensures)
 
 pub returns-in-Recover : goal.returns-in-Recover
 unfolding perform
-returns-in-Recover c = rw (c.in-Recover.is, c.from-in-Recover.ensures) (ap saved c.recover.ensures)
+returns-in-Recover c = rw c.in-Recover.is (c.saved-in-Recover.ensures _ _ _ ∙ ap saved c.recover.ensures)
 
 pub returns-in-Cut : goal.returns-in-Cut
 unfolding perform
