@@ -21,7 +21,6 @@ use Rattle.journal.specs.Orders.{append_orders}
 use Rattle.journal.specs.Choice.{choose, choice_number}
 use Rattle.journal.proofs.Choices.{both}
 use Rattle.store.specs.declared.record.Record.{Record}
-use Rattle.store.specs.declared.cost.Cost.{Cost}
 use Rattle.store.specs.Save.{Save}
 use Rattle.store.specs.Request.{save, sync, apply, recover}
 use Rattle.store.specs.State.{State, Outcome, with_grouped, with_log, with_save, card_in}
@@ -29,7 +28,7 @@ use Rattle.store.specs.Causes.{wrong_sizes, wrong_counts, wrong_waiting, wrong_l
 use Rattle.store.specs.Outcomes.{refused, unless}
 use Rattle.store.specs.Power.{powered}
 use Rattle.store.specs.Saves.{carried, group_of, save_orders, applies, met_by_append, saved_as, inner_orders, syncing}
-use Rattle.store.specs.Cost.{checkpoint_first, figures, no_figures, cost_of}
+use Rattle.store.specs.Cost.{Cost, checkpoint_first, figures, no_figures, cost_of}
 use Rattle.store.proofs.Calls.{call_done}
 use Rattle.store.proofs.Saves.{apply-carried}
 use Rattle.store.proofs.Costs as Costs

@@ -16,8 +16,7 @@ use Rattle.store.specs.Request as Request
 use Rattle.store.specs.Causes.{cause}
 use Rattle.store.specs.Get.{get_place}
 use Rattle.store.specs.Save.{Save}
-use Rattle.store.specs.declared.cost.Cost.{Cost}
-use Rattle.store.specs.Cost.{cost_of}
+use Rattle.store.specs.Cost.{Cost, cost_of}
 use Rattle.store.proofs.Costs.{cost_refused, cost_served}
 use Rattle.inspect.specs.Reading.{chosen, inspection}
 use Rattle.inspect.specs.Tally.{tally_of}

@@ -15,7 +15,6 @@ use Rattle.journal.specs.Geometry.{Geometry}
 use Rattle.journal.specs.Log.{entries}
 use Rattle.journal.proofs.Logs.{sum_of_lt}
 use Rattle.store.specs.declared.record.Record.{Record}
-use Rattle.store.specs.declared.cost.Cost.{Cost}
 use Rattle.store.specs.Local.{Local}
 use Rattle.store.specs.Save.{Save}
 use Rattle.store.specs.Request as Request
@@ -26,7 +25,7 @@ use Rattle.store.specs.Outcomes.{refused}
 use Rattle.store.specs.Format.{formatted, format_call}
 use Rattle.store.specs.Saves.{carried, applies, met_by_append, inner_orders, syncing}
 use Rattle.store.specs.GetList.{Listing, listing}
-use Rattle.store.specs.Cost.{cost_of}
+use Rattle.store.specs.Cost.{Cost, cost_of}
 use Rattle.store.proofs.Saves.{apply-carried}
 use Rattle.store.proofs.Listings.{listing_number}
 use Rattle.store.proofs.Causes.{any_waits, sizes_facts, sound}
