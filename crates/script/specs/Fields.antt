@@ -1,6 +1,6 @@
 -- "a word, then tab-parted fields"
 use Rattle.std.specs.Prelude.{ℕ, suc, cond, List, [], ◌∷◌, Option, Some, None, eqb}
-use denote.Ref.{Bor}
+use Rattle.std.specs.Borrow.{Bor}
 
 abbrev pub tab : ℕ
 tab = 9
