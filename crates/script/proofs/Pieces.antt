@@ -15,6 +15,7 @@ use Rattle.std.specs.List.{position_or_len, list_all}
 use Rattle.std.proofs.lemmas.List.Recursion.{is_position_or_len}
 use Rattle.std.specs.Str.{bytes_eq}
 use Rattle.std.specs.Char.{is_ascii_digit}
+use Rattle.cells.specs.Same.Laws.{same-bytes_eq}
 use Rattle.cells.specs.Same.{same}
 use Rattle.script.specs.declared.command.Command.{Command}
 use Rattle.script.specs.declared.command.Command.TheVariants.{Bad}
@@ -131,13 +132,6 @@ number_at_most most n r h = go (leb n most) refl h
     go false q e = rw e tt
 
 -- ---- words
-
-same-bytes_eq : (s t : List ℕ) → bytes_eq s t ≡ same s t
-unfolding same
-same-bytes_eq [] [] = refl
-same-bytes_eq [] (y ∷ t) = refl
-same-bytes_eq (x ∷ s) [] = refl
-same-bytes_eq (x ∷ s) (y ∷ t) = ap (λ (b : Bool). eqb x y && b) (same-bytes_eq s t)
 
 -- what the library's `==` and `!=` say of a word
 pub same_is : (s t : List ℕ) (r b : Bool) → r ≡ bytes_eq s t → r ≡ b → same s t ≡ b
