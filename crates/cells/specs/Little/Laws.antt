@@ -1,6 +1,6 @@
 -- The laws of little-endian numbers, each once over the width.
 use Rattle.std.specs.Prelude.{ℕ, zero, suc, ◌+◌, ◌*◌, ◌/◌, ◌%◌, ◌^◌, ◌≤◌, ◌<◌, ◌≡◌, refl, List, [], ◌∷◌, ◌++◌, length, get_or, take, drop}
-use Rattle.std.proofs.Common.{ap, ap₂, sym, ◌∙◌, arith, add-one, pow-suc, zero-add, mul-add, mul_assoc, mul_comm, one-mul, div-one, mod-eq_of_lt, lit<, length-drop, take-add, drop-drop, drop-cons, length-take-le}
+use Rattle.std.proofs.Common.{ap, ap₂, sym, ◌∙◌, arith, add-one, pow-suc, zero-add, mul-add, mul_assoc, mul_comm, one-mul, div-one, mod-eq_of_lt, lit<, length-drop, take-add, drop-drop, drop-cons, length-take-le, suc-add}
 use Rattle.std.proofs.Math.Nat.{mod-one, div-div-eq-div-mul}
 use Rattle.std.proofs.Math.Arith.{mod-mul}
 use Rattle.std.specs.Int.{Width, byte_len, byte_at, bytes_low_first, to_le_bytes}
@@ -104,3 +104,22 @@ pub num-parts : (a b : ℕ) (s : List ℕ) (at : ℕ) → at + a ≤ length s
 num-parts a b s at h =
     let size : length (take a (drop at s)) ≡ a = length-take-le a (drop at s) (rw (length-drop) (omega arith)) in
     rw (take-add a b (drop at s), num-append, size, drop-drop)
+
+-- ---- laws that nothing cites today
+
+bytes_le : (w n : ℕ) → Bytes (le w n)
+unfolding le
+bytes_le zero n i = omega arith
+bytes_le (suc w) n zero = omega arith
+bytes_le (suc w) n (suc i) = bytes_le w (n / 256) i
+
+-- only the low part of a number counts
+le_low : (w n : ℕ) → le w (n % 256 ^ w) ≡ le w n
+le_low w n = rw (← num-low w n) (ap (λ (k : ℕ). le k (num (le w n))) (sym (length-le w n)) ∙ le-num (le w n) (bytes_le w n))
+
+le-append : (a b n : ℕ) → le (a + b) n ≡ le a n ++ le b (n / 256 ^ a)
+unfolding le
+le-append zero b n = rw (zero-add, div-one)
+le-append (suc a) b n =
+    rw (suc-add, pow-suc, mul_comm (256 ^ a) 256, ← div-div-eq-div-mul n 256 (256 ^ a))
+    (ap (λ (l : List ℕ). n % 256 ∷ l) (le-append a b (n / 256)))
