@@ -166,6 +166,12 @@ def code(path, tokens, places, within, found):
             at = closing(tokens, at) + 1 if tokens[at] in OPEN else at + 1
         word = tokens[at]
         end = past(tokens, at)
+        if "ghost" in tokens[i:at] and tokens[at + 1] == "=":
+            # what a trait asks of an impl beside its functions
+            found.append(Decl(path, within + word, "private promises", False, [" ".join(tokens[i:end])]))
+            found[-1].typed = 1
+            i = end + (tokens[end:end + 1] == [";"])
+            continue
         if end is None or word not in ("use", "mod", "const", "type", "struct", "enum", "impl", "fn"):
             return fail(path, places[i], "no item of code", " ".join(tokens[i:i + 8]))
         if word == "impl":
