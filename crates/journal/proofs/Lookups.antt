@@ -1,6 +1,6 @@
 -- The laws of a lookup.
 use Rattle.std.specs.Prelude.{Option, Some, None}
-use Prim.Native.Nat.{ℕ, zero, suc, ◌+◌, ◌-◌, ◌%◌, ◌<◌}
+use Prim.Native.Nat.{ℕ, zero, suc, ◌-◌, ◌<◌}
 use mathlib.Core.Path.{◌≡◌, refl, ap, sym, ◌∙◌}
 use mathlib.Core.Bool.{Bool, true, false, cond}
 use mathlib.Core.Logic.{◌≢◌}
@@ -9,8 +9,6 @@ use native.Mathlib.Omega.{arith}
 use native.Mathlib.Decide.{ℕ_discrete}
 use borrow.Author.Tests.{eq-eqb, ne_eqb, eqb-true, eqb-false}
 use lib.Dec.{eqb}
-use lib.ListN.{length, get_or, set}
-use lib.Seq.{get_or-set_same, get_or-set_other}
 use Rattle.cells.specs.Upto.{up_to}
 use Rattle.cells.specs.Entry.{Entry}
 use Rattle.card.specs.Card.{block_at}
@@ -76,32 +74,6 @@ last_means f a (suc n) = go (eqb (f n) a) refl (last_of f a n) (last_means f a n
 
 pub last_at : (f : ℕ → ℕ) (a n k : ℕ) → last_of f a n ≡ Some k → Last f a n k
 last_at f a n k e = rw e at (last_means f a n)
-
--- ---- buckets: each of the first n places has marked the bucket of its address, of 128
-
-abbrev pub Marked : (ℕ → ℕ) → List ℕ → ℕ → Type 0
-Marked f marks n = (j : ℕ) → j < n → get_or marks (f j % 128) 0 ≢ 0
-
--- one more, of address a
-pub mark_more : (f : ℕ → ℕ) (marks : List ℕ) (i a : ℕ) → length marks ≡ 128 → a ≡ f i → Marked f marks i
-    → Marked f (set marks (a % 128) 1) (i + 1)
-mark_more f marks i a size e before j h = go (ℕ_discrete (f j % 128) (a % 128))
-  where
-    go : Dec (f j % 128 ≡ a % 128) → get_or (set marks (a % 128) 1) (f j % 128) 0 ≢ 0
-    go (yes p) =
-        let inside : a % 128 < length marks = omega arith in
-        rw (p, get_or-set_same marks (a % 128) 1 0 inside) (λ z. absurd (omega arith))
-    go (no p) =
-        let earlier : j ≢ i = λ z. p (ap (λ (x : ℕ). f x % 128) z ∙ ap (λ (x : ℕ). x % 128) (sym e)) in
-        rw (get_or-set_other marks (a % 128) (f j % 128) 1 0 p) (before j (omega arith))
-
--- an address whose bucket is not marked is none of theirs
-pub unmarked : (f : ℕ → ℕ) (marks : List ℕ) (n a : ℕ) → Marked f marks n → get_or marks (a % 128) 0 ≡ 0 → last_of f a n ≡ None
-unmarked f marks n a marked e = go (last_of f a n) (last_means f a n)
-  where
-    go : (r : Option ℕ) → Means f a n r → r ≡ None
-    go (Some k) m = absurd (marked k m.inside (ap (λ (x : ℕ). get_or marks (x % 128) 0) m.here ∙ e))
-    go None m = refl
 
 -- ---- a lookup in a list is a read of its overlay
 

@@ -7,6 +7,7 @@ ghost use Rattle.powercut.specs.Device.{state};
 
 use cells::BLOCK;
 use store::record::Record;
+use store::saved::{Saved, Stopped};
 use store::{WAITING, WORK};
 
 pub(crate) const BLOCKS: u32 = 65;
@@ -30,71 +31,73 @@ impl Device {
             waiting: [0; WAITING],
             work: [0; WORK],
         };
-        let a = made
+        let formatted = made
             .rec
             .format(&mut made.settled, &mut made.waiting, &mut made.work);
-        made.rec = a.rec;
+        made.rec = formatted.unwrap_or(made.rec);
         made
     }
 
     pub(crate) fn put(&mut self, address: u32, block: &[u8]) {
-        let a = self.rec.put(&self.settled, &self.waiting, &mut self.work, address, block);
-        self.rec = a.rec;
+        let put = self.rec.put(&self.settled, &self.waiting, &mut self.work, address, block);
+        self.rec = put.unwrap_or(self.rec);
     }
 
     pub(crate) fn commit(&mut self) {
-        let a = self
+        let committed = self
             .rec
             .commit(&self.settled, &self.waiting, &mut self.work);
-        self.rec = a.rec;
+        self.rec = committed.unwrap_or(self.rec);
     }
 
     pub(crate) fn sync(&mut self) {
-        let a = self
+        let ended = self
             .rec
             .sync(&mut self.settled, &mut self.waiting, &self.work);
-        self.rec = a.rec;
+        self.rec = left(self.rec, ended);
     }
 
     pub(crate) fn apply(&mut self) {
-        let a = self
+        let ended = self
             .rec
             .apply(&mut self.settled, &mut self.waiting, &self.work);
-        self.rec = a.rec;
+        self.rec = left(self.rec, ended);
     }
 
     pub(crate) fn direct(&mut self, address: u32, block: &[u8]) {
-        let a = self.rec.direct(
+        let ended = self.rec.direct(
             &mut self.settled,
             &mut self.waiting,
             &self.work,
             address,
             block,
         );
-        self.rec = a.rec;
+        self.rec = left(self.rec, ended);
     }
 
     pub(crate) fn power(&mut self, orders: u32) {
-        let a = self
+        let powered = self
             .rec
             .power(&self.settled, &self.waiting, &self.work, orders);
-        self.rec = a.rec;
+        self.rec = powered.unwrap_or(self.rec);
     }
 
     pub(crate) fn cut(&mut self, marks: &[u8])
         ensures { state self.new ≡ (cut_call trap marks.now (state self.old)).state }
     {
-        let a = self
+        let cut = self
             .rec
             .cut(&mut self.settled, &self.waiting, &self.work, marks);
-        self.rec = a.rec;
+        if let Ok(rec) = cut {
+            self.rec = rec;
+        }
     }
 
     pub(crate) fn recover(&mut self) {
-        let a = self
+        let ended = self
             .rec
             .recover(&mut self.settled, &mut self.waiting, &self.work);
-        self.rec = a.rec;
+        self.rec = left(self.rec, ended);
     }
 
     pub(crate) fn get(&self, address: u32) -> &[u8]
@@ -102,5 +105,13 @@ impl Device {
     {
         self.rec
             .get(&self.settled, &self.waiting, &self.work, address)
+    }
+}
+
+// The record after a call that gives orders: as it was if refused, else what the call hands back, its power gone or not.
+fn left(rec: Record, ended: Result<Saved, Stopped>) -> Record {
+    match ended {
+        Ok(saved) | Err(Stopped::PowerLost(saved)) => saved.rec,
+        Err(Stopped::Refused(_)) => rec,
     }
 }

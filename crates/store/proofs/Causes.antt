@@ -1,5 +1,5 @@
 -- The laws of the table of causes.
-use Prim.Native.Nat.{ℕ, zero, suc, ◌+◌, ◌*◌, ◌-◌, ◌%◌, ◌≤◌, ◌<◌}
+use Prim.Native.Nat.{ℕ, zero, suc, ◌+◌, ◌*◌, ◌%◌, ◌≤◌, ◌<◌}
 use mathlib.Core.Path.{◌≡◌, refl, ap, sym, ◌∙◌}
 use mathlib.Core.Bool.{Bool, true, false, cond, not, ◌&&◌, ◌||◌, or-true, or-false, false≢true}
 use mathlib.Core.List.{List, [], ◌∷◌}
@@ -30,31 +30,6 @@ use Rattle.store.specs.Lists.{open_from, group_from, listed, find}
 use Rattle.store.specs.Request.{Request, power, abandon}
 use Rattle.store.specs.Causes.{waiting_bytes, work_bytes, most_waiting, Row, wrong_sizes, some, wrong_counts, wrong_waiting, is_found, wrong_lists, wrong_record, down_row, open_row, Rules, of_bytes, of_record, of_open, rules, own_size, wrong_block, first, cause_by, cause}
 use Rattle.store.proofs.Lookups.{range_more}
-
--- ---- a search of n places from the last one down, i of them left
-
--- the next one has it
-pub search_hit : (f : ℕ → Bool) (i n : ℕ) → some f i ≡ some f n → 0 < i → f (i - 1) ≡ true → true ≡ some f n
-unfolding some
-search_hit f zero n rest h e = absurd (omega arith)
-search_hit f (suc i) n rest h e =
-    let p : suc i - 1 ≡ i = omega arith in
-    let q : f i ≡ true = rw p at e in
-    sym (or-true (some f i)) ∙ ap (λ (b : Bool). some f i || b) (sym q) ∙ rest
-
--- the next one does not
-pub search_on : (f : ℕ → Bool) (i n : ℕ) → some f i ≡ some f n → 0 < i → f (i - 1) ≡ false → some f (i - 1) ≡ some f n
-unfolding some
-search_on f zero n rest h e = absurd (omega arith)
-search_on f (suc i) n rest h e =
-    let p : suc i - 1 ≡ i = omega arith in
-    let q : f i ≡ false = rw p at e in
-    rw p (sym (or-false (some f i)) ∙ ap (λ (b : Bool). some f i || b) (sym q) ∙ rest)
-
--- none is left
-pub search_over : (f : ℕ → Bool) (i n : ℕ) → some f i ≡ some f n → i ≡ 0 → false ≡ some f n
-unfolding some
-search_over f i n rest e = ap (some f) (sym e) ∙ rest
 
 -- ---- a search from the first place up: none of the first i passed
 

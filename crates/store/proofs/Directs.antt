@@ -1,7 +1,6 @@
 -- The laws of direct writes.
 use Prim.Native.Nat.{ℕ, ◌≤◌, ◌<◌}
-use mathlib.Core.Path.{◌≡◌, ap, sym, ◌∙◌}
-use mathlib.Core.Bool.{Bool, ◌||◌}
+use mathlib.Core.Path.{◌≡◌, ap, ◌∙◌}
 use mathlib.Core.List.{List, [], ◌∷◌}
 use native.Mathlib.Omega.{arith}
 use borrow.Author.Tests.{eq-eqb, ne_eqb}
@@ -13,10 +12,7 @@ use Rattle.card.specs.declared.queue.PowerLost.{PowerLost}
 use Rattle.card.specs.Card.{Order, flush, run}
 use Rattle.card.specs.CodeQueue.{card_of, left_queue}
 use Rattle.journal.specs.Geometry.{Geometry}
-use Rattle.journal.specs.Lookup.{last_slot}
 use Rattle.store.specs.State.{State, card_in}
-use Rattle.store.specs.Lists.{open_from, group_from, find}
-use Rattle.store.specs.Causes.{is_found, listed_row}
 use Rattle.store.specs.Direct.{direct_write, direct_orders}
 
 module _ (geo : Geometry) (a : ℕ) (b : List ℕ) (st : State) where
@@ -39,10 +35,3 @@ module _ (geo : Geometry) (a : ℕ) (b : List ℕ) (st : State) where
     rw list (told ∙ ap (λ (x : Queue). leb (length os) x.power) queue),
     rw list (card ∙ ap (λ (x : Queue). run os (card_of st.settled st.waiting x)) queue),
   )
-
-module _ (geo : Geometry) (a : ℕ) (st : State) where
-  -- row 14, as it is searched for
-  pub listed-row : (t : Bool)
-      → t ≡ is_found (find st.work open_from st.rec.opened a) || is_found (find st.work (group_from geo) st.rec.grouped a) || is_found (last_slot st.settled a st.rec.logged)
-      → (listed_row geo a).test st ≡ t
-  listed-row t e = sym e

@@ -86,9 +86,6 @@ pub record CopiedOut (f : ℕ → List ℕ) (old blocks : List ℕ) (i : ℕ) : 
   pub sizes : (j : ℕ) → j < i → length (f j) ≡ block_bytes
   pub out : blocks ≡ joined f i ++ drop (block_bytes * i) old
 
-pub none_out : (f : ℕ → List ℕ) (old : List ℕ) → CopiedOut f old old 0
-none_out f old = record { size = refl; sizes = λ j h. absurd (omega arith); out = refl }
-
 -- one more
 pub one_out : (f : ℕ → List ℕ) (old blocks v : List ℕ) (i n : ℕ) → CopiedOut f old blocks i → block_bytes * i + block_bytes ≤ length old → n ≡ block_bytes → length v ≡ block_bytes → v ≡ f i
     → CopiedOut f old (take (block_bytes * i) blocks ++ (v ++ drop n (drop (block_bytes * i) blocks))) (i + 1)
