@@ -16,5 +16,5 @@ pub trap-first : 2 ≡ 1 + trap.descriptors
 trap-first = ap (λ (k : ℕ). 1 + k) (sym trap-descriptors)
 
 -- and the first data block
-pub trap_data : 2 + trap_slots ≡ 1 + trap.descriptors + trap.slots
+trap_data : 2 + trap_slots ≡ 1 + trap.descriptors + trap.slots
 trap_data = ap₂ (λ (k m : ℕ). k + m) trap-first (sym trap-slots)
