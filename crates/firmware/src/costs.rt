@@ -36,6 +36,7 @@ fn tell(
     number(said)
 }
 
+// Stays three alike: each is a function for C.
 pub fn trapcard_sync_cost(
     rec: &[u8],
     settled: &[u8],
