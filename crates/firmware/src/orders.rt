@@ -8,7 +8,7 @@ ghost use Rattle.firmware.specs.Face.{face_of, faced};
 use crate::record::decode;
 use crate::told::told_orders;
 
-// Stays four alike: each is a function for C. One that takes the call as a closure is no plainer: a proof knows nothing of what a closure wrote.
+// Stays four alike: each is a function for C. Tried with the call as a closure: after it nothing is known of the bytes that the closure wrote.
 
 pub fn trapcard_sync(
     rec: &mut [u8],
