@@ -26,7 +26,7 @@ use Rattle.store.specs.declared.cost as Code
 use Rattle.store.specs.Cost.{Cost, no_figures, costed}
 use Rattle.inspect.specs.Alike.{Alike, alike_answer, alike_of}
 use Rattle.journal.specs.Geometry.{Geometry}
-use Rattle.firmware.specs.Face.{record_bytes, decode_record, Face, face_of, handed, faced, buffer_number, buffer_offset, got_of, got_in, got, listed, Asked, told, asked, compared_of, compared}
+use Rattle.firmware.specs.Face.{record_bytes, decode_record, Face, face_of, handed, faced, buffer_number, buffer_offset, got_of, got_in, got, listed, told, asked, compared_of, compared}
 
 -- "another length is 1"
 pub faced-length : (call : State → Outcome) (r s w k : List ℕ) → length r ≢ record_bytes → face_of 1 0 r s w k ≡ faced call r s w k

@@ -11,7 +11,8 @@ ghost use Rattle.firmware.specs.Face.{face_of, faced};
 
 use crate::record::decode;
 use crate::told::told;
-use refusals::Refusal;
+
+// Stays six alike: each is a function for C. Tried with the call as a closure: after it nothing is known of the bytes that the closure wrote.
 
 pub fn trapcard_format(
     rec: &mut [u8],
@@ -21,8 +22,9 @@ pub fn trapcard_format(
 ) -> u32
     ensures { face_of result 0 rec.new settled.new waiting.new work.new ≡ faced (format_call trap) rec.old settled.old waiting.old work.old }
 {
-    let Ok(held) = decode(rec) else {
-        return Refusal::Size.into();
+    let held = match decode(rec) {
+        Ok(held) => held,
+        Err(refusal) => return refusal.into(),
     };
     let formatted = held.format(settled, waiting, work);
     told(rec, held, formatted)
@@ -37,8 +39,9 @@ pub fn trapcard_power(
 ) -> u32
     ensures { face_of result 0 rec.new settled.now waiting.now work.now ≡ faced (power_call trap count) rec.old settled.now waiting.now work.now }
 {
-    let Ok(held) = decode(rec) else {
-        return Refusal::Size.into();
+    let held = match decode(rec) {
+        Ok(held) => held,
+        Err(refusal) => return refusal.into(),
     };
     let powered = held.power(settled, waiting, work, count);
     told(rec, held, powered)
@@ -54,8 +57,9 @@ pub fn trapcard_put(
 ) -> u32
     ensures { face_of result 0 rec.new settled.now waiting.now work.new ≡ faced (put_call trap address block.now) rec.old settled.now waiting.now work.old }
 {
-    let Ok(held) = decode(rec) else {
-        return Refusal::Size.into();
+    let held = match decode(rec) {
+        Ok(held) => held,
+        Err(refusal) => return refusal.into(),
     };
     let placed = held.put(settled, waiting, work, address, block);
     told(rec, held, placed)
@@ -64,8 +68,9 @@ pub fn trapcard_put(
 pub fn trapcard_commit(rec: &mut [u8], settled: &[u8], waiting: &[u8], work: &mut [u8]) -> u32
     ensures { face_of result 0 rec.new settled.now waiting.now work.new ≡ faced (commit_call trap) rec.old settled.now waiting.now work.old }
 {
-    let Ok(held) = decode(rec) else {
-        return Refusal::Size.into();
+    let held = match decode(rec) {
+        Ok(held) => held,
+        Err(refusal) => return refusal.into(),
     };
     let committed = held.commit(settled, waiting, work);
     told(rec, held, committed)
@@ -74,8 +79,9 @@ pub fn trapcard_commit(rec: &mut [u8], settled: &[u8], waiting: &[u8], work: &mu
 pub fn trapcard_abandon(rec: &mut [u8], settled: &[u8], waiting: &[u8], work: &[u8]) -> u32
     ensures { face_of result 0 rec.new settled.now waiting.now work.now ≡ faced (abandon_call trap) rec.old settled.now waiting.now work.now }
 {
-    let Ok(held) = decode(rec) else {
-        return Refusal::Size.into();
+    let held = match decode(rec) {
+        Ok(held) => held,
+        Err(refusal) => return refusal.into(),
     };
     let abandoned = held.abandon(settled, waiting, work);
     told(rec, held, abandoned)
@@ -90,8 +96,9 @@ pub fn trapcard_cut(
 ) -> u32
     ensures { face_of result 0 rec.new settled.new waiting.now work.now ≡ faced (cut_call trap marks.now) rec.old settled.old waiting.now work.now }
 {
-    let Ok(held) = decode(rec) else {
-        return Refusal::Size.into();
+    let held = match decode(rec) {
+        Ok(held) => held,
+        Err(refusal) => return refusal.into(),
     };
     let cut = held.cut(settled, waiting, work, marks);
     told(rec, held, cut)

@@ -10,14 +10,6 @@ use crate::told::number;
 use refusals::Refusal;
 use store::cost::Cost;
 
-// A refusal has no figures.
-const NO_COST: Cost = Cost {
-    orders: 0,
-    applies: false,
-    peak: 0,
-    reaches: false,
-};
-
 // Hands out the figures, 1 for yes; the number.
 fn tell(
     said: Result<Cost, Refusal>,
@@ -28,7 +20,13 @@ fn tell(
 ) -> u32
     ensures { ◌≡◌ {A = Asked} (record { number = result; orders = orders.new; applies = applies.new; peak = peak.new; reaches = reaches.new }) (told (costed said)) }
 {
-    let cost = said.unwrap_or(NO_COST);
+    // A refusal has no figures.
+    let cost = said.unwrap_or(Cost {
+        orders: 0,
+        applies: false,
+        peak: 0,
+        reaches: false,
+    });
     *orders = cost.orders;
     *applies = u32::from(cost.applies);
     *peak = cost.peak;
@@ -36,6 +34,7 @@ fn tell(
     number(said)
 }
 
+// Stays three alike: each is a function for C.
 pub fn trapcard_sync_cost(
     rec: &[u8],
     settled: &[u8],

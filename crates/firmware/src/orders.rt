@@ -7,7 +7,8 @@ ghost use Rattle.firmware.specs.Face.{face_of, faced};
 
 use crate::record::decode;
 use crate::told::told_orders;
-use refusals::Refusal;
+
+// Stays four alike: each is a function for C. Tried with the call as a closure: after it nothing is known of the bytes that the closure wrote.
 
 pub fn trapcard_sync(
     rec: &mut [u8],
@@ -18,9 +19,12 @@ pub fn trapcard_sync(
 ) -> u32
     ensures { face_of result orders.new rec.new settled.new waiting.new work.now ≡ faced (sync_call trap) rec.old settled.old waiting.old work.now }
 {
-    let Ok(held) = decode(rec) else {
-        *orders = 0;
-        return Refusal::Size.into();
+    let held = match decode(rec) {
+        Ok(held) => held,
+        Err(refusal) => {
+            *orders = 0;
+            return refusal.into();
+        }
     };
     let synced = held.sync(settled, waiting, work);
     told_orders(rec, orders, held, synced)
@@ -35,9 +39,12 @@ pub fn trapcard_apply(
 ) -> u32
     ensures { face_of result orders.new rec.new settled.new waiting.new work.now ≡ faced (apply_call trap) rec.old settled.old waiting.old work.now }
 {
-    let Ok(held) = decode(rec) else {
-        *orders = 0;
-        return Refusal::Size.into();
+    let held = match decode(rec) {
+        Ok(held) => held,
+        Err(refusal) => {
+            *orders = 0;
+            return refusal.into();
+        }
     };
     let applied = held.apply(settled, waiting, work);
     told_orders(rec, orders, held, applied)
@@ -52,9 +59,12 @@ pub fn trapcard_recover(
 ) -> u32
     ensures { face_of result orders.new rec.new settled.new waiting.new work.now ≡ faced (recover_call trap) rec.old settled.old waiting.old work.now }
 {
-    let Ok(held) = decode(rec) else {
-        *orders = 0;
-        return Refusal::Size.into();
+    let held = match decode(rec) {
+        Ok(held) => held,
+        Err(refusal) => {
+            *orders = 0;
+            return refusal.into();
+        }
     };
     let recovered = held.recover(settled, waiting, work);
     told_orders(rec, orders, held, recovered)
@@ -71,9 +81,12 @@ pub fn trapcard_direct(
 ) -> u32
     ensures { face_of result orders.new rec.new settled.new waiting.new work.now ≡ faced (direct_call trap address block.now) rec.old settled.old waiting.old work.now }
 {
-    let Ok(held) = decode(rec) else {
-        *orders = 0;
-        return Refusal::Size.into();
+    let held = match decode(rec) {
+        Ok(held) => held,
+        Err(refusal) => {
+            *orders = 0;
+            return refusal.into();
+        }
     };
     let written = held.direct(settled, waiting, work, address, block);
     told_orders(rec, orders, held, written)

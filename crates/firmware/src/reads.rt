@@ -7,10 +7,10 @@ ghost use Rattle.firmware.specs.Face.{buffer_number, buffer_offset, got_of, got,
 
 use crate::record::decode;
 use crate::told::number;
-use refusals::Refusal;
 use store::place::Place;
 
 // The buffers that a get names.
+// Stays numbers: C interface; include/trapcard.h has them.
 const NOWHERE: u32 = 0;
 
 const IN_SETTLED: u32 = 1;
@@ -19,6 +19,7 @@ const IN_WORK: u32 = 2;
 
 const IN_WAITING: u32 = 3;
 
+// Stays a match: these are numbers of the C interface.
 fn buffer_number(place: Place) -> u32
     ensures { result ≡ buffer_number place }
 {
@@ -52,10 +53,13 @@ pub fn trapcard_get(
 ) -> u32
     ensures { got_of result buffer.new offset.new ≡ got trap address rec.now settled.now waiting.now work.now }
 {
-    let Ok(held) = decode(rec) else {
-        *buffer = NOWHERE;
-        *offset = 0;
-        return Refusal::Size.into();
+    let held = match decode(rec) {
+        Ok(held) => held,
+        Err(refusal) => {
+            *buffer = NOWHERE;
+            *offset = 0;
+            return refusal.into();
+        }
     };
     let place = held.get_place(settled, waiting, work, address);
     *buffer = buffer_number(place);
@@ -77,9 +81,12 @@ pub fn trapcard_get_list(
 ) -> u32
     ensures { ◌≡◌ {A = Listing} (record { number = result; slots = slots.new; blocks = blocks.new }) (listed trap addresses.now blocks.old rec.now settled.now waiting.now work.now) }
 {
-    let Ok(held) = decode(rec) else {
-        *slots = 0;
-        return Refusal::Size.into();
+    let held = match decode(rec) {
+        Ok(held) => held,
+        Err(refusal) => {
+            *slots = 0;
+            return refusal.into();
+        }
     };
     let listed = held.get_list(settled, waiting, work, addresses, blocks);
     *slots = listed.unwrap_or(0);

@@ -48,6 +48,7 @@ pub fn step(
     *buffer = 0;
     *offset = 0;
     *slots = 0;
+    // Stays a match: the calls are functions for C, whose parameters differ, so a table of them is no plainer.
     match code {
         Code::Power(count) => trapcard_power(rec, settled, waiting, work, count),
         Code::Put(address) => trapcard_put(rec, settled, waiting, work, address, block),

@@ -2,8 +2,8 @@
 use Rattle.firmware.proofs.Faces.{faced-length, faced-told}
 use Rattle.firmware.proofs.calls.trapcard_format.Goals as goal
 
-pub returns-in_default : goal.returns-in_default
-returns-in_default c = rw c.into.ensures (faced-length _ _ _ _ _ c.in_default.ensures.0)
+pub returns-in-Err : goal.returns-in-Err
+returns-in-Err c = rw (c.into.ensures, c.in-Err.ensures.1) (faced-length _ _ _ _ _ c.in-Err.ensures.0)
 
 pub returns : goal.returns
 returns c = faced-told _ _ _ _ _ _ _ _ c.in-Ok.ensures.0 c.in-Ok.ensures.1 c.format-formatted.ensures (c.told.ensures _ _ _)

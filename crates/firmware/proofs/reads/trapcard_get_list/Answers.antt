@@ -1,14 +1,14 @@
 -- `firmware::reads::trapcard_get_list` meets its contract.
-use Rattle.std.proofs.Common.{ap, sym, ◌≡◌, ◌∙◌, ℕ}
+use Rattle.std.proofs.Common.{ap, ◌∙◌}
 use Rattle.journal.specs.Geometry.{trap}
 use Rattle.store.specs.declared.record.Record.{Record}
 use Rattle.store.specs.CodeState.{state_of}
-use Rattle.store.specs.GetList.{Listing, listing}
+use Rattle.store.specs.GetList.{listing}
 use Rattle.firmware.proofs.Faces.{listed-length, listed-listing, told_slots}
 use Rattle.firmware.proofs.reads.trapcard_get_list.Goals as goal
 
-pub returns-in_default : goal.returns-in_default
-returns-in_default c = rw c.into.ensures (listed-length trap _ _ _ _ _ _ c.in_default.ensures.0)
+pub returns-in-Err : goal.returns-in-Err
+returns-in-Err c = rw (c.into.ensures, c.in-Err.ensures.1) (listed-length trap _ _ _ _ _ _ c.in-Err.ensures.0)
 
 pub returns : goal.returns
 returns c =
