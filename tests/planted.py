@@ -19,7 +19,7 @@ from lockstep import ROOT, SEED, Found, Run, compared, show
 
 CRATES = ("cells", "refusals", "fnv", "card", "journal", "store", "inspect", "firmware", "firmware_c")
 CALLS = 40000
-CLAUSE = re.compile(r"^(\s*ghost .*|#!\[tactic.*|\s*(requires|ensures) (\w+ )?\{.*\})\n", re.M)
+CLAUSE = re.compile(r"^(\s*(pub )?ghost .*|#!\[tactic.*|\s*(requires|ensures) (\w+ )?\{.*\})\n", re.M)
 
 Fault = namedtuple("Fault", "name file old new demands", defaults=(False,))
 FAULTS = (
