@@ -19,7 +19,7 @@ from lockstep import ROOT, SEED, Found, Run, compared, show
 
 CRATES = ("cells", "refusals", "fnv", "card", "journal", "store", "inspect", "firmware", "firmware_c")
 CALLS = 40000
-CLAUSE = re.compile(r"^(\s*ghost .*|#!\[tactic.*|\s*(requires|ensures) (\w+ )?\{.*\})\n", re.M)
+CLAUSE = re.compile(r"^(\s*(pub )?ghost .*|#!\[tactic.*|\s*(requires|ensures) (\w+ )?\{.*\})\n", re.M)
 
 Fault = namedtuple("Fault", "name file old new demands", defaults=(False,))
 FAULTS = (
@@ -131,7 +131,7 @@ FAULTS = (
           "for i in 0..n.saturating_sub(1) {", True),
     Fault("a list takes the group over open", "store/get_list", "if opened != 0 {", "if opened != 0 && grouped == 0 {", True),
     Fault("a list takes the log over the group", "store/get_list", "if grouped != 0 {", "if grouped != 0 && logged == 0 {", True),
-    Fault("a list is copied out backwards", "store/get_list", "let at = BLOCK * i;", "let at = BLOCK * (n - 1 - i);", True),
+    Fault("a list is copied out backwards", "store/get_list", "let at = BLOCK * i;", "let at = BLOCK * (count(list) - 1 - i);", True),
     Fault("a list is copied up to the address that is refused", "store/get_list", "self.check_list(settled, waiting, work, list, blocks)?;",
           "let checked = self.check_list(settled, waiting, work, list, blocks);\nif checked == Err(Refusal::Address) {\nlet mut k = 0;\n"
           "while is_data(self.blocks, wanted(list, k)) {\nk += 1;\n}\n"
