@@ -8,7 +8,7 @@ from pathlib import Path
 ROOT = Path(__file__).resolve().parent.parent
 WORD = re.compile(r"[^\s(){}\[\],;:\"⌜⌝]+")
 GOAL = re.compile(r"(pub )?\S+ : goal\.")
-USE = re.compile(r"^(?:ghost |unfoldable )?(pub )?use (\S+?)(?:\.\{(.*?)\}| as (\S+?))?;?$", re.M | re.S)
+USE = re.compile(r"^ *(?:ghost |unfoldable )?(pub )?use (\S+?)(?:\.\{(.*?)\}| as (\S+?))?;?$", re.M | re.S)
 NAMED = re.compile(r"^( *)((?:(?:abbrev|unfoldable|pub) )*)(record |data |ruleset )?([^\s:(){}=]+)(?= [:=({])")
 OURS = re.compile(r"Rattle\.(\w+)\.((?:specs|proofs)\..*)")
 CRATES = {path.name for path in ROOT.glob("crates/*")}

@@ -158,12 +158,12 @@ module _ (geo : Geometry) where
       alike_unlike h = rw (x.none, y.none, ← x.count, ← y.count, ← x.blocks, ← y.blocks, h)
 
       pub alike_contents : (t : Bool) → eqb r.blocks q.blocks && eqb r.count q.count ≡ true
-          → t ≡ same_slots geo a b r.count && same_data geo (laid geo a r.count) (laid geo b r.count) (data_blocks geo r.blocks)
+          → t ≡ same_slots geo r.settled.now q.settled.now r.count && same_data geo (laid geo r.settled.now r.count) (laid geo q.settled.now r.count) (data_blocks geo r.blocks)
           → alike_answer (Ok t) ≡ alike_of geo a b
       unfolding alike_of
       alike_contents t h e =
           let counts : r.count ≡ q.count = eqb-true _ _ (both _ _ h).1 in
-          rw (x.none, y.none, ← x.count, ← y.count, ← x.blocks, ← y.blocks, h, e, counts)
+          rw (x.none, y.none, ← x.count, ← y.count, ← x.blocks, ← y.blocks, h, e, x.settled, y.settled, counts)
 
   -- ---- yes
 

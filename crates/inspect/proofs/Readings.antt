@@ -1,7 +1,7 @@
 -- The laws of a card that was read: its size, its refusal, the count of its list.
 use Prim.Native.Nat.{ℕ, ◌%◌, ◌≤◌, ◌<◌}
 use mathlib.Core.Path.{◌≡◌, refl, ap, sym, ◌∙◌}
-use mathlib.Core.Bool.{Bool, true, false, cond, not, ◌||◌}
+use mathlib.Core.Bool.{true, false, not, ◌||◌}
 use mathlib.Core.Logic.{◌≢◌, ◌⊎◌, ⊎_elim}
 use mathlib.Core.List.{List}
 use native.Mathlib.Omega.{arith}
@@ -65,37 +65,32 @@ module _ (geo : Geometry) where
   unfolding inspection
   right-chosen s t e p = rw (e, p)
 
-  -- a card that is not refused has the right size
-  pub accepted_size : (s : List ℕ) → inspection geo s ≡ 0 → Sized s
-  unfolding inspection
-  accepted_size s z = go (wrong_size geo s) refl z
-    where
-      go : (t : Bool) → wrong_size geo s ≡ t → cond t 1 (choice_number (chosen geo s)) ≡ 0 → Sized s
-      go true e p = absurd (omega arith)
-      go false e p = right_size s e
-
   -- ---- what the code has read
 
   -- a list that is chosen by the N that was read
-  read_chosen : (s : List ℕ) (t : Choice) (N n : ℕ) → N ≡ blocks_in s → wrong_size geo s ≡ false → choose geo N s ≡ t → choice_number t ≡ 0 → taken_count t ≡ n
-      → Taken geo s (record { blocks = N; count = n })
-  read_chosen s t N n b e p z k =
+  read_chosen : (s : List ℕ) (t : Choice) (card : Reading) → card.settled.now ≡ s → card.blocks ≡ blocks_in s → wrong_size geo s ≡ false → choose geo card.blocks s ≡ t
+      → choice_number t ≡ 0 → taken_count t ≡ card.count → Taken geo s card
+  read_chosen s t card w b e p z k =
       let here : chosen geo s ≡ t = rw (← b) p in
-      record { none = right-chosen s t e here ∙ z; blocks = b; count = sym (ap taken_count here ∙ k) }
+      record { none = right-chosen s t e here ∙ z; settled = w; blocks = b; count = sym (ap taken_count here ∙ k) }
 
-  -- either list
-  pub read_listed : (s : List ℕ) (t : Choice) (N n : ℕ) → N ≡ blocks_in s → wrong_size geo s ≡ false → choose geo N s ≡ t
-      → ((sum : ℕ) × (save : ℕ) × (t ≡ Whole n sum save)) ⊎ ((sum : ℕ) × (save : ℕ) × (t ≡ Fallback n sum save))
-      → Taken geo s (record { blocks = N; count = n })
-  read_listed s t N n b e p w =
+  -- either list, of n entries
+  abbrev pub Took : Choice → ℕ → Type 0
+  Took t n = ((sum : ℕ) × (save : ℕ) × (t ≡ Whole n sum save)) ⊎ ((sum : ℕ) × (save : ℕ) × (t ≡ Fallback n sum save))
+
+  pub read_listed : (s : List ℕ) (t : Choice) (card : Reading) → card.settled.now ≡ s → card.blocks ≡ blocks_in s → wrong_size geo s ≡ false → choose geo card.blocks s ≡ t
+      → Took t card.count → Taken geo s card
+  read_listed s t card r b e p w =
       ⊎_elim
-      (λ x. read_chosen s _ N n b e (p ∙ x.2) refl refl)
-      (λ x. read_chosen s _ N n b e (p ∙ x.2) refl refl)
+      (λ x. read_chosen s _ card r b e (p ∙ x.2) refl refl)
+      (λ x. read_chosen s _ card r b e (p ∙ x.2) refl refl)
       w
 
-  pub taken_size : (s : List ℕ) (card : Reading) → Taken geo s card → Sized s
-  taken_size s card t = accepted_size s t.none
-
-  -- the list fits into the slots
-  pub taken_fits : (s : List ℕ) (card : Reading) → Taken geo s card → card.count ≤ geo.slots
-  taken_fits s card t = rw t.count (taken-count geo (blocks_in s) s)
+  -- such a list fits into the slots
+  pub listed_fits : (s : List ℕ) (t : Choice) (N n : ℕ) → choose geo N s ≡ t → Took t n → n ≤ geo.slots
+  listed_fits s t N n p w =
+      let fits = taken-count geo N s in
+      ⊎_elim
+      (λ x. rw (p ∙ x.2) at fits)
+      (λ x. rw (p ∙ x.2) at fits)
+      w

@@ -140,6 +140,6 @@ module _ (geo : Geometry) where
   unfolding tally_of
   tally_refused s e h = rw (← h, ne_eqb (number_of e) 0 (refusal_positive e))
 
-  pub tally_done : (s : List ℕ) (r : Reading) (v : ℕ) → Taken geo s r → v ≡ sum_data geo (laid geo s r.count) (data_blocks geo r.blocks) → tally_answer (Ok v) ≡ tally_of geo s
+  pub tally_done : (s : List ℕ) (r : Reading) (v : ℕ) → Taken geo s r → v ≡ sum_data geo (laid geo r.settled.now r.count) (data_blocks geo r.blocks) → tally_answer (Ok v) ≡ tally_of geo s
   unfolding tally_of
-  tally_done s r v t e = rw (t.none, e, t.blocks, t.count)
+  tally_done s r v t e = rw (t.none, e, t.settled, t.blocks, t.count)

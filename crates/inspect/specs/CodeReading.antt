@@ -8,9 +8,10 @@ use Rattle.inspect.specs.declared.reading.Reading.{Reading}
 use Rattle.inspect.specs.Reading.{inspection, chosen_count}
 
 module _ (geo : Geometry) where
-  -- a card that is taken: no refusal, N, and the count of the list taken
+  -- a card that is taken: no refusal, its bytes, N, and the count of the list taken
   pub record Taken (s : List ℕ) (card : Reading) : Type 0 where
     pub none : inspection geo s ≡ 0
+    pub settled : card.settled.now ≡ s
     pub blocks : card.blocks ≡ blocks_in s
     pub count : card.count ≡ chosen_count geo s
 

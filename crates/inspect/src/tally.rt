@@ -3,13 +3,13 @@ ghost use Rattle.std.specs.Prelude.{◌≡◌, true, ◌↔◌, ◌+◌, ◌*◌
 ghost use Rattle.cells.specs.Entry.{block_bytes};
 ghost use Rattle.card.specs.Card.{blocks_in, block_at};
 ghost use Rattle.journal.specs.Geometry.{trap};
-ghost use Rattle.journal.specs.Layout.{first_data, slot_at, is_data, most_blocks};
+ghost use Rattle.journal.specs.Layout.{slot_at, is_data};
 ghost use Rattle.journal.specs.Log.{slot_address};
 ghost use Rattle.journal.specs.Lookup.{last_slot};
 ghost use Rattle.inspect.specs.Reading.{data_blocks, laid};
 ghost use Rattle.inspect.specs.Tally.{sum_bytes, sum_data, tally_of, tally_answer};
 
-use crate::reading::inspect;
+use crate::reading::Reading;
 use card::settled::read;
 use journal::FIRST_DATA;
 use journal::log::{is_data, slot_address, slot_block};
@@ -48,6 +48,7 @@ fn sum_block(settled: &[u8], a: u32) -> u64
 }
 
 // The sum of all data bytes in the home blocks.
+// Stays a function of the bytes and N: that a byte is below 256, which the upper bound needs, a proof knows of a slice that is an argument, not of a struct's.
 fn sum_homes(settled: &[u8], blocks: u32) -> u64
     requires { blocks ≤ blocks_in settled.now }
     ensures value { result ≡ sum_data trap (block_at settled.now) (data_blocks trap blocks) }
@@ -56,53 +57,48 @@ fn sum_homes(settled: &[u8], blocks: u32) -> u64
     (FIRST_DATA..blocks).map(|a| sum_block(settled, a)).sum()
 }
 
-// Whether slot i decides a data block: it is the last of the first n slots with the block's address.
-fn decides(settled: &[u8], blocks: u32, n: u32, i: u32) -> bool
-    requires trap_bound { first_data trap < blocks_in settled.now }
-    requires n_le_slots { n ≤ trap.slots }
-    requires i_lt_slots { i < trap.slots }
-    ensures { (result ≡ true) ↔ (is_data trap blocks (slot_address settled.now i) ≡ true) × (last_slot settled.now (slot_address settled.now i) n ≡ Some i) }
-{
-    let a = slot_address(settled, i);
-    is_data(blocks, a) && last_slot(settled, a, n) == Some(i)
-}
-
-// A sum once slot i's block is laid over: the bytes of its home off, its own on.
-fn corrected(settled: &[u8], i: u32, sum: u64) -> u64
-    requires trap_bound { first_data trap < blocks_in settled.now }
-    requires i_lt_slots { i < trap.slots }
-    requires i_bound { slot_address settled.now i < blocks_in settled.now }
-    requires i_bound_2 { sum_bytes (block_at settled.now (slot_address settled.now i)) ≤ sum }
-    requires block_bytes_bound { sum + 255 * block_bytes < 2 ^ 64 }
-    ensures i_value { result + sum_bytes (block_at settled.now (slot_address settled.now i)) ≡ sum + sum_bytes (block_at settled.now (slot_at trap i)) }
-    ensures upper_bound { result ≤ sum + 255 * block_bytes }
-{
-    let home = sum_block(settled, slot_address(settled, i));
-    let own = sum_bytes(slot_block(settled, i));
-    sum - home + own
-}
-
-// The sum of all data bytes, the first n entries laid over: that of the home blocks, corrected once for each address.
-fn sum_data(settled: &[u8], blocks: u32, n: u32) -> u64
-    requires trap_bound { first_data trap < blocks_in settled.now }
-    requires blocks_value { blocks ≡ blocks_in settled.now }
-    requires blocks_le_most_blocks { blocks ≤ most_blocks }
-    requires n_le_slots { n ≤ trap.slots }
-    ensures { result ≡ sum_data trap (laid trap settled.now n) (data_blocks trap blocks) }
-{
-    let mut sum = sum_homes(settled, blocks);
-    for i in 0..n {
-        if decides(settled, blocks, n, i) {
-            sum = corrected(settled, i, sum);
-        }
+impl Reading<'_> {
+    // Whether slot i decides a data block: it is the last slot of the list with the block's address.
+    fn decides(&self, i: u32) -> bool
+        requires { i < trap.slots }
+        ensures { (result ≡ true) ↔ (is_data trap self.now.blocks (slot_address self.now.settled.now i) ≡ true) × (last_slot self.now.settled.now (slot_address self.now.settled.now i) self.now.count ≡ Some i) }
+    {
+        let a = slot_address(self.settled, i);
+        is_data(self.blocks, a) && last_slot(self.settled, a, self.count) == Some(i)
     }
-    sum
+
+    // A sum once slot i's block is laid over: the bytes of its home off, its own on.
+    fn corrected(&self, i: u32, sum: u64) -> u64
+        requires i_lt_slots { i < trap.slots }
+        requires i_bound { slot_address self.now.settled.now i < self.now.blocks }
+        requires i_bound_2 { sum_bytes (block_at self.now.settled.now (slot_address self.now.settled.now i)) ≤ sum }
+        requires block_bytes_bound { sum + 255 * block_bytes < 2 ^ 64 }
+        ensures i_value { result + sum_bytes (block_at self.now.settled.now (slot_address self.now.settled.now i)) ≡ sum + sum_bytes (block_at self.now.settled.now (slot_at trap i)) }
+        ensures upper_bound { result ≤ sum + 255 * block_bytes }
+    {
+        let home = sum_block(self.settled, slot_address(self.settled, i));
+        let own = sum_bytes(slot_block(self.settled, i));
+        sum - home + own
+    }
+
+    // The sum of all data bytes, the list laid over: that of the home blocks, corrected once for each address.
+    fn sum_data(&self) -> u64
+        ensures { result ≡ sum_data trap (laid trap self.now.settled.now self.now.count) (data_blocks trap self.now.blocks) }
+    {
+        let mut sum = sum_homes(self.settled, self.blocks);
+        for i in 0..self.count {
+            if self.decides(i) {
+                sum = self.corrected(i, sum);
+            }
+        }
+        sum
+    }
 }
 
 // The sum of all data bytes of a card, or its refusal.
 pub fn tally(settled: &[u8]) -> Result<u64, Refusal>
     ensures { tally_answer result ≡ tally_of trap settled.now }
 {
-    let card = inspect(settled)?;
-    Ok(sum_data(settled, card.blocks, card.count))
+    let card = Reading::inspect(settled)?;
+    Ok(card.sum_data())
 }

@@ -1,8 +1,6 @@
 -- `inspect::tally::tally` meets its contract.
-use native.Mathlib.Omega.{arith}
 use Rattle.std.proofs.lemmas.Result.{err_from_is_err_and}
 use Rattle.journal.specs.Geometry.{trap}
-use Rattle.inspect.proofs.Readings.{taken_size, taken_fits}
 use Rattle.inspect.proofs.Sums.{tally_refused, tally_done}
 use Rattle.inspect.proofs.tally.tally.Goals as goal
 
@@ -10,13 +8,6 @@ pub returns-in_err-card : goal.returns-in_err-card
 returns-in_err-card c =
     let p = err_from_is_err_and c.from_residual.result c.from_residual.ensures.1 in
     rw (p.1, p.2) (tally_refused trap _ _ c.in_err-card.ensures)
-
-pub sum_data-requires : goal.sum_data-requires
-sum_data-requires c =
-    let taken = c.in_ok-card.ensures in
-    let size = taken_size trap _ _ taken in
-    let fits = taken_fits trap _ _ taken in
-    omega arith
 
 pub returns : goal.returns
 returns c = tally_done trap _ _ _ c.in_ok-card.ensures c.sum_data.ensures
