@@ -78,12 +78,7 @@ fn describe(block: &mut [u8], old: &[u8], n: u32, group: &[u8])
 }
 
 // The writes of a group's blocks, to the slots from n on.
-fn write_slots(
-    queue: Queue,
-    waiting: &mut [u8],
-    group: &[u8],
-    n: u32,
-) -> Result<Queue, PowerLost>
+fn write_slots(queue: Queue, waiting: &mut [u8], group: &[u8], n: u32) -> Result<Queue, PowerLost>
     requires count_bound { n + group_count group.now ≤ trap.slots }
     requires count_bound_2 { queue.waiting + group_count group.now ≤ most_places }
     requires count_in_bounds { entry_bytes * (queue.waiting + group_count group.now) ≤ length waiting.old }
@@ -163,8 +158,5 @@ pub fn append(
     ensures sum_value { result.0 ≡ sum_of log.sum (group_entries group.now) }
 {
     let sum = sum_group(log.sum, group);
-    (
-        sum,
-        give_orders(queue, settled, waiting, group, log, sum),
-    )
+    (sum, give_orders(queue, settled, waiting, group, log, sum))
 }

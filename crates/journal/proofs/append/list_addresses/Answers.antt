@@ -1,6 +1,6 @@
 -- `journal::append::list_addresses` meets its contract.
-use Rattle.std.proofs.Common.{ℕ, ◌+◌, refl, ◌∙◌}
-use Rattle.cells.specs.Entry.{Entry, entry_at}
+use Rattle.std.proofs.Common.{refl, ◌∙◌}
+use Rattle.cells.specs.Entry.{entry_at}
 use Rattle.journal.specs.Orders.{address_bytes}
 use Rattle.journal.proofs.Descriptors.{addresses_more}
 use Rattle.journal.proofs.append.list_addresses.Goals as goal

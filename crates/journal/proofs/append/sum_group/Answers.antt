@@ -1,5 +1,5 @@
 -- `journal::append::sum_group` meets its contract.
-use Rattle.std.proofs.Common.{ℕ, rules, tests, refl, ap, ◌∙◌, arith, [], ◌∷◌, ◌+◌}
+use Rattle.std.proofs.Common.{ℕ, rules, tests, refl, ap, ◌∙◌, arith, [], ◌∷◌}
 use Rattle.std.proofs.lemmas.Iterator.{YieldsList-from_range}
 use Rattle.std.proofs.lemmas.Iterator.Consumers.{fold_from_yields_List}
 use Rattle.cells.specs.Entry.{Entry, entry_at}
