@@ -7,8 +7,9 @@ use native.Mathlib.Nat.{zero-add}
 use native.Mathlib.Numerals.{add-one}
 use native.Mathlib.Omega.{arith}
 use borrow.Author.Tests.{le-leb, leb-true, lt-ltb, ltb-true}
+use Rattle.std.proofs.Common.{length-take-le}
 use denote.Ref.{Bor}
-use lib.ListN.{length, drop_of_length-le}
+use lib.ListN.{length, take, drop, length-drop, drop_of_length-le}
 use lib.Seq.{sets, sets-eq}
 use Rattle.std.specs.List.{fold, range_with_len}
 use Rattle.std.proofs.lemmas.List.Folds.{fold-map}
@@ -18,9 +19,9 @@ use Rattle.cells.specs.Cell.Laws.{cell_part, length-cell, bytes-cell}
 use Rattle.cells.specs.Little.{le, num, Bytes}
 use Rattle.cells.specs.Little.Laws.{num_lt}
 use Rattle.cells.specs.Upto.{up_to}
-use Rattle.cells.specs.Upto.Laws.{length-up_to}
+use Rattle.cells.specs.Upto.Laws.{length-up_to, ext_up_to}
 use Rattle.cells.specs.Entry.{block_bytes, entry_bytes, Entry, to_bytes, flat, entry_at}
-use Rattle.cells.specs.Entry.Laws.{entry_eq, length_block, block_part, flat_nil, flat-one, flat_append}
+use Rattle.cells.specs.Entry.Laws.{entry_eq, entry_of_part, length_block, block_part, flat_nil, flat-one, flat_append}
 use Rattle.cells.specs.Part.{View, view_of, part_of}
 use Rattle.fnv.specs.Fnv.{sum_from}
 use Rattle.fnv.proofs.Laws.{sum_from_nil, sum_from-append, sum_from_lt}
@@ -30,7 +31,7 @@ use Rattle.card.proofs.Runs.{Whole, NarrowAddress}
 pub use Rattle.card.proofs.MarkLaws.{both}
 use Rattle.journal.specs.Geometry.{Geometry}
 use Rattle.journal.specs.Layout.{slot_at, described_in, described_at, first_data, is_data}
-use Rattle.journal.specs.Log.{slot_address, slot_entry, entries, entries_from, sum_of, all_data}
+use Rattle.journal.specs.Log.{slot_address, slot_entry, entries, entries_from, group_count, group_entries, sum_of, all_data}
 
 -- ---- tests
 
@@ -57,11 +58,30 @@ pub sum_listed : (s r : Bor (List ℕ)) (h i a b : ℕ) → a ≡ (entry_at s.no
 sum_listed s r h i a b p q e = rw (p, listed_block r s i q) at e
 
 -- m entries in memory that there is room for are whole
-pub length_from : (work : List ℕ) (from m : ℕ) → length (entries_from work from m) ≡ m
-length_from work from m = length-up_to (λ i. entry_at work (from + i)) m
-
 pub from_whole : (work : List ℕ) (from m : ℕ) → entry_bytes * (from + m) ≤ length work → All Whole (entries_from work from m)
 from_whole work from m h = all-up_to Whole (λ i. entry_at work (from + i)) m (λ i p. length_block work (from + i) (omega arith))
+
+-- a group's entries
+pub length-group_entries : (group : List ℕ) → length (group_entries group) ≡ group_count group
+length-group_entries group = length-up_to (entry_at group) (group_count group)
+
+pub group_whole : (group : List ℕ) → All Whole (group_entries group)
+group_whole group = all-up_to Whole (entry_at group) (group_count group) (λ i p. length_block group i (omega arith))
+
+-- m entries in memory, cut out as a group
+pub group_part : (work : List ℕ) (from m : ℕ) → entry_bytes * (from + m) ≤ length work
+    → group_entries (take (entry_bytes * m) (drop (entry_bytes * from) work)) ≡ entries_from work from m
+group_part work from m h =
+    ap (up_to (entry_at part)) count ∙ ext_up_to (entry_at part) (λ i. entry_at work (from + i)) m (entry_of_part work from m)
+  where
+    part : List ℕ
+    part = take (entry_bytes * m) (drop (entry_bytes * from) work)
+
+    size : length part ≡ entry_bytes * m
+    size = length-take-le (entry_bytes * m) (drop (entry_bytes * from) work) (rw (length-drop) (omega arith))
+
+    count : group_count part ≡ m
+    count = omega (arith, size)
 
 -- bytes stored over all of a run
 pub sets_whole : (v l : List ℕ) → length v ≡ length l → sets l 0 v ≡ v

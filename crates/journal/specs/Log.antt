@@ -1,9 +1,9 @@
 -- The log on the card: its entries, their sum, and when a list is good.
-use Rattle.std.specs.Prelude.{ℕ, ◌+◌, Bool, true, ◌&&◌, List, [], ◌∷◌, eqb}
+use Rattle.std.specs.Prelude.{ℕ, ◌+◌, ◌/◌, Bool, true, ◌&&◌, List, [], ◌∷◌, eqb, length}
 use Rattle.cells.specs.Cell.{cell}
 use Rattle.cells.specs.Little.{num}
 use Rattle.cells.specs.Upto.{up_to}
-use Rattle.cells.specs.Entry.{Entry, flat, entry_at}
+use Rattle.cells.specs.Entry.{entry_bytes, Entry, flat, entry_at}
 use Rattle.fnv.specs.Fnv.{start, sum_from}
 use Rattle.card.specs.Card.{block_at}
 use Rattle.journal.specs.declared.header.Header.{Header}
@@ -21,6 +21,13 @@ slot_address s i = num (cell 4 (block_at s (described_in i)) (described_at i))
 -- m entries of a run of them in memory, from place `from` on
 abbrev pub entries_from : List ℕ → ℕ → ℕ → List Entry
 entries_from work from m = up_to (λ i. entry_at work (from + i)) m
+
+-- how many entries a group's bytes are, one behind the other, and which
+abbrev pub group_count : List ℕ → ℕ
+group_count group = length group / entry_bytes
+
+abbrev pub group_entries : List ℕ → List Entry
+group_entries group = up_to (entry_at group) (group_count group)
 
 -- "An entry is its 4 address bytes, then its 512 bytes; a list's sum runs over its entries in slot order." It continues from h
 abbrev pub sum_of : ℕ → List Entry → ℕ

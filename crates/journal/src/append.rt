@@ -1,4 +1,4 @@
-// Appending a group of entries in work memory to the log: log blocks, the descriptor, a header, one flush.
+// Appending a group of entries to the log: log blocks, the descriptor, a header, one flush.
 ghost use Rattle.std.specs.Prelude.{◌≡◌, List, [], ◌∷◌, ◌++◌, ℕ, ◌+◌, ◌*◌, ◌≤◌, ◌<◌, leb, length, is_ok};
 ghost use Rattle.std.proofs.lemmas.List.Edits.{sets};
 ghost use Rattle.cells.specs.Entry.{block_bytes, entry_bytes};
@@ -7,7 +7,7 @@ ghost use Rattle.card.specs.CodeQueue.{card_of, left_queue, Below};
 ghost use Rattle.journal.specs.Geometry.{trap};
 ghost use Rattle.journal.specs.Layout.{descriptor_at, first_data};
 ghost use Rattle.journal.specs.Header.{header};
-ghost use Rattle.journal.specs.Log.{entries_from, sum_of};
+ghost use Rattle.journal.specs.Log.{group_count, group_entries, sum_of};
 ghost use Rattle.journal.specs.Orders as Orders;
 ghost use Rattle.journal.specs.Orders.{slot_writes, address_bytes, append_orders};
 
@@ -18,7 +18,7 @@ use card::queue::{PowerLost, Queue};
 use card::settled::read;
 use cells::bytes::{copy, zero};
 use cells::number::write_u32;
-use cells::{ADDRESS, BLOCK, entry};
+use cells::{ADDRESS, BLOCK, ENTRY, entry};
 
 // The log as it stands: the card's blocks, how many entries, their sum, and the save number of the header to come.
 #[derive(Clone, Copy, PartialEq, Eq, Debug)]
@@ -38,76 +38,57 @@ impl Log {
     }
 }
 
-// Entries in work memory: count of them, from place `from` on.
-#[derive(Clone, Copy, PartialEq, Eq, Debug)]
-pub struct Group {
-    pub from: u32,
-    pub count: u32,
+// How many entries a group is. Its bytes are its entries, one behind the other.
+fn count(group: &[u8]) -> usize
+    ensures { result ≡ group_count group.now }
+{
+    group.len() / ENTRY
 }
 
 // The sum, from h on, of a group.
-fn sum_group(h: u64, work: &[u8], group: Group) -> u64
-    requires { entry_bytes * (group.from + group.count) ≤ length work.now }
-    ensures { result ≡ sum_of h (entries_from work.now group.from group.count) }
+fn sum_group(h: u64, group: &[u8]) -> u64
+    ensures { result ≡ sum_of h (group_entries group.now) }
 {
-    let from = group.from as usize;
-    let count = group.count as usize;
-    (0..count).fold(h, |sum, i| {
-        sum_entry(
-            sum,
-            entry::address(work, from + i),
-            entry::block(work, from + i),
-        )
+    (0..count(group)).fold(h, |sum, i| {
+        sum_entry(sum, entry::address(group, i), entry::block(group, i))
     })
 }
 
 // Writes a group's addresses into a descriptor, from byte `at` on.
-fn list_addresses(block: &mut [u8], at: usize, work: &[u8], group: Group)
-    requires count_in_bounds { at + 4 * group.count ≤ length block.old }
-    requires count_in_bounds_2 { entry_bytes * (group.from + group.count) ≤ length work.now }
-    ensures { block.new ≡ sets block.old at (address_bytes (entries_from work.now group.from group.count)) }
+fn list_addresses(block: &mut [u8], at: usize, group: &[u8])
+    requires count_in_bounds { at + 4 * group_count group.now ≤ length block.old }
+    ensures { block.new ≡ sets block.old at (address_bytes (group_entries group.now)) }
 {
-    let from = group.from as usize;
-    let count = group.count as usize;
-    for i in 0..count {
-        write_u32(block, at + ADDRESS * i, entry::address(work, from + i));
+    for i in 0..count(group) {
+        write_u32(block, at + ADDRESS * i, entry::address(group, i));
     }
 }
 
 // Fills a block with the descriptor: n addresses of the old one, then a group's, then zeros.
-fn describe(block: &mut [u8], old: &[u8], n: u32, work: &[u8], group: Group)
+fn describe(block: &mut [u8], old: &[u8], n: u32, group: &[u8])
     requires block_len { length block.old ≡ block_bytes }
     requires len { length old.now ≡ block_bytes }
-    requires count_bound { n + group.count ≤ trap.slots }
-    requires count_in_bounds { entry_bytes * (group.from + group.count) ≤ length work.now }
-    ensures { block.new ≡ Orders.describe old.now n (entries_from work.now group.from group.count) }
+    requires count_bound { n + group_count group.now ≤ trap.slots }
+    ensures { block.new ≡ Orders.describe old.now n (group_entries group.now) }
 {
     zero(block);
     let at = ADDRESS * (n as usize);
     copy(&mut block[..at], &old[..at]);
-    list_addresses(block, at, work, group);
+    list_addresses(block, at, group);
 }
 
 // The writes of a group's blocks, to the slots from n on.
-fn write_slots(
-    queue: Queue,
-    waiting: &mut [u8],
-    work: &[u8],
-    group: Group,
-    n: u32,
-) -> Result<Queue, PowerLost>
-    requires count_bound { n + group.count ≤ trap.slots }
-    requires count_bound_2 { queue.waiting + group.count ≤ most_places }
-    requires count_in_bounds { entry_bytes * (queue.waiting + group.count) ≤ length waiting.old }
-    requires count_in_bounds_2 { entry_bytes * (group.from + group.count) ≤ length work.now }
-    ensures happened_value { is_ok result ≡ leb group.count queue.power }
-    ensures by_index { (s : List ℕ) → card_of s waiting.new (left_queue result) ≡ run (slot_writes trap n (entries_from work.now group.from group.count)) (card_of s waiting.old queue) }
-    ensures waiting_bound { (left_queue result).waiting ≤ queue.waiting + group.count }
+fn write_slots(queue: Queue, waiting: &mut [u8], group: &[u8], n: u32) -> Result<Queue, PowerLost>
+    requires count_bound { n + group_count group.now ≤ trap.slots }
+    requires count_bound_2 { queue.waiting + group_count group.now ≤ most_places }
+    requires count_in_bounds { entry_bytes * (queue.waiting + group_count group.now) ≤ length waiting.old }
+    ensures happened_value { is_ok result ≡ leb (group_count group.now) queue.power }
+    ensures by_index { (s : List ℕ) → card_of s waiting.new (left_queue result) ≡ run (slot_writes trap n (group_entries group.now)) (card_of s waiting.old queue) }
+    ensures waiting_bound { (left_queue result).waiting ≤ queue.waiting + group_count group.now }
 {
-    let from = group.from as usize;
     let mut q = queue;
-    for i in 0..group.count {
-        let block = entry::block(work, from + (i as usize));
+    for i in 0..count(group) as u32 {
+        let block = entry::block(group, i as usize);
         q = q.write(waiting, FIRST_SLOT + (n + i), block)?;
     }
     Ok(q)
@@ -118,22 +99,20 @@ fn write_list(
     queue: Queue,
     settled: &[u8],
     waiting: &mut [u8],
-    work: &[u8],
-    group: Group,
+    group: &[u8],
     n: u32,
 ) -> Result<Queue, PowerLost>
     requires trap_bound { first_data trap < blocks_in settled.now }
-    requires count_bound { n + group.count ≤ trap.slots }
-    requires count_bound_2 { queue.waiting + group.count + 1 ≤ most_places }
-    requires count_in_bounds { entry_bytes * (queue.waiting + group.count + 1) ≤ length waiting.old }
-    requires count_in_bounds_2 { entry_bytes * (group.from + group.count) ≤ length work.now }
-    ensures happened_value { is_ok result ≡ leb (group.count + 1) queue.power }
-    ensures by_index { (s : List ℕ) → card_of s waiting.new (left_queue result) ≡ run (slot_writes trap n (entries_from work.now group.from group.count) ++ (write (record { address = descriptor_at; block = Orders.describe (block_at settled.now descriptor_at) n (entries_from work.now group.from group.count) }) ∷ [])) (card_of s waiting.old queue) }
-    ensures waiting_bound { (left_queue result).waiting ≤ queue.waiting + group.count + 1 }
+    requires count_bound { n + group_count group.now ≤ trap.slots }
+    requires count_bound_2 { queue.waiting + group_count group.now + 1 ≤ most_places }
+    requires count_in_bounds { entry_bytes * (queue.waiting + group_count group.now + 1) ≤ length waiting.old }
+    ensures happened_value { is_ok result ≡ leb (group_count group.now + 1) queue.power }
+    ensures by_index { (s : List ℕ) → card_of s waiting.new (left_queue result) ≡ run (slot_writes trap n (group_entries group.now) ++ (write (record { address = descriptor_at; block = Orders.describe (block_at settled.now descriptor_at) n (group_entries group.now) }) ∷ [])) (card_of s waiting.old queue) }
+    ensures waiting_bound { (left_queue result).waiting ≤ queue.waiting + group_count group.now + 1 }
 {
-    let written = write_slots(queue, waiting, work, group, n)?;
+    let written = write_slots(queue, waiting, group, n)?;
     let mut block = [0u8; BLOCK];
-    describe(&mut block, read(settled, DESCRIPTOR_AT), n, work, group);
+    describe(&mut block, read(settled, DESCRIPTOR_AT), n, group);
     written.write(waiting, DESCRIPTOR_AT, &block)
 }
 
@@ -143,23 +122,21 @@ fn give_orders(
     queue: Queue,
     settled: &mut [u8],
     waiting: &mut [u8],
-    work: &[u8],
-    group: Group,
+    group: &[u8],
     log: Log,
     sum: u64,
 ) -> Result<Queue, PowerLost>
     requires trap_bound { first_data trap < blocks_in settled.old }
-    requires count_bound { log.count + group.count ≤ trap.slots }
-    requires count_bound_2 { queue.waiting + group.count + 2 ≤ most_places }
-    requires count_in_bounds { entry_bytes * (queue.waiting + group.count + 2) ≤ length waiting.old }
+    requires count_bound { log.count + group_count group.now ≤ trap.slots }
+    requires count_bound_2 { queue.waiting + group_count group.now + 2 ≤ most_places }
+    requires count_in_bounds { entry_bytes * (queue.waiting + group_count group.now + 2) ≤ length waiting.old }
     requires below { Below (blocks_in settled.old) waiting.old queue.waiting }
-    requires count_in_bounds_2 { entry_bytes * (group.from + group.count) ≤ length work.now }
-    requires sum_value { sum ≡ sum_of log.sum (entries_from work.now group.from group.count) }
-    ensures happened_value { is_ok result ≡ leb (group.count + 3) queue.power }
-    ensures queue_after { card_of settled.new waiting.new (left_queue result) ≡ run (append_orders trap log.blocks settled.old log.count log.sum log.save (entries_from work.now group.from group.count)) (card_of settled.old waiting.old queue) }
+    requires sum_value { sum ≡ sum_of log.sum (group_entries group.now) }
+    ensures happened_value { is_ok result ≡ leb (group_count group.now + 3) queue.power }
+    ensures queue_after { card_of settled.new waiting.new (left_queue result) ≡ run (append_orders trap log.blocks settled.old log.count log.sum log.save (group_entries group.now)) (card_of settled.old waiting.old queue) }
 {
-    let listed = write_list(queue, settled, waiting, work, group, log.count)?;
-    let h = log.header(log.count + group.count, sum);
+    let listed = write_list(queue, settled, waiting, group, log.count)?;
+    let h = log.header(log.count + count(group) as u32, sum);
     h.order(listed, settled, waiting)
 }
 
@@ -168,23 +145,18 @@ pub fn append(
     queue: Queue,
     settled: &mut [u8],
     waiting: &mut [u8],
-    work: &[u8],
-    group: Group,
+    group: &[u8],
     log: Log,
 ) -> (u64, Result<Queue, PowerLost>)
     requires trap_bound { first_data trap < blocks_in settled.old }
-    requires count_bound { log.count + group.count ≤ trap.slots }
-    requires count_bound_2 { queue.waiting + group.count + 2 ≤ most_places }
-    requires count_in_bounds { entry_bytes * (queue.waiting + group.count + 2) ≤ length waiting.old }
+    requires count_bound { log.count + group_count group.now ≤ trap.slots }
+    requires count_bound_2 { queue.waiting + group_count group.now + 2 ≤ most_places }
+    requires count_in_bounds { entry_bytes * (queue.waiting + group_count group.now + 2) ≤ length waiting.old }
     requires below { Below (blocks_in settled.old) waiting.old queue.waiting }
-    requires count_in_bounds_2 { entry_bytes * (group.from + group.count) ≤ length work.now }
-    ensures done_value { is_ok result.1 ≡ leb (group.count + 3) queue.power }
-    ensures queue_after { card_of settled.new waiting.new (left_queue result.1) ≡ run (append_orders trap log.blocks settled.old log.count log.sum log.save (entries_from work.now group.from group.count)) (card_of settled.old waiting.old queue) }
-    ensures sum_value { result.0 ≡ sum_of log.sum (entries_from work.now group.from group.count) }
+    ensures done_value { is_ok result.1 ≡ leb (group_count group.now + 3) queue.power }
+    ensures queue_after { card_of settled.new waiting.new (left_queue result.1) ≡ run (append_orders trap log.blocks settled.old log.count log.sum log.save (group_entries group.now)) (card_of settled.old waiting.old queue) }
+    ensures sum_value { result.0 ≡ sum_of log.sum (group_entries group.now) }
 {
-    let sum = sum_group(log.sum, work, group);
-    (
-        sum,
-        give_orders(queue, settled, waiting, work, group, log, sum),
-    )
+    let sum = sum_group(log.sum, group);
+    (sum, give_orders(queue, settled, waiting, group, log, sum))
 }

@@ -17,8 +17,9 @@ ghost use Rattle.store.specs.Saves.{carried, appending, syncing, sync_call};
 use crate::lists::GROUP;
 use crate::record::{DOWN, Record};
 use crate::saved::{Saved, Stopped};
+use cells::ENTRY;
 use journal::SLOTS;
-use journal::append::{Group, Log, append};
+use journal::append::{Log, append};
 use journal::header::LAST_SAVE;
 use refusals::Refusal;
 
@@ -109,11 +110,8 @@ impl Record {
             sum: self.sum,
             save,
         };
-        let group = Group {
-            from: GROUP as u32,
-            count: self.grouped,
-        };
-        let (sum, ordered) = append(self.queue(), settled, waiting, work, group, log);
+        let group = &work[ENTRY * GROUP..ENTRY * (GROUP + self.grouped as usize)];
+        let (sum, ordered) = append(self.queue(), settled, waiting, group, log);
         let done = self
             .with_save(save)
             .with_log(self.logged + self.grouped, sum)

@@ -87,3 +87,32 @@ address_lt s i b h =
     let small : num (take 4 (cell entry_bytes s i)) < 256 ^ length (take 4 (cell entry_bytes s i)) =
     num_lt (take 4 (cell entry_bytes s i)) (bytes_take 4 (cell entry_bytes s i) (bytes-cell entry_bytes s i b)) in
     rw four at small
+
+-- ---- a part of a run
+
+-- m entries from place `from` on, as a run of their own
+pub entry_of_part : (s : List ℕ) (from m i : ℕ) → i < m → entry_at (take (entry_bytes * m) (drop (entry_bytes * from) s)) i ≡ entry_at s (from + i)
+unfolding entry_at
+entry_of_part s from m i h = entry_eq (ap (λ (c : List ℕ). num (take 4 c)) same) (ap (drop 4) same)
+  where
+    rest : ℕ
+    rest = entry_bytes * m - entry_bytes * i
+
+    l : List ℕ
+    l = drop (entry_bytes * from) s
+
+    at : entry_bytes * from + entry_bytes * i ≡ entry_bytes * (from + i)
+    at = omega arith
+
+    all : entry_bytes * m ≡ entry_bytes * i + rest
+    all = omega arith
+
+    same : cell entry_bytes (take (entry_bytes * m) l) i ≡ cell entry_bytes s (from + i)
+    same =
+        cell_part entry_bytes (take (entry_bytes * m) l) i
+        ∙ ap (λ (n : ℕ). take entry_bytes (drop (entry_bytes * i) (take n l))) all
+        ∙ ap (take entry_bytes) (drop-take (entry_bytes * i) rest l)
+        ∙ take-take entry_bytes rest (drop (entry_bytes * i) l) (omega arith)
+        ∙ ap (take entry_bytes) (drop-drop (entry_bytes * i) (entry_bytes * from) s)
+        ∙ ap (λ (n : ℕ). take entry_bytes (drop n s)) at
+        ∙ sym (cell_part entry_bytes s (from + i))

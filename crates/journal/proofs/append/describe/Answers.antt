@@ -6,8 +6,8 @@ use lib.ListN.{length, replicate, length-take}
 use Rattle.cells.specs.Entry.{block_bytes, Entry}
 use Rattle.journal.specs.Geometry.{trap}
 use Rattle.journal.specs.Geometry.Laws.{trap-descriptors}
-use Rattle.journal.specs.Log.{entries_from}
-use Rattle.journal.proofs.Logs.{length_from}
+use Rattle.journal.specs.Log.{group_count, group_entries}
+use Rattle.journal.proofs.Logs.{length-group_entries}
 use Rattle.journal.proofs.Descriptors.{described}
 use Rattle.journal.proofs.append.describe.Goals as goal
 
@@ -28,7 +28,7 @@ returns c =
     let a = c.args in
     let size : length a.block.now ≡ block_bytes = c.requires.block_len in
     let zeros : c.zero.new.s ≡ replicate block_bytes 0 = rw size at c.zero.ensures in
-    let es : List Entry = entries_from a.work.now a.group.from a.group.count in
-    let count : length es ≡ a.group.count = length_from a.work.now a.group.from a.group.count in
+    let es : List Entry = group_entries a.group.now in
+    let count : length es ≡ group_count a.group.now = length-group_entries a.group.now in
     c.list_addresses.ensures
     ∙ rw c.copy.ensures (described a.old.now c.zero.new.s a.n es (omega (arith, trap.described, trap-descriptors)) zeros (omega (arith, trap.described, trap-descriptors)))

@@ -1,6 +1,6 @@
 -- `journal::append::list_addresses` meets its contract.
-use Rattle.std.proofs.Common.{ℕ, ◌+◌, refl, ◌∙◌}
-use Rattle.cells.specs.Entry.{Entry, entry_at}
+use Rattle.std.proofs.Common.{refl, ◌∙◌}
+use Rattle.cells.specs.Entry.{entry_at}
 use Rattle.journal.specs.Orders.{address_bytes}
 use Rattle.journal.proofs.Descriptors.{addresses_more}
 use Rattle.journal.proofs.append.list_addresses.Goals as goal
@@ -13,5 +13,4 @@ pub loop-i-preserved : goal.loop-i-preserved
 loop-i-preserved c =
     let l = c.loop-i in
     let a = c.args in
-    let f : ℕ → Entry = λ i. entry_at a.work.now (a.group.from + i) in
-    c.write_u32.ensures ∙ rw l.invariant (addresses_more a.block.now a.at f l.i c.address.result c.address.ensures)
+    c.write_u32.ensures ∙ rw l.invariant (addresses_more a.block.now a.at (entry_at a.group.now) l.i c.address.result c.address.ensures)

@@ -7,6 +7,7 @@ use Rattle.card.specs.Card.{Order, run}
 use Rattle.card.specs.CodeQueue.{card_of}
 use Rattle.journal.specs.Geometry.{trap}
 use Rattle.journal.specs.Geometry.Laws.{trap-first}
+use Rattle.journal.specs.Log.{group_count}
 use Rattle.journal.proofs.Logs.{listed_block}
 use Rattle.journal.proofs.OrderLists.{slot_writes-up_to}
 use Rattle.journal.proofs.Phases.{rowed_orders, written_none, written_more, written_stop}
@@ -25,29 +26,29 @@ overflow_add-n-in-loop-i c = omega (arith, trap.addressed)
 pub write-requires-clause-block_len : goal.write-requires-clause-block_len
 write-requires-clause-block_len c =
     let a = c.args in
-    let k = a.group.from + c.loop-i.i in
-    ap length (listed_block c.block-block.result a.work k c.block-block.ensures) ∙ length_block a.work.now k (omega arith)
+    let k = c.loop-i.i in
+    ap length (listed_block c.block-block.result a.group k c.block-block.ensures) ∙ length_block a.group.now k (omega arith)
 
 pub returns-in_err-q : goal.returns-in_err-q
 returns-in_err-q c =
     let l = c.loop-i in
     let a = c.args in
-    let f = row a.work.now a.n a.group.from in
+    let f = row a.group.now a.n in
     let sent : ◌≡◌ {A = Entry} (record { address = 2 + (a.n + l.i); block = c.block-block.result.now }) (f l.i) =
-    entry_eq (ap (λ (k : ℕ). k + (a.n + l.i)) trap-first) (listed_block c.block-block.result a.work (a.group.from + l.i) c.block-block.ensures) in
+    entry_eq (ap (λ (k : ℕ). k + (a.n + l.i)) trap-first) (listed_block c.block-block.result a.group l.i c.block-block.ensures) in
     let w = c.in_err-q.ensures in
     let same : c.from_residual.result ≡ Err c.in_err-q.field-0.0 = search rules in
-    let all = rowed_orders f a.group.count a.waiting.now a.queue c.write.new.waiting (Err c.in_err-q.field-0.0) _ (slot_writes-up_to trap a.n (λ k. entry_at a.work.now (a.group.from + k)) a.group.count)
-    (written_stop f l.i a.waiting.now a.queue l.waiting l.q l.invariant _ sent c.write.new.waiting (Err c.in_err-q.field-0.0) (w.happened_value, (w.by_index, w.waiting_bound)) a.group.count (omega arith) refl) in
+    let all = rowed_orders f (group_count a.group.now) a.waiting.now a.queue c.write.new.waiting (Err c.in_err-q.field-0.0) _ (slot_writes-up_to trap a.n (entry_at a.group.now) (group_count a.group.now))
+    (written_stop f l.i a.waiting.now a.queue l.waiting l.q l.invariant _ sent c.write.new.waiting (Err c.in_err-q.field-0.0) (w.happened_value, (w.by_index, w.waiting_bound)) (group_count a.group.now) (omega arith) refl) in
     rw same (record { happened_value = all.0; by_index = all.1.0; waiting_bound = all.1.1 })
 
 pub loop-i-preserved : goal.loop-i-preserved
 loop-i-preserved c =
     let l = c.loop-i in
     let a = c.args in
-    let f = row a.work.now a.n a.group.from in
+    let f = row a.group.now a.n in
     let sent : ◌≡◌ {A = Entry} (record { address = 2 + (a.n + l.i); block = c.block-block.result.now }) (f l.i) =
-    entry_eq (ap (λ (k : ℕ). k + (a.n + l.i)) trap-first) (listed_block c.block-block.result a.work (a.group.from + l.i) c.block-block.ensures) in
+    entry_eq (ap (λ (k : ℕ). k + (a.n + l.i)) trap-first) (listed_block c.block-block.result a.group l.i c.block-block.ensures) in
     let w = c.in_ok-q.ensures in
     written_more f l.i a.waiting.now a.queue l.waiting l.q l.invariant _ sent c.write.new.waiting (Ok c.in_ok-q.q) (w.happened_value, (w.by_index, w.waiting_bound)) (omega arith) refl
 
@@ -55,5 +56,5 @@ pub returns-clause-by_index : goal.returns-clause-by_index
 returns-clause-by_index c =
     let l = c.loop-i in
     let a = c.args in
-    let all : l.i ≡ a.group.count = omega arith in
-    λ s. (rw all at l.invariant.card s) ∙ ap (λ (os : List Order). run os (card_of s a.waiting.now a.queue)) (sym (slot_writes-up_to trap a.n (λ k. entry_at a.work.now (a.group.from + k)) a.group.count))
+    let all : l.i ≡ group_count a.group.now = omega arith in
+    λ s. (rw all at l.invariant.card s) ∙ ap (λ (os : List Order). run os (card_of s a.waiting.now a.queue)) (sym (slot_writes-up_to trap a.n (entry_at a.group.now) (group_count a.group.now)))

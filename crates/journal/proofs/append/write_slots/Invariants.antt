@@ -8,8 +8,8 @@ use Rattle.journal.proofs.Phases.{WrittenSoFar}
 use Rattle.journal.proofs.append.write_slots.Given as goal
 
 -- the k-th entry of the group, on its way to its slot
-abbrev pub row : List ℕ → ℕ → ℕ → ℕ → Entry
-row work n from k = slot_block trap (n + k) (entry_at work (from + k))
+abbrev pub row : List ℕ → ℕ → ℕ → Entry
+row group n k = slot_block trap (n + k) (entry_at group k)
 
 abbrev pub invariant-loop-i : goal.invariant-loop-i
-invariant-loop-i l = WrittenSoFar (row l.work l.n l.from) l.i l.initial.waiting l.initial.q l.waiting l.q
+invariant-loop-i l = WrittenSoFar (row l.group l.n) l.i l.initial.waiting l.initial.q l.waiting l.q
