@@ -43,27 +43,26 @@ pub fn chain(list: &[u8], last: &mut [u8], before: &mut [u8])
 }
 
 // The k-th address read is a: at each place of the list that has it, k is the last met.
-pub fn mark(list: &[u8], last: &[u8], before: &[u8], k: u32, a: u32, met: &mut [u32])
+pub fn mark(list: &[u8], last: &[u8], before: &[u8], k: u32, a: u32, met: &mut [Option<u32>])
     requires last_len { length last.now ≡ buckets }
     requires list_in_bounds { (wanted_count list.now ≤ length before.now) × (wanted_count list.now ≤ length met.old) }
     requires chained { Chained list.now last.now before.now (wanted_count list.now) }
     requires k_lt_slots { k < trap.slots }
     ensures { (l : List ℕ) → length l ≡ k → Met list.now l met.old → Met list.now (l ++ (a ∷ [])) met.new }
 {
-    let place = k + 1;
     let mut i = last[a as usize % BUCKETS] as usize;
     // Stays a `while`: each place leads to the one before it in its bucket, so no index is counted.
     while 0 < i {
         i -= 1;
         if a == wanted(list, i) {
-            met[i] = place;
+            met[i] = Some(k);
         }
         i = before[i] as usize;
     }
 }
 
 // Walks the descriptor once, its first n slots, ascending: the last slot of each wanted address. Returns the slots read.
-pub fn walk(settled: &[u8], n: u32, list: &[u8], last: &[u8], before: &[u8], met: &mut [u32]) -> u32
+pub fn walk(settled: &[u8], n: u32, list: &[u8], last: &[u8], before: &[u8], met: &mut [Option<u32>]) -> u32
     requires trap_bound { first_data trap < blocks_in settled.now }
     requires n_le_slots { n ≤ trap.slots }
     requires last_len { length last.now ≡ buckets }

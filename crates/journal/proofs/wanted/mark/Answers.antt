@@ -1,6 +1,7 @@
 -- `journal::wanted::mark` meets its contract: from place i on all were compared with the address.
 use Rattle.std.proofs.Common.{rules, ◌≡◌, ◌≤◌, ◌<◌, ◌+◌, ◌-◌, refl, sym, ◌∙◌, arith, length, get_or}
 use borrow.Author.Tests.{eq-eqb, ne_eqb}
+use Rattle.std.specs.Prelude.{Some, None}
 use lib.ListN.{set, length-set}
 use lib.Seq.{get_or-set_same, get_or-set_other}
 use Rattle.journal.specs.Geometry.{trap}
@@ -8,12 +9,8 @@ use Rattle.journal.proofs.Chains.{before_le, compared-last, compared_on, compare
 use Rattle.journal.proofs.wanted.mark.Goals.{then-a-wanted, else-a-wanted}
 use Rattle.journal.proofs.wanted.mark.Goals as goal
 
-pub overflow_add-place : goal.overflow_add-place
-unfolding trap
-overflow_add-place c = search rules
-
 pub loop-i-init : goal.loop-i-init
-loop-i-init c = let a = c.args in compared-last a.list.now a.last.now a.before.now a.a (a.k + 1) a.met.now c.requires.chained _ refl
+loop-i-init c = let a = c.args in compared-last a.list.now a.last.now a.before.now a.a a.k a.met.now c.requires.chained _ refl
 
 pub loop-i-preserved : goal.loop-i-preserved
 loop-i-preserved c =
@@ -21,9 +18,9 @@ loop-i-preserved c =
     let l = c.loop-i in
     let p = l.i - 1 in
     let here : p < length l.met = omega (arith, l.invariant.inside, l.invariant.size) in
-    let on = compared_on a.list.now a.last.now a.before.now a.a (a.k + 1) a.met.now c.requires.chained l.met in
+    let on = compared_on a.list.now a.last.now a.before.now a.a a.k a.met.now c.requires.chained l.met in
     elim c.if-a-wanted.branch [
-      | then-a-wanted w ↦ rw w.met-is (on (set l.met p (a.k + 1)) l.i _ (omega arith) l.invariant (length-set l.met p (a.k + 1)) (λ j h. get_or-set_other l.met p j (a.k + 1) 0 h) (get_or-set_same l.met p (a.k + 1) 0 here ∙ rw (eq-eqb _ _ (w.if-a-wanted.true ∙ c.wanted.ensures))) refl)
+      | then-a-wanted w ↦ rw w.met-is (on (set l.met p (Some a.k)) l.i _ (omega arith) l.invariant (length-set l.met p (Some a.k)) (λ j h. get_or-set_other l.met p j (Some a.k) None h) (get_or-set_same l.met p (Some a.k) None here ∙ rw (eq-eqb _ _ (w.if-a-wanted.true ∙ c.wanted.ensures))) refl)
       | else-a-wanted w ↦ rw w.met-is (on l.met l.i _ (omega arith) l.invariant refl (λ j h. refl) (rw (ne_eqb _ _ (λ e. w.if-a-wanted.false (e ∙ sym c.wanted.ensures)))) refl)
     ]
 

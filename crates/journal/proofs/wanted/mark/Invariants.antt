@@ -3,7 +3,7 @@ use Rattle.journal.proofs.Chains.{Compared}
 use Rattle.journal.proofs.wanted.mark.Given as goal
 
 abbrev pub invariant-loop-i : goal.invariant-loop-i
-invariant-loop-i l = Compared l.list l.a l.place l.initial.met l.met l.i
+invariant-loop-i l = Compared l.list l.a l.k l.initial.met l.met l.i
 
 abbrev pub decreases-loop-i : goal.decreases-loop-i
 decreases-loop-i l = l.i
