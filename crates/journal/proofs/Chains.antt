@@ -44,28 +44,6 @@ module _ (f : ℕ → ℕ) (b n : ℕ) where
       go (Some k) m h less = m.later j (omega arith) less
       go None m h less = m j less
 
--- the lookup that a number stands for
-pub numbered_at : (r : Option ℕ) (n : ℕ) → n ≡ numbered r → n ≢ 0 → r ≡ Some (n - 1)
-numbered_at (Some k) n e h = let q : n - 1 ≡ k = omega arith in rw q
-numbered_at None n e h = absurd (h e)
-
-pub numbered_absent : (r : Option ℕ) (n : ℕ) → n ≡ numbered r → n ≡ 0 → r ≡ None
-numbered_absent (Some k) n e h = absurd (omega arith)
-numbered_absent None n e h = refl
-
--- a number as a place, and back
-abbrev pub found_as : ℕ → Option ℕ
-found_as zero = None
-found_as (suc k) = Some k
-
-pub numbered-found : (n : ℕ) → n ≡ numbered (found_as n)
-numbered-found zero = refl
-numbered-found (suc k) = sym (add-one k)
-
-pub found-numbered : (r : Option ℕ) → found_as (numbered r) ≡ r
-found-numbered (Some k) = rw (add-one)
-found-numbered None = refl
-
 -- one place more
 pub numbered_more : (f : ℕ → ℕ) (b n : ℕ) → numbered (last_of f b (suc n)) ≡ cond (eqb (f n) b) (n + 1) (numbered (last_of f b n))
 unfolding last_of

@@ -62,7 +62,14 @@ pub fn mark(list: &[u8], last: &[u8], before: &[u8], k: u32, a: u32, met: &mut [
 }
 
 // Walks the descriptor once, its first n slots, ascending: the last slot of each wanted address. Returns the slots read.
-pub fn walk(settled: &[u8], n: u32, list: &[u8], last: &[u8], before: &[u8], met: &mut [Option<u32>]) -> u32
+pub fn walk(
+    settled: &[u8],
+    n: u32,
+    list: &[u8],
+    last: &[u8],
+    before: &[u8],
+    met: &mut [Option<u32>],
+) -> u32
     requires trap_bound { first_data trap < blocks_in settled.now }
     requires n_le_slots { n ≤ trap.slots }
     requires last_len { length last.now ≡ buckets }

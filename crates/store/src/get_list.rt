@@ -1,12 +1,12 @@
 // get_list: the blocks of a list of addresses, each as a get finds it, copied out in the order listed. Behind the checks log, waiting
 // writes, group and open are each gone through once.
-ghost use Rattle.std.specs.Prelude.{◌≡◌, Option, not, List, [], ℕ, ◌*◌, ◌≤◌, ◌<◌, length};
+ghost use Rattle.std.specs.Prelude.{◌≡◌, not, List, [], ℕ, ◌+◌, ◌*◌, ◌≤◌, ◌<◌, length};
 ghost use Rattle.cells.specs.Entry.{block_bytes, entry_bytes};
 ghost use Rattle.card.specs.Card.{blocks_in};
 ghost use Rattle.journal.specs.Geometry.{trap};
 ghost use Rattle.journal.specs.Layout.{first_data, is_data};
 ghost use Rattle.journal.specs.Wanted.{wanted_count, wanted_at, walked};
-ghost use Rattle.journal.specs.CodeWanted.{numbered, buckets, Chained, Met};
+ghost use Rattle.journal.specs.CodeWanted.{buckets, Chained, Met};
 ghost use Rattle.refusals.specs.Numbers.{answer};
 ghost use Rattle.store.specs.declared.record.Record as Held;
 ghost use Rattle.store.specs.CodeState.{state_of};
@@ -42,54 +42,58 @@ fn stray(list: &[u8], size: u32) -> bool
     (0..count(list)).any(|i| !is_data(size, wanted(list, i)))
 }
 
-// Copies the block of an address outside open, group and log: where it was met among the waiting writes, as a number above 0; else from
-// home.
-fn copy_unlogged(settled: &[u8], waiting: &[u8], waited: u32, address: u32, block: &mut [u8])
-    requires waited_in_bounds { (entry_bytes * waited ≤ length waiting.now) × (waited ≤ trap.direct) }
+// Copies the block of an address outside open, group and log: where it was met among the waiting writes; else from home.
+fn copy_unlogged(
+    settled: &[u8],
+    waiting: &[u8],
+    waited: Option<u32>,
+    address: u32,
+    block: &mut [u8],
+)
+    requires waited_in_bounds { (i : ℕ) → waited ≡ Some i → (entry_bytes * (i + 1) ≤ length waiting.now) × (i < trap.direct) }
     requires address_bound { address < blocks_in settled.now }
     requires block_len { length block.old ≡ block_bytes }
-    ensures { (w : Option ℕ) (r : Held.Record) (k : List ℕ) → waited ≡ numbered w → block.new ≡ bytes_at (waiting_place w (home_place address)) (state_of r settled.now waiting.now k) }
+    ensures { (r : Held.Record) (k : List ℕ) → block.new ≡ bytes_at (waiting_place waited (home_place address)) (state_of r settled.now waiting.now k) }
 {
-    if waited != 0 {
-        copy(
-            block,
-            entry::block(waiting, WAITING_FROM + (waited - 1) as usize),
-        );
+    if let Some(i) = waited {
+        copy(block, entry::block(waiting, WAITING_FROM + i as usize));
         return;
     }
     copy(block, read(settled, address));
 }
 
-// Copies the newest block of an address: where it was met in open, in the group, in the log, as numbers above 0; else from outside them.
+// Copies the newest block of an address: where it was met in open, in the group, in the log; else from outside them.
 fn copy_newest(
     settled: &[u8],
     waiting: &[u8],
     work: &[u8],
-    opened: u32,
-    grouped: u32,
-    logged: u32,
-    waited: u32,
+    opened: Option<u32>,
+    grouped: Option<u32>,
+    logged: Option<u32>,
+    waited: Option<u32>,
     address: u32,
     block: &mut [u8],
 )
     requires trap_bound { first_data trap < blocks_in settled.now }
     requires trap_in_bounds { work_bytes trap ≤ length work.now }
-    requires opened_le_slots { (opened ≤ trap.slots) × (grouped ≤ trap.slots) × (logged ≤ trap.slots) }
-    requires waited_in_bounds { (entry_bytes * waited ≤ length waiting.now) × (waited ≤ trap.direct) }
+    requires opened_lt_slots { (i : ℕ) → opened ≡ Some i → i < trap.slots }
+    requires grouped_lt_slots { (i : ℕ) → grouped ≡ Some i → i < trap.slots }
+    requires logged_lt_slots { (i : ℕ) → logged ≡ Some i → i < trap.slots }
+    requires waited_in_bounds { (i : ℕ) → waited ≡ Some i → (entry_bytes * (i + 1) ≤ length waiting.now) × (i < trap.direct) }
     requires address_bound { address < blocks_in settled.now }
     requires block_len { length block.old ≡ block_bytes }
-    ensures { (o g l w : Option ℕ) (r : Held.Record) → opened ≡ numbered o → grouped ≡ numbered g → logged ≡ numbered l → waited ≡ numbered w → block.new ≡ bytes_at (open_place o (group_place trap g (log_place trap l (waiting_place w (home_place address))))) (state_of r settled.now waiting.now work.now) }
+    ensures { (r : Held.Record) → block.new ≡ bytes_at (open_place opened (group_place trap grouped (log_place trap logged (waiting_place waited (home_place address))))) (state_of r settled.now waiting.now work.now) }
 {
-    if opened != 0 {
-        copy(block, entry::block(work, OPEN + (opened - 1) as usize));
+    if let Some(i) = opened {
+        copy(block, entry::block(work, OPEN + i as usize));
         return;
     }
-    if grouped != 0 {
-        copy(block, entry::block(work, GROUP + (grouped - 1) as usize));
+    if let Some(i) = grouped {
+        copy(block, entry::block(work, GROUP + i as usize));
         return;
     }
-    if logged != 0 {
-        copy(block, slot_block(settled, logged - 1));
+    if let Some(k) = logged {
+        copy(block, slot_block(settled, k));
         return;
     }
     copy_unlogged(settled, waiting, waited, address, block);
@@ -103,10 +107,10 @@ impl Record {
         waiting: &[u8],
         work: &[u8],
         list: &[u8],
-        opened: &[u32],
-        grouped: &[u32],
-        logged: &[u32],
-        waited: &[u32],
+        opened: &[Option<u32>],
+        grouped: &[Option<u32>],
+        logged: &[Option<u32>],
+        waited: &[Option<u32>],
         blocks: &mut [u8],
     )
         requires trap_bound { (first_data trap < blocks_in settled.now) × (work_bytes trap ≤ length work.now) × (entry_bytes * self.waiting ≤ length waiting.now) }
@@ -141,8 +145,8 @@ impl Record {
         list: &[u8],
         last: &[u8],
         before: &[u8],
-        opened: &mut [u32],
-        grouped: &mut [u32],
+        opened: &mut [Option<u32>],
+        grouped: &mut [Option<u32>],
     )
         requires trap_in_bounds { work_bytes trap ≤ length work.now }
         requires opened_le_slots { (self.opened ≤ trap.slots) × (self.grouped ≤ trap.slots) }
@@ -169,9 +173,9 @@ impl Record {
         let mut last = [0u8; BUCKETS];
         let mut before = [0u8; MOST_WANTED];
         chain(list, &mut last, &mut before);
-        let mut logged = [0u32; MOST_WANTED];
+        let mut logged = [None; MOST_WANTED];
         let slots = walk(settled, self.logged, list, &last, &before, &mut logged);
-        let mut waited = [0u32; MOST_WANTED];
+        let mut waited = [None; MOST_WANTED];
         look(
             waiting,
             WAITING_FROM,
@@ -181,8 +185,8 @@ impl Record {
             &before,
             &mut waited,
         );
-        let mut opened = [0u32; MOST_WANTED];
-        let mut grouped = [0u32; MOST_WANTED];
+        let mut opened = [None; MOST_WANTED];
+        let mut grouped = [None; MOST_WANTED];
         self.look_work(work, list, &last, &before, &mut opened, &mut grouped);
         self.copy_out(
             settled, waiting, work, list, &opened, &grouped, &logged, &waited, out,

@@ -61,7 +61,7 @@ pub(crate) fn look(
     list: &[u8],
     last: &[u8],
     before: &[u8],
-    met: &mut [u32],
+    met: &mut [Option<u32>],
 )
     requires n_in_bounds { entry_bytes * (from + n) ≤ length work.now }
     requires n_le_slots { n ≤ trap.slots }

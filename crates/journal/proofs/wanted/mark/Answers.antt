@@ -1,10 +1,9 @@
 -- `journal::wanted::mark` meets its contract: from place i on all were compared with the address.
-use Rattle.std.proofs.Common.{rules, ◌≡◌, ◌≤◌, ◌<◌, ◌+◌, ◌-◌, refl, sym, ◌∙◌, arith, length, get_or}
+use Rattle.std.proofs.Common.{◌≡◌, ◌≤◌, ◌<◌, ◌-◌, refl, sym, ◌∙◌, arith, length, get_or}
 use borrow.Author.Tests.{eq-eqb, ne_eqb}
 use Rattle.std.specs.Prelude.{Some, None}
 use lib.ListN.{set, length-set}
 use lib.Seq.{get_or-set_same, get_or-set_other}
-use Rattle.journal.specs.Geometry.{trap}
 use Rattle.journal.proofs.Chains.{before_le, compared-last, compared_on, compared-met}
 use Rattle.journal.proofs.wanted.mark.Goals.{then-a-wanted, else-a-wanted}
 use Rattle.journal.proofs.wanted.mark.Goals as goal
