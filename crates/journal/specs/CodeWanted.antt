@@ -8,6 +8,10 @@ abbrev pub numbered : Option ℕ → ℕ
 numbered (Some k) = k + 1
 numbered None = 0
 
+-- the most addresses that are chained
+abbrev pub most_chained : ℕ
+most_chained = 32
+
 -- the buckets that addresses fall into, by their low bits
 abbrev pub buckets : ℕ
 buckets = 128

@@ -6,7 +6,7 @@ ghost use Rattle.card.specs.Card.{blocks_in};
 ghost use Rattle.journal.specs.Geometry.{trap};
 ghost use Rattle.journal.specs.Layout.{first_data, is_data};
 ghost use Rattle.journal.specs.Wanted.{wanted_count, wanted_at, walked};
-ghost use Rattle.journal.specs.CodeWanted.{buckets, Chained, Met};
+ghost use Rattle.journal.specs.CodeWanted.{Met};
 ghost use Rattle.refusals.specs.Numbers.{answer};
 ghost use Rattle.store.specs.declared.record.Record as Held;
 ghost use Rattle.store.specs.CodeState.{state_of};
@@ -22,11 +22,8 @@ use card::settled::read;
 use cells::bytes::copy;
 use cells::{ADDRESS, BLOCK, entry};
 use journal::log::{is_data, slot_block};
-use journal::wanted::{BUCKETS, chain, count, walk, wanted};
+use journal::wanted::{Chains, MOST_WANTED, count, wanted};
 use refusals::Refusal;
-
-// The most addresses of a list.
-const MOST_WANTED: usize = 32;
 
 // Row 1: a list that is no list of addresses, of too many, or a buffer that is not 512 bytes for each.
 fn wrong_list(list: &[u8], blocks: &[u8]) -> bool
@@ -142,23 +139,19 @@ impl Record {
     fn look_work(
         self,
         work: &[u8],
-        list: &[u8],
-        last: &[u8],
-        before: &[u8],
+        chains: &Chains,
         opened: &mut [Option<u32>],
         grouped: &mut [Option<u32>],
     )
         requires trap_in_bounds { work_bytes trap ≤ length work.now }
         requires opened_le_slots { (self.opened ≤ trap.slots) × (self.grouped ≤ trap.slots) }
-        requires last_len { length last.now ≡ buckets }
-        requires list_in_bounds { (wanted_count list.now ≤ length before.now) × (wanted_count list.now ≤ length opened.old) × (wanted_count list.now ≤ length grouped.old) }
-        requires chained { Chained list.now last.now before.now (wanted_count list.now) }
-        requires met { Met list.now [] opened.old × Met list.now [] grouped.old }
-        ensures met_2 { Met list.now (addresses_of work.now open_from self.opened) opened.new }
-        ensures met_3 { Met list.now (addresses_of work.now (group_from trap) self.grouped) grouped.new }
+        requires met_in_bounds { (wanted_count chains.now.list.now ≤ length opened.old) × (wanted_count chains.now.list.now ≤ length grouped.old) }
+        requires met { Met chains.now.list.now [] opened.old × Met chains.now.list.now [] grouped.old }
+        ensures met_2 { Met chains.now.list.now (addresses_of work.now open_from self.opened) opened.new }
+        ensures met_3 { Met chains.now.list.now (addresses_of work.now (group_from trap) self.grouped) grouped.new }
     {
-        look(work, GROUP, self.grouped, list, last, before, grouped);
-        look(work, OPEN, self.opened, list, last, before, opened);
+        look(work, GROUP, self.grouped, chains, grouped);
+        look(work, OPEN, self.opened, chains, opened);
     }
 
     // Finds each block, and copies it out. Returns the slots read.
@@ -170,24 +163,14 @@ impl Record {
         ensures out_after { out.new ≡ newest_blocks trap list.now (state_of self settled.now waiting.now work.now) }
         ensures value { result ≡ length (walked settled.now self.logged) }
     {
-        let mut last = [0u8; BUCKETS];
-        let mut before = [0u8; MOST_WANTED];
-        chain(list, &mut last, &mut before);
+        let chains = Chains::of(list);
         let mut logged = [None; MOST_WANTED];
-        let slots = walk(settled, self.logged, list, &last, &before, &mut logged);
+        let slots = chains.walk(settled, self.logged, &mut logged);
         let mut waited = [None; MOST_WANTED];
-        look(
-            waiting,
-            WAITING_FROM,
-            self.waiting,
-            list,
-            &last,
-            &before,
-            &mut waited,
-        );
+        look(waiting, WAITING_FROM, self.waiting, &chains, &mut waited);
         let mut opened = [None; MOST_WANTED];
         let mut grouped = [None; MOST_WANTED];
-        self.look_work(work, list, &last, &before, &mut opened, &mut grouped);
+        self.look_work(work, &chains, &mut opened, &mut grouped);
         self.copy_out(
             settled, waiting, work, list, &opened, &grouped, &logged, &waited, out,
         );
