@@ -61,8 +61,7 @@ impl<'a> Chains<'a> {
 
     // The k-th address read is a: at each place of the list that has it, k is the last met.
     pub fn mark(&self, k: u32, a: u32, met: &mut [Option<u32>])
-        requires met_in_bounds { wanted_count self.now.list.now ≤ length met.old }
-        requires k_lt_slots { k < trap.slots }
+        requires { wanted_count self.now.list.now ≤ length met.old }
         ensures { (l : List ℕ) → length l ≡ k → Met self.now.list.now l met.old → Met self.now.list.now (l ++ (a ∷ [])) met.new }
     {
         let mut i = self.last[a as usize % BUCKETS] as usize;

@@ -56,7 +56,6 @@ pub(crate) fn holds(work: &[u8], from: usize, n: u32, a: u32) -> bool
 // Looks for wanted addresses among its first n, as the walk of the descriptor does in the log.
 pub(crate) fn look(work: &[u8], from: usize, n: u32, chains: &Chains, met: &mut [Option<u32>])
     requires n_in_bounds { entry_bytes * (from + n) ≤ length work.now }
-    requires n_le_slots { n ≤ trap.slots }
     requires met_in_bounds { wanted_count chains.now.list.now ≤ length met.old }
     requires met { Met chains.now.list.now [] met.old }
     ensures { Met chains.now.list.now (addresses_of work.now from n) met.new }

@@ -7,10 +7,6 @@ use Rattle.store.proofs.record.Record.show.Goals as goal
 pub walk-slots-requires-clause-met : goal.walk-slots-requires-clause-met
 walk-slots-requires-clause-met c = met_none c.of-chains.result.list.now 32 c.of-chains.result.few
 
-pub look-requires-clause-n_le_slots : goal.look-requires-clause-n_le_slots
-unfolding trap
-look-requires-clause-n_le_slots c = omega (arith, c.requires.opened_le_slots.3)
-
 pub look-requires-clause-met : goal.look-requires-clause-met
 look-requires-clause-met c = met_none c.of-chains.result.list.now 32 c.of-chains.result.few
 
