@@ -1,6 +1,4 @@
 -- `store::record::Record::show` meets its contract.
-use Rattle.std.proofs.Common.{arith}
-use Rattle.journal.specs.Geometry.{trap}
 use Rattle.journal.proofs.Chains.{met_none}
 use Rattle.store.proofs.record.Record.show.Goals as goal
 
