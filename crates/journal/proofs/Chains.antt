@@ -44,28 +44,6 @@ module _ (f : ℕ → ℕ) (b n : ℕ) where
       go (Some k) m h less = m.later j (omega arith) less
       go None m h less = m j less
 
--- the lookup that a number stands for
-pub numbered_at : (r : Option ℕ) (n : ℕ) → n ≡ numbered r → n ≢ 0 → r ≡ Some (n - 1)
-numbered_at (Some k) n e h = let q : n - 1 ≡ k = omega arith in rw q
-numbered_at None n e h = absurd (h e)
-
-pub numbered_absent : (r : Option ℕ) (n : ℕ) → n ≡ numbered r → n ≡ 0 → r ≡ None
-numbered_absent (Some k) n e h = absurd (omega arith)
-numbered_absent None n e h = refl
-
--- a number as a place, and back
-abbrev pub found_as : ℕ → Option ℕ
-found_as zero = None
-found_as (suc k) = Some k
-
-pub numbered-found : (n : ℕ) → n ≡ numbered (found_as n)
-numbered-found zero = refl
-numbered-found (suc k) = sym (add-one k)
-
-pub found-numbered : (r : Option ℕ) → found_as (numbered r) ≡ r
-found-numbered (Some k) = rw (add-one)
-found-numbered None = refl
-
 -- one place more
 pub numbered_more : (f : ℕ → ℕ) (b n : ℕ) → numbered (last_of f b (suc n)) ≡ cond (eqb (f n) b) (n + 1) (numbered (last_of f b n))
 unfolding last_of
@@ -86,12 +64,13 @@ pub last-in : (f : ℕ → ℕ) (n a : ℕ) → last_in (up_to f n) a ≡ last_o
 last-in f n a = rw (length-up_to f n) (last-same (λ i. get_or (up_to f n) i 0) f a n (λ i h. get_or-up_to f n i 0 h))
 
 -- an address more, at the end
-pub in_more : (l : List ℕ) (a x : ℕ) → numbered (last_in (l ++ (a ∷ [])) x) ≡ cond (eqb a x) (length l + 1) (numbered (last_in l x))
+pub in_more : (l : List ℕ) (a x : ℕ) → last_in (l ++ (a ∷ [])) x ≡ cond (eqb a x) (Some (length l)) (last_in l x)
+unfolding last_of
 in_more l a x =
     let size : length (l ++ (a ∷ [])) ≡ suc (length l) = length-append l (a ∷ []) ∙ add-one (length l) in
     let here : get_or (l ++ (a ∷ [])) (length l) 0 ≡ a = get_or_at l a [] 0 (length l) refl in
     let front : last_of (λ i. get_or (l ++ (a ∷ [])) i 0) x (length l) ≡ last_in l x = last-same (λ i. get_or (l ++ (a ∷ [])) i 0) (λ i. get_or l i 0) x (length l) (λ i h. get_or-append l (a ∷ []) 0 i h) in
-    rw size (numbered_more (λ i. get_or (l ++ (a ∷ [])) i 0) x (length l) ∙ rw (here, front))
+    rw size (rw (here, front))
 
 -- ---- chains
 
@@ -128,22 +107,22 @@ before_le xs last before n i c h = rw (c.befores i h) (numbered-le (bucket_at xs
 -- ---- an address read, marked along the chain of its bucket
 
 -- what stands at a place that the address was compared with
-abbrev pub compared : List ℕ → ℕ → ℕ → List ℕ → ℕ → ℕ
-compared xs a place met j = cond (eqb a (wanted_at xs j)) place (get_or met j 0)
+abbrev pub compared : List ℕ → ℕ → ℕ → List (Option ℕ) → ℕ → Option ℕ
+compared xs a k met j = cond (eqb a (wanted_at xs j)) (Some k) (get_or met j None)
 
 -- from place i on all were compared, below it none
-pub record Compared (xs : List ℕ) (a place : ℕ) (old met : List ℕ) (i : ℕ) : Type 0 where
+pub record Compared (xs : List ℕ) (a place : ℕ) (old met : List (Option ℕ)) (i : ℕ) : Type 0 where
   pub inside : i ≤ wanted_count xs
   pub bucket : i ≢ 0 → bucket_at xs (i - 1) ≡ a % buckets
   pub size : length met ≡ length old
-  pub below : (j : ℕ) → j < i → get_or met j 0 ≡ get_or old j 0
-  pub from : (j : ℕ) → i ≤ j → j < wanted_count xs → get_or met j 0 ≡ compared xs a place old j
+  pub below : (j : ℕ) → j < i → get_or met j None ≡ get_or old j None
+  pub from : (j : ℕ) → i ≤ j → j < wanted_count xs → get_or met j None ≡ compared xs a place old j
 
 -- a place of another bucket has another address
-pub other_bucket : (xs : List ℕ) (a place : ℕ) (old : List ℕ) (j : ℕ) → bucket_at xs j ≢ a % buckets → get_or old j 0 ≡ compared xs a place old j
+pub other_bucket : (xs : List ℕ) (a place : ℕ) (old : List (Option ℕ)) (j : ℕ) → bucket_at xs j ≢ a % buckets → get_or old j None ≡ compared xs a place old j
 other_bucket xs a place old j h = rw (ne_eqb a (wanted_at xs j) (λ e. h (ap (λ (x : ℕ). x % buckets) (sym e))))
 
-module _ (xs last before : List ℕ) (a place : ℕ) (old : List ℕ) (c : Chained xs last before (wanted_count xs)) where
+module _ (xs last before : List ℕ) (a place : ℕ) (old : List (Option ℕ)) (c : Chained xs last before (wanted_count xs)) where
   -- at first
   pub compared-last : (i : ℕ) → i ≡ get_or last (a % buckets) 0 → Compared xs a place old old i
   compared-last i e =
@@ -158,10 +137,10 @@ module _ (xs last before : List ℕ) (a place : ℕ) (old : List ℕ) (c : Chain
       }
 
   -- one place, and on to the one before it in its bucket
-  pub compared_on : (met new : List ℕ) (i k : ℕ) → 0 < i → Compared xs a place old met i
+  pub compared_on : (met new : List (Option ℕ)) (i k : ℕ) → 0 < i → Compared xs a place old met i
       → length new ≡ length met
-      → ((j : ℕ) → j ≢ i - 1 → get_or new j 0 ≡ get_or met j 0)
-      → get_or new (i - 1) 0 ≡ compared xs a place met (i - 1)
+      → ((j : ℕ) → j ≢ i - 1 → get_or new j None ≡ get_or met j None)
+      → get_or new (i - 1) None ≡ compared xs a place met (i - 1)
       → k ≡ get_or before (i - 1) 0
       → Compared xs a place old new k
   compared_on met new i k pos q size others ev ek =
@@ -178,11 +157,11 @@ module _ (xs last before : List ℕ) (a place : ℕ) (old : List ℕ) (c : Chain
         from = λ j h less. go j h less (ℕ_discrete j p);
       }
     where
-      go : (j : ℕ) → k ≤ j → j < wanted_count xs → Dec (j ≡ i - 1) → get_or new j 0 ≡ compared xs a place old j
+      go : (j : ℕ) → k ≤ j → j < wanted_count xs → Dec (j ≡ i - 1) → get_or new j None ≡ compared xs a place old j
       go j h less (yes e) = rw e (ev ∙ rw (q.below (i - 1) (omega arith)))
       go j h less (no e) = others j e ∙ later (native.Mathlib.Decide.dec_lt j (i - 1))
         where
-          later : Dec (j < i - 1) → get_or met j 0 ≡ compared xs a place old j
+          later : Dec (j < i - 1) → get_or met j None ≡ compared xs a place old j
           later (yes l) =
               let here : i - 1 < wanted_count xs = omega (arith, q.inside) in
               let b : bucket_at xs (i - 1) ≡ a % buckets = q.bucket (λ z. omega arith) in
@@ -192,11 +171,11 @@ module _ (xs last before : List ℕ) (a place : ℕ) (old : List ℕ) (c : Chain
           later (no l) = q.from j (omega arith) less
 
 -- at last: the address is the last one met
-pub compared-met : (xs : List ℕ) (a k : ℕ) (old met l : List ℕ) → Compared xs a (k + 1) old met 0 → length l ≡ k → Met xs l old → Met xs (l ++ (a ∷ [])) met
+pub compared-met : (xs : List ℕ) (a k : ℕ) (old met : List (Option ℕ)) (l : List ℕ) → Compared xs a k old met 0 → length l ≡ k → Met xs l old → Met xs (l ++ (a ∷ [])) met
 compared-met xs a k old met l q e m i h =
     q.from i (omega arith) h ∙ rw (m i h, ← e) (sym (in_more l a (wanted_at xs i)))
 
 -- none met
-pub met_none : (xs : List ℕ) (n : ℕ) → wanted_count xs ≤ n → Met xs [] (replicate n 0)
+pub met_none : (xs : List ℕ) (n : ℕ) → wanted_count xs ≤ n → Met xs [] (replicate n None)
 unfolding last_of
-met_none xs n h i less = get_or-replicate n i 0 0 (omega arith)
+met_none xs n h i less = get_or-replicate n i None None (omega arith)

@@ -8,6 +8,10 @@ abbrev pub numbered : Option ℕ → ℕ
 numbered (Some k) = k + 1
 numbered None = 0
 
+-- the most addresses that are chained
+abbrev pub most_chained : ℕ
+most_chained = 32
+
 -- the buckets that addresses fall into, by their low bits
 abbrev pub buckets : ℕ
 buckets = 128
@@ -26,5 +30,5 @@ abbrev pub last_in : List ℕ → ℕ → Option ℕ
 last_in l a = last_of (λ i. get_or l i 0) a (length l)
 
 -- `met` has for each wanted address its last place in l
-abbrev pub Met : List ℕ → List ℕ → List ℕ → Type 0
-Met xs l met = (i : ℕ) → i < wanted_count xs → get_or met i 0 ≡ numbered (last_in l (wanted_at xs i))
+abbrev pub Met : List ℕ → List ℕ → List (Option ℕ) → Type 0
+Met xs l met = (i : ℕ) → i < wanted_count xs → get_or met i None ≡ last_in l (wanted_at xs i)

@@ -1,4 +1,5 @@
--- The blocks of a list as the code copies them, by the numbers that it holds.
+-- The blocks of a list as the code copies them, by the places where they were met.
+use Rattle.std.specs.Prelude.{Option, Some, None}
 use Prim.Native.Nat.{ℕ, ◌+◌, ◌*◌, ◌%◌, ◌≤◌, ◌<◌}
 use mathlib.Core.Path.{◌≡◌, refl, ap, sym, ◌∙◌}
 use mathlib.Core.Bool.{true, false, cond, not}
@@ -20,9 +21,10 @@ use Rattle.journal.specs.Layout.{is_data}
 use Rattle.journal.specs.Log.{slot_address}
 use Rattle.journal.specs.Lookup.{last_of}
 use Rattle.journal.specs.Wanted.{wanted_bytes, wanted_count, wanted_at, walked}
-use Rattle.journal.specs.CodeWanted.{numbered, last_in, Met}
+use Rattle.journal.specs.CodeWanted.{Met}
 use Rattle.journal.proofs.Logs.{neither}
-use Rattle.journal.proofs.Chains.{numbered-le, found_as, found-numbered, last-in}
+use Rattle.journal.proofs.Chains.{last-in}
+use Rattle.journal.proofs.Lookups.{Means, last_means}
 use Rattle.store.specs.declared.place.Place.{Place}
 use Rattle.store.specs.declared.place.Place.TheVariants.{Settled, Waiting, Work, Nowhere}
 use Rattle.store.specs.declared.record.Record.{Record}
@@ -43,27 +45,27 @@ bytes_any (Work o) r q s w k = refl
 bytes_any Nowhere r q s w k = refl
 
 -- the i-th block, from where it was met
-abbrev pub copied : List ℕ → List ℕ → List ℕ → List ℕ → List ℕ → List ℕ → List ℕ → List ℕ → ℕ → List ℕ
+abbrev pub copied : List ℕ → List ℕ → List ℕ → List ℕ → List (Option ℕ) → List (Option ℕ) → List (Option ℕ) → List (Option ℕ) → ℕ → List ℕ
 copied settled waiting work list opened grouped logged waited i =
     bytes_at
-    (open_place (found_as (get_or opened i 0))
-    (group_place trap (found_as (get_or grouped i 0))
-    (log_place trap (found_as (get_or logged i 0)) (waiting_place (found_as (get_or waited i 0)) (home_place (wanted_at list i))))))
+    (open_place (get_or opened i None)
+    (group_place trap (get_or grouped i None)
+    (log_place trap (get_or logged i None) (waiting_place (get_or waited i None) (home_place (wanted_at list i))))))
     (state_of (fresh 0) settled waiting work)
 
 -- what was met is what a lookup finds
-pub met-last : (list met : List ℕ) (f : ℕ → ℕ) (n i : ℕ) → Met list (up_to f n) met → i < wanted_count list → found_as (get_or met i 0) ≡ last_of f (wanted_at list i) n
-met-last list met f n i m h =
-    ap found_as (m i h) ∙ found-numbered (last_in (up_to f n) (wanted_at list i)) ∙ last-in f n (wanted_at list i)
+pub met-last : (list : List ℕ) (met : List (Option ℕ)) (f : ℕ → ℕ) (n i : ℕ) → Met list (up_to f n) met → i < wanted_count list → get_or met i None ≡ last_of f (wanted_at list i) n
+met-last list met f n i m h = m i h ∙ last-in f n (wanted_at list i)
 
--- and no more than there are
-pub met-le : (list met : List ℕ) (f : ℕ → ℕ) (n i : ℕ) → Met list (up_to f n) met → i < wanted_count list → get_or met i 0 ≤ n
-met-le list met f n i m h =
-    let e : get_or met i 0 ≡ numbered (last_of f (wanted_at list i) n) = m i h ∙ ap numbered (last-in f n (wanted_at list i)) in
-    rw e (numbered-le f (wanted_at list i) n)
+-- and within what was looked through
+pub met-lt : (list : List ℕ) (met : List (Option ℕ)) (f : ℕ → ℕ) (n i : ℕ) → Met list (up_to f n) met → i < wanted_count list → (k : ℕ) → get_or met i None ≡ Some k → k < n
+met-lt list met f n i m h k e =
+    let found : last_of f (wanted_at list i) n ≡ Some k = sym (met-last list met f n i m h) ∙ e in
+    let means : Means f (wanted_at list i) n (Some k) = rw found at (last_means f (wanted_at list i) n) in
+    means.inside
 
 -- so it is what a get finds
-pub copied-newest : (r : Record) (settled waiting work list opened grouped logged waited : List ℕ) (i : ℕ)
+pub copied-newest : (r : Record) (settled waiting work list : List ℕ) (opened grouped logged waited : List (Option ℕ)) (i : ℕ)
     → Met list (addresses_of work open_from r.opened) opened
     → Met list (addresses_of work (group_from trap) r.grouped) grouped
     → Met list (walked settled r.logged) logged

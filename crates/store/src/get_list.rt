@@ -1,12 +1,12 @@
 // get_list: the blocks of a list of addresses, each as a get finds it, copied out in the order listed. Behind the checks log, waiting
 // writes, group and open are each gone through once.
-ghost use Rattle.std.specs.Prelude.{◌≡◌, Option, not, List, [], ℕ, ◌*◌, ◌≤◌, ◌<◌, length};
+ghost use Rattle.std.specs.Prelude.{◌≡◌, not, List, [], ℕ, ◌+◌, ◌*◌, ◌≤◌, ◌<◌, length};
 ghost use Rattle.cells.specs.Entry.{block_bytes, entry_bytes};
 ghost use Rattle.card.specs.Card.{blocks_in};
 ghost use Rattle.journal.specs.Geometry.{trap};
 ghost use Rattle.journal.specs.Layout.{first_data, is_data};
 ghost use Rattle.journal.specs.Wanted.{wanted_count, wanted_at, walked};
-ghost use Rattle.journal.specs.CodeWanted.{numbered, buckets, Chained, Met};
+ghost use Rattle.journal.specs.CodeWanted.{Met};
 ghost use Rattle.refusals.specs.Numbers.{answer};
 ghost use Rattle.store.specs.declared.record.Record as Held;
 ghost use Rattle.store.specs.CodeState.{state_of};
@@ -22,11 +22,8 @@ use card::settled::read;
 use cells::bytes::copy;
 use cells::{ADDRESS, BLOCK, entry};
 use journal::log::{is_data, slot_block};
-use journal::wanted::{BUCKETS, chain, count, walk, wanted};
+use journal::wanted::{Chains, MOST_WANTED, count, wanted};
 use refusals::Refusal;
-
-// The most addresses of a list.
-const MOST_WANTED: usize = 32;
 
 // Row 1: a list that is no list of addresses, of too many, or a buffer that is not 512 bytes for each.
 fn wrong_list(list: &[u8], blocks: &[u8]) -> bool
@@ -42,54 +39,58 @@ fn stray(list: &[u8], size: u32) -> bool
     (0..count(list)).any(|i| !is_data(size, wanted(list, i)))
 }
 
-// Copies the block of an address outside open, group and log: where it was met among the waiting writes, as a number above 0; else from
-// home.
-fn copy_unlogged(settled: &[u8], waiting: &[u8], waited: u32, address: u32, block: &mut [u8])
-    requires waited_in_bounds { (entry_bytes * waited ≤ length waiting.now) × (waited ≤ trap.direct) }
+// Copies the block of an address outside open, group and log: where it was met among the waiting writes; else from home.
+fn copy_unlogged(
+    settled: &[u8],
+    waiting: &[u8],
+    waited: Option<u32>,
+    address: u32,
+    block: &mut [u8],
+)
+    requires waited_in_bounds { (i : ℕ) → waited ≡ Some i → (entry_bytes * (i + 1) ≤ length waiting.now) × (i < trap.direct) }
     requires address_bound { address < blocks_in settled.now }
     requires block_len { length block.old ≡ block_bytes }
-    ensures { (w : Option ℕ) (r : Held.Record) (k : List ℕ) → waited ≡ numbered w → block.new ≡ bytes_at (waiting_place w (home_place address)) (state_of r settled.now waiting.now k) }
+    ensures { (r : Held.Record) (k : List ℕ) → block.new ≡ bytes_at (waiting_place waited (home_place address)) (state_of r settled.now waiting.now k) }
 {
-    if waited != 0 {
-        copy(
-            block,
-            entry::block(waiting, WAITING_FROM + (waited - 1) as usize),
-        );
+    if let Some(i) = waited {
+        copy(block, entry::block(waiting, WAITING_FROM + i as usize));
         return;
     }
     copy(block, read(settled, address));
 }
 
-// Copies the newest block of an address: where it was met in open, in the group, in the log, as numbers above 0; else from outside them.
+// Copies the newest block of an address: where it was met in open, in the group, in the log; else from outside them.
 fn copy_newest(
     settled: &[u8],
     waiting: &[u8],
     work: &[u8],
-    opened: u32,
-    grouped: u32,
-    logged: u32,
-    waited: u32,
+    opened: Option<u32>,
+    grouped: Option<u32>,
+    logged: Option<u32>,
+    waited: Option<u32>,
     address: u32,
     block: &mut [u8],
 )
     requires trap_bound { first_data trap < blocks_in settled.now }
     requires trap_in_bounds { work_bytes trap ≤ length work.now }
-    requires opened_le_slots { (opened ≤ trap.slots) × (grouped ≤ trap.slots) × (logged ≤ trap.slots) }
-    requires waited_in_bounds { (entry_bytes * waited ≤ length waiting.now) × (waited ≤ trap.direct) }
+    requires opened_lt_slots { (i : ℕ) → opened ≡ Some i → i < trap.slots }
+    requires grouped_lt_slots { (i : ℕ) → grouped ≡ Some i → i < trap.slots }
+    requires logged_lt_slots { (i : ℕ) → logged ≡ Some i → i < trap.slots }
+    requires waited_in_bounds { (i : ℕ) → waited ≡ Some i → (entry_bytes * (i + 1) ≤ length waiting.now) × (i < trap.direct) }
     requires address_bound { address < blocks_in settled.now }
     requires block_len { length block.old ≡ block_bytes }
-    ensures { (o g l w : Option ℕ) (r : Held.Record) → opened ≡ numbered o → grouped ≡ numbered g → logged ≡ numbered l → waited ≡ numbered w → block.new ≡ bytes_at (open_place o (group_place trap g (log_place trap l (waiting_place w (home_place address))))) (state_of r settled.now waiting.now work.now) }
+    ensures { (r : Held.Record) → block.new ≡ bytes_at (open_place opened (group_place trap grouped (log_place trap logged (waiting_place waited (home_place address))))) (state_of r settled.now waiting.now work.now) }
 {
-    if opened != 0 {
-        copy(block, entry::block(work, OPEN + (opened - 1) as usize));
+    if let Some(i) = opened {
+        copy(block, entry::block(work, OPEN + i as usize));
         return;
     }
-    if grouped != 0 {
-        copy(block, entry::block(work, GROUP + (grouped - 1) as usize));
+    if let Some(i) = grouped {
+        copy(block, entry::block(work, GROUP + i as usize));
         return;
     }
-    if logged != 0 {
-        copy(block, slot_block(settled, logged - 1));
+    if let Some(k) = logged {
+        copy(block, slot_block(settled, k));
         return;
     }
     copy_unlogged(settled, waiting, waited, address, block);
@@ -103,10 +104,10 @@ impl Record {
         waiting: &[u8],
         work: &[u8],
         list: &[u8],
-        opened: &[u32],
-        grouped: &[u32],
-        logged: &[u32],
-        waited: &[u32],
+        opened: &[Option<u32>],
+        grouped: &[Option<u32>],
+        logged: &[Option<u32>],
+        waited: &[Option<u32>],
         blocks: &mut [u8],
     )
         requires trap_bound { (first_data trap < blocks_in settled.now) × (work_bytes trap ≤ length work.now) × (entry_bytes * self.waiting ≤ length waiting.now) }
@@ -138,23 +139,19 @@ impl Record {
     fn look_work(
         self,
         work: &[u8],
-        list: &[u8],
-        last: &[u8],
-        before: &[u8],
-        opened: &mut [u32],
-        grouped: &mut [u32],
+        chains: &Chains,
+        opened: &mut [Option<u32>],
+        grouped: &mut [Option<u32>],
     )
         requires trap_in_bounds { work_bytes trap ≤ length work.now }
         requires opened_le_slots { (self.opened ≤ trap.slots) × (self.grouped ≤ trap.slots) }
-        requires last_len { length last.now ≡ buckets }
-        requires list_in_bounds { (wanted_count list.now ≤ length before.now) × (wanted_count list.now ≤ length opened.old) × (wanted_count list.now ≤ length grouped.old) }
-        requires chained { Chained list.now last.now before.now (wanted_count list.now) }
-        requires met { Met list.now [] opened.old × Met list.now [] grouped.old }
-        ensures met_2 { Met list.now (addresses_of work.now open_from self.opened) opened.new }
-        ensures met_3 { Met list.now (addresses_of work.now (group_from trap) self.grouped) grouped.new }
+        requires met_in_bounds { (wanted_count chains.now.list.now ≤ length opened.old) × (wanted_count chains.now.list.now ≤ length grouped.old) }
+        requires met { Met chains.now.list.now [] opened.old × Met chains.now.list.now [] grouped.old }
+        ensures met_2 { Met chains.now.list.now (addresses_of work.now open_from self.opened) opened.new }
+        ensures met_3 { Met chains.now.list.now (addresses_of work.now (group_from trap) self.grouped) grouped.new }
     {
-        look(work, GROUP, self.grouped, list, last, before, grouped);
-        look(work, OPEN, self.opened, list, last, before, opened);
+        look(work, GROUP, self.grouped, chains, grouped);
+        look(work, OPEN, self.opened, chains, opened);
     }
 
     // Finds each block, and copies it out. Returns the slots read.
@@ -166,24 +163,14 @@ impl Record {
         ensures out_after { out.new ≡ newest_blocks trap list.now (state_of self settled.now waiting.now work.now) }
         ensures value { result ≡ length (walked settled.now self.logged) }
     {
-        let mut last = [0u8; BUCKETS];
-        let mut before = [0u8; MOST_WANTED];
-        chain(list, &mut last, &mut before);
-        let mut logged = [0u32; MOST_WANTED];
-        let slots = walk(settled, self.logged, list, &last, &before, &mut logged);
-        let mut waited = [0u32; MOST_WANTED];
-        look(
-            waiting,
-            WAITING_FROM,
-            self.waiting,
-            list,
-            &last,
-            &before,
-            &mut waited,
-        );
-        let mut opened = [0u32; MOST_WANTED];
-        let mut grouped = [0u32; MOST_WANTED];
-        self.look_work(work, list, &last, &before, &mut opened, &mut grouped);
+        let chains = Chains::of(list);
+        let mut logged = [None; MOST_WANTED];
+        let slots = chains.walk(settled, self.logged, &mut logged);
+        let mut waited = [None; MOST_WANTED];
+        look(waiting, WAITING_FROM, self.waiting, &chains, &mut waited);
+        let mut opened = [None; MOST_WANTED];
+        let mut grouped = [None; MOST_WANTED];
+        self.look_work(work, &chains, &mut opened, &mut grouped);
         self.copy_out(
             settled, waiting, work, list, &opened, &grouped, &logged, &waited, out,
         );

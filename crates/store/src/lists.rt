@@ -4,7 +4,7 @@ ghost use Rattle.cells.specs.Entry.{entry_bytes, entry_at, set_entry};
 ghost use Rattle.journal.specs.Geometry.{trap};
 ghost use Rattle.store.specs.Lists as Lists;
 ghost use Rattle.journal.specs.Wanted.{wanted_count};
-ghost use Rattle.journal.specs.CodeWanted.{buckets, Chained, Met};
+ghost use Rattle.journal.specs.CodeWanted.{Met};
 ghost use Rattle.store.specs.Lists.{listed, addresses_of};
 ghost use Rattle.store.specs.Causes.{is_found};
 ghost use Rattle.store.specs.Get.{listed_place};
@@ -12,7 +12,7 @@ ghost use Rattle.store.specs.Get.{listed_place};
 use cells::bytes::copy;
 use cells::{ADDRESS, BLOCK, ENTRY, entry};
 use journal::SLOTS;
-use journal::wanted::mark;
+use journal::wanted::Chains;
 
 // The entry at which each starts.
 pub const OPEN: usize = 0;
@@ -54,25 +54,14 @@ pub(crate) fn holds(work: &[u8], from: usize, n: u32, a: u32) -> bool
 }
 
 // Looks for wanted addresses among its first n, as the walk of the descriptor does in the log.
-pub(crate) fn look(
-    work: &[u8],
-    from: usize,
-    n: u32,
-    list: &[u8],
-    last: &[u8],
-    before: &[u8],
-    met: &mut [u32],
-)
+pub(crate) fn look(work: &[u8], from: usize, n: u32, chains: &Chains, met: &mut [Option<u32>])
     requires n_in_bounds { entry_bytes * (from + n) ≤ length work.now }
-    requires n_le_slots { n ≤ trap.slots }
-    requires last_len { length last.now ≡ buckets }
-    requires list_in_bounds { (wanted_count list.now ≤ length before.now) × (wanted_count list.now ≤ length met.old) }
-    requires chained { Chained list.now last.now before.now (wanted_count list.now) }
-    requires met { Met list.now [] met.old }
-    ensures { Met list.now (addresses_of work.now from n) met.new }
+    requires met_in_bounds { wanted_count chains.now.list.now ≤ length met.old }
+    requires met { Met chains.now.list.now [] met.old }
+    ensures { Met chains.now.list.now (addresses_of work.now from n) met.new }
 {
     for i in 0..n {
-        mark(list, last, before, i, address(work, from, i), met);
+        chains.mark(i, address(work, from, i), met);
     }
 }
 

@@ -6,7 +6,6 @@ use native.Mathlib.Omega.{arith}
 use lib.ListN.{length, length-take, length-drop}
 use Rattle.cells.specs.Part.{View}
 use Rattle.journal.specs.Geometry.{trap}
-use Rattle.journal.proofs.Chains.{numbered_at, numbered_absent}
 use Rattle.store.proofs.get_list.copy_newest.Goals as goal
 
 -- the bytes of a part that was handed out
@@ -15,20 +14,29 @@ bytes v = v.bytes
 
 pub copy-requires : goal.copy-requires
 unfolding trap
-copy-requires c = let e : length c.block.result.now ≡ 512 = ap length (ap bytes c.block.ensures) ∙ rw (length-take, length-drop) (omega arith) in omega arith
+copy-requires c =
+    let inside = c.requires.opened_lt_slots c.in-Some.i c.in-Some.is in
+    let e : length c.block.result.now ≡ 512 = ap length (ap bytes c.block.ensures) ∙ rw (length-take, length-drop) (omega (arith, inside)) in
+    omega arith
 
-pub block-requires-then-grouped-ne0 : goal.block-requires-then-grouped-ne0
+pub block-requires-in-Some-grouped : goal.block-requires-in-Some-grouped
 unfolding trap
-block-requires-then-grouped-ne0 c = omega arith
+block-requires-in-Some-grouped c = omega (arith, c.requires.grouped_lt_slots c.in-Some-grouped.i c.in-Some-grouped.is)
 
-pub copy-requires-then-grouped-ne0 : goal.copy-requires-then-grouped-ne0
+pub copy-requires-in-Some-grouped : goal.copy-requires-in-Some-grouped
 unfolding trap
-copy-requires-then-grouped-ne0 c = let e : length c.block-then-grouped-ne0.result.now ≡ 512 = ap length (ap bytes c.block-then-grouped-ne0.ensures) ∙ rw (length-take, length-drop) (omega arith) in omega arith
+copy-requires-in-Some-grouped c =
+    let inside = c.requires.grouped_lt_slots c.in-Some-grouped.i c.in-Some-grouped.is in
+    let e : length c.block-in-Some-grouped.result.now ≡ 512 = ap length (ap bytes c.block-in-Some-grouped.ensures) ∙ rw (length-take, length-drop) (omega (arith, inside)) in
+    omega arith
 
-pub returns-then-grouped-ne0 : goal.returns-then-grouped-ne0
+pub returns-in-Some-grouped : goal.returns-in-Some-grouped
 unfolding trap
-returns-then-grouped-ne0 c = λ o g l w r eo eg el ew. rw (numbered_absent o _ eo c.if-opened-ne0.false, numbered_at g _ eg c.if-grouped-ne0.true) (c.copy-then-grouped-ne0.ensures ∙ ap bytes c.block-then-grouped-ne0.ensures)
+returns-in-Some-grouped c = λ r. rw (c.in_default.is, c.in-Some-grouped.is) (c.copy-in-Some-grouped.ensures ∙ ap bytes c.block-in-Some-grouped.ensures)
 
-pub copy-requires-then-logged-ne0 : goal.copy-requires-then-logged-ne0
+pub copy-requires-in-Some-logged : goal.copy-requires-in-Some-logged
 unfolding trap
-copy-requires-then-logged-ne0 c = let e : length c.slot_block.result.now ≡ 512 = ap length (ap bytes c.slot_block.ensures) ∙ rw (length-take, length-drop) (omega arith) in omega arith
+copy-requires-in-Some-logged c =
+    let inside = c.requires.logged_lt_slots c.in-Some-logged.k c.in-Some-logged.is in
+    let e : length c.slot_block.result.now ≡ 512 = ap length (ap bytes c.slot_block.ensures) ∙ rw (length-take, length-drop) (omega (arith, inside)) in
+    omega arith

@@ -12,7 +12,10 @@ abbrev bytes : View → List ℕ
 bytes v = v.bytes
 
 pub copy-requires : goal.copy-requires
-copy-requires c = let e : length c.block.result.now ≡ 512 = ap length (ap bytes c.block.ensures) ∙ rw (length-take, length-drop) (omega arith) in omega arith
+copy-requires c =
+    let inside = c.requires.waited_in_bounds c.in-Some.i c.in-Some.is in
+    let e : length c.block.result.now ≡ 512 = ap length (ap bytes c.block.ensures) ∙ rw (length-take, length-drop) (omega (arith, inside.0)) in
+    omega arith
 
 pub copy-requires-2 : goal.copy-requires-2
 copy-requires-2 c = let e : length c.read.result.now ≡ 512 = ap length (ap bytes c.read.ensures) ∙ rw (length-take, length-drop) (omega arith) in omega arith

@@ -6,4 +6,4 @@ use Rattle.store.specs.Lists.{addresses_of}
 use Rattle.store.proofs.lists.look.Given as goal
 
 abbrev pub invariant-loop-i : goal.invariant-loop-i
-invariant-loop-i l = (length l.met ≡ length l.initial.met) × Met l.list (addresses_of l.work l.from l.i) l.met
+invariant-loop-i l = (length l.met ≡ length l.initial.met) × Met l.chains.list.now (addresses_of l.work l.from l.i) l.met

@@ -2,42 +2,51 @@
 use Prim.Native.Nat.{◌+◌, ◌*◌, ◌-◌, ◌<◌}
 use mathlib.Core.Path.{◌≡◌, ◌∙◌}
 use native.Mathlib.Omega.{arith}
-use lib.ListN.{length, get_or, take, drop, length-take, length-drop}
+use lib.ListN.{length, take, drop, length-take, length-drop}
 use Rattle.cells.specs.Upto.Laws.{ext_joined}
 use Rattle.journal.specs.Geometry.{trap}
 use Rattle.journal.specs.Log.{slot_address}
 use Rattle.journal.specs.Wanted.{wanted_count}
-use Rattle.journal.proofs.Chains.{found_as, numbered-found}
 use Rattle.store.specs.CodeState.{fresh}
 use Rattle.store.specs.Lists.{open_from, group_from, listed}
 use Rattle.store.specs.Get.{waiting_from}
-use Rattle.store.proofs.Listings.{copied, met-le, copied-newest, one_out, all_out}
+use Rattle.store.proofs.Listings.{copied, met-lt, copied-newest, one_out, all_out}
 use Rattle.store.proofs.record.Record.copy_out.Goals as goal
 
-pub copy_newest-requires-clause-opened_le_slots : goal.copy_newest-requires-clause-opened_le_slots
-copy_newest-requires-clause-opened_le_slots c =
+pub copy_newest-requires-clause-opened_lt_slots : goal.copy_newest-requires-clause-opened_lt_slots
+copy_newest-requires-clause-opened_lt_slots c = λ k e.
     let a = c.args in
     let l = c.loop-i in
-    let here : l.i < wanted_count a.list.now = omega arith in
-    let o = met-le a.list.now a.opened.now (λ j. (listed a.work.now open_from j).address) a.self.opened l.i c.requires.met.0 here in
-    let g = met-le a.list.now a.grouped.now (λ j. (listed a.work.now (group_from trap) j).address) a.self.grouped l.i c.requires.met.1 here in
-    let k = met-le a.list.now a.logged.now (slot_address a.settled.now) a.self.logged l.i c.requires.met_2.0 here in
+    let less = met-lt a.list.now a.opened.now (λ j. (listed a.work.now open_from j).address) a.self.opened l.i c.requires.met.0 (omega arith) k e in
+    omega arith
+
+pub copy_newest-requires-clause-grouped_lt_slots : goal.copy_newest-requires-clause-grouped_lt_slots
+copy_newest-requires-clause-grouped_lt_slots c = λ k e.
+    let a = c.args in
+    let l = c.loop-i in
+    let less = met-lt a.list.now a.grouped.now (λ j. (listed a.work.now (group_from trap) j).address) a.self.grouped l.i c.requires.met.1 (omega arith) k e in
+    omega arith
+
+pub copy_newest-requires-clause-logged_lt_slots : goal.copy_newest-requires-clause-logged_lt_slots
+copy_newest-requires-clause-logged_lt_slots c = λ k e.
+    let a = c.args in
+    let l = c.loop-i in
+    let less = met-lt a.list.now a.logged.now (slot_address a.settled.now) a.self.logged l.i c.requires.met_2.0 (omega arith) k e in
     omega arith
 
 pub copy_newest-requires-clause-waited_in_bounds : goal.copy_newest-requires-clause-waited_in_bounds
-copy_newest-requires-clause-waited_in_bounds c =
+copy_newest-requires-clause-waited_in_bounds c = λ k e.
     let a = c.args in
     let l = c.loop-i in
-    let here : l.i < wanted_count a.list.now = omega arith in
-    let w = met-le a.list.now a.waited.now (λ j. (listed a.waiting.now waiting_from j).address) a.self.waiting l.i c.requires.met_2.1 here in
-    omega arith
+    let less = met-lt a.list.now a.waited.now (λ j. (listed a.waiting.now waiting_from j).address) a.self.waiting l.i c.requires.met_2.1 (omega arith) k e in
+    (omega arith, omega arith)
 
 pub loop-i-preserved : goal.loop-i-preserved
 loop-i-preserved c =
     let a = c.args in
     let l = c.loop-i in
     let f = copied a.settled.now a.waiting.now a.work.now a.list.now a.opened.now a.grouped.now a.logged.now a.waited.now in
-    let block : c.copy_newest.new.block ≡ f l.i = rw (← c.wanted.ensures) (c.copy_newest.ensures (found_as (get_or a.opened.now l.i 0)) (found_as (get_or a.grouped.now l.i 0)) (found_as (get_or a.logged.now l.i 0)) (found_as (get_or a.waited.now l.i 0)) (fresh 0) (numbered-found _) (numbered-found _) (numbered-found _) (numbered-found _)) in
+    let block : c.copy_newest.new.block ≡ f l.i = rw (← c.wanted.ensures) (c.copy_newest.ensures (fresh 0)) in
     let total : length a.blocks.now ≡ 512 * wanted_count a.list.now = c.requires.blocks_len in
     let here : l.i < wanted_count a.list.now = omega arith in
     let kept : length c.copy_newest.new.block ≡ length (take (512 * l.i + 512 - 512 * l.i) (drop (512 * l.i) l.blocks)) = c.copy_newest.auto.block in

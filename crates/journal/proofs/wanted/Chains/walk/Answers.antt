@@ -1,9 +1,9 @@
--- `journal::wanted::walk` meets its contract.
+-- `journal::wanted::Chains::walk` meets its contract.
 use Rattle.std.proofs.Common.{◌≡◌, sym, add-one, length}
 use Rattle.cells.specs.Upto.Laws.{length-up_to}
 use Rattle.journal.specs.Log.{slot_address}
 use Rattle.journal.specs.Wanted.{walked}
-use Rattle.journal.proofs.wanted.walk.Goals as goal
+use Rattle.journal.proofs.wanted.Chains.walk.Goals as goal
 
 pub loop-k-preserved : goal.loop-k-preserved
 loop-k-preserved c =

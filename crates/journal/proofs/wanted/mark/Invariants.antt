@@ -1,9 +1,0 @@
--- `journal::wanted::mark` meets its contract: from place i on all were compared with the address.
-use Rattle.journal.proofs.Chains.{Compared}
-use Rattle.journal.proofs.wanted.mark.Given as goal
-
-abbrev pub invariant-loop-i : goal.invariant-loop-i
-invariant-loop-i l = Compared l.list l.a l.place l.initial.met l.met l.i
-
-abbrev pub decreases-loop-i : goal.decreases-loop-i
-decreases-loop-i l = l.i

@@ -1,7 +1,0 @@
--- `journal::wanted::walk` meets its contract. The invariant: the first k slots were read.
-use Rattle.journal.specs.Wanted.{walked}
-use Rattle.journal.specs.CodeWanted.{Met}
-use Rattle.journal.proofs.wanted.walk.Given as goal
-
-abbrev pub invariant-loop-k : goal.invariant-loop-k
-invariant-loop-k l = Met l.list (walked l.settled l.k) l.met
