@@ -12,7 +12,7 @@ ghost use Rattle.firmware.specs.Face.{face_of, faced};
 use crate::record::decode;
 use crate::told::told;
 
-// Stays six alike: each is a function for C. Tried with the call as a closure: after it nothing is known of the bytes that the closure wrote.
+// Stays six alike: each is a function for C. Tried in a model with the call as a closure: search left open what it wrote.
 
 pub fn trapcard_format(
     rec: &mut [u8],
