@@ -41,10 +41,6 @@ append-sum-requires c =
     let a = c.args in
     let same : c.queue.result.waiting ≡ a.self.waiting = ap (λ (q : Queue). q.waiting) c.queue.ensures in
     let room : a.self.logged + a.self.grouped ≤ 32 = c.requires.grouped_bound in
-    let size : group_count (part a.work.now a.self.grouped) ≡ a.self.grouped =
-    sym (length-group_entries (part a.work.now a.self.grouped))
-    ∙ ap length (part_entries a.work.now a.self.grouped (omega arith) c.requires.trap_in_bounds_2)
-    ∙ group_size trap (state_of a.self a.settled.now a.waiting.now a.work.now) in
     let few = c.requires.waiting_le_direct in
     record {
       trap_bound = c.requires.trap_bound;
@@ -72,7 +68,7 @@ returns c =
     let size : length (append_orders trap a.self.blocks a.settled.now a.self.logged a.self.sum (a.self.save + 1) (group_of trap st)) ≡ a.self.grouped + 3 =
     length-append_orders trap a.self.blocks a.settled.now a.self.logged a.self.sum (a.self.save + 1) (group_of trap st) ∙ (omega (arith, trap-descriptors, group_size trap st)) in
     let whole = c.with_grouped-done.ensures
-    ∙ ap (with_grouped 0) (c.with_log.ensures ∙ ap₂ (λ (h : ℕ) (x : Record). with_log (a.self.logged + a.self.grouped) h x) (rw group at c.append-sum.ensures.sum_value) c.with_save.ensures) in
+    ∙ ap (with_grouped 0) (c.with_log.ensures ∙ ap₂ (λ (h : ℕ) (x : Record). with_log (a.self.logged + a.self.grouped) h x) (c.append-sum.ensures.sum_value ∙ ap (sum_of a.self.sum) group) c.with_save.ensures) in
     given (append_orders trap a.self.blocks a.settled.now a.self.logged a.self.sum (a.self.save + 1) (group_of trap st)) (a.self.grouped + 3)
     (with_grouped 0 (with_log (a.self.logged + a.self.grouped) (sum_of a.self.sum (group_of trap st)) (with_save (a.self.save + 1) a.self))) a.self st
     _ _ _ c.append-sum.result.1 _ _ size c.queue.ensures
