@@ -15,7 +15,7 @@ from declarations import declared, filed, imported, promised, trouble, words
 
 ITEM = re.compile(r"\b(?:use|mod|const|struct|enum|impl|fn)\b")
 CONSTANT = re.compile(r"^(?:pub(?:\(crate\))? )?const (\w+).*(?:\n(?: .*|\];))*", re.M)
-HEAD = re.compile(r"^( *)(?:pub(?:\(crate\))? )?(?:extern \"C\" )?fn (\w+)|^impl (?:\S+ for )?(\w+) \{$", re.M)
+HEAD = re.compile(r"^( *)(?:pub(?:\(crate\))? )?(?:extern \"C\" )?fn (\w+)|^impl(?:<.*?>)? (?:\S+ for )?(\w+)(?:<.*?>)? \{$", re.M)
 
 
 def folder(file):

@@ -170,7 +170,9 @@ def code(path, tokens, places, within, found):
             return fail(path, places[i], "no item of code", " ".join(tokens[i:i + 8]))
         if word == "impl":
             body = tokens.index("{", at)
-            code(path, tokens[body + 1:end - 1], places[body + 1:end - 1], tokens[body - 1] + "::", found)
+            head = tokens[at:body]
+            owner = head[-1] if head[-1] != ">" else head[len(head) - head[::-1].index("<") - 2]
+            code(path, tokens[body + 1:end - 1], places[body + 1:end - 1], owner + "::", found)
         elif word not in ("use", "mod"):
             text = tokens[i:start(tokens, at)] if word == "fn" else tokens[i:end]
             public = "extern" in tokens[i:at] or "pub" in tokens[i:at] and tokens[tokens.index("pub", i) + 1] != "("
