@@ -6,7 +6,7 @@ use lib.ListN.{length, take, drop, length-take, length-drop}
 use Rattle.cells.specs.Upto.Laws.{ext_joined}
 use Rattle.journal.specs.Geometry.{trap}
 use Rattle.journal.specs.Log.{slot_address}
-use Rattle.journal.specs.Wanted.{wanted_count}
+use Rattle.journal.specs.Wanted.{wanted_count, wanted_at}
 use Rattle.store.specs.CodeState.{fresh}
 use Rattle.store.specs.Lists.{open_from, group_from, listed}
 use Rattle.store.specs.Get.{waiting_from}
@@ -46,7 +46,8 @@ loop-i-preserved c =
     let a = c.args in
     let l = c.loop-i in
     let f = copied a.settled.now a.waiting.now a.work.now a.list.now a.opened.now a.grouped.now a.logged.now a.waited.now in
-    let block : c.copy_newest.new.block ≡ f l.i = rw (← c.wanted.ensures) (c.copy_newest.ensures (fresh 0)) in
+    let address : c.wanted.result ≡ wanted_at a.list.now l.i = c.wanted.ensures in
+    let block : c.copy_newest.new.block ≡ f l.i = rw (← address) (c.copy_newest.ensures (fresh 0)) in
     let total : length a.blocks.now ≡ 512 * wanted_count a.list.now = c.requires.blocks_len in
     let here : l.i < wanted_count a.list.now = omega arith in
     let kept : length c.copy_newest.new.block ≡ length (take (512 * l.i + 512 - 512 * l.i) (drop (512 * l.i) l.blocks)) = c.copy_newest.auto.block in
