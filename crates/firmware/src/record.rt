@@ -10,6 +10,7 @@ use store::record::Record;
 // Its length.
 const RECORD: usize = 44;
 
+// Stays by hand, as `encode` does: the record's form as bytes is C's.
 // The record that the bytes stand for. Another length is refused.
 pub(crate) fn decode(bytes: &[u8]) -> Result<Record, Refusal>
     ensures { MatchResult result (λ r. (length bytes.now ≡ record_bytes) × (r ≡ decode_record bytes.now)) (λ e. (length bytes.now ≢ record_bytes) × (e ≡ Size)) }

@@ -28,6 +28,7 @@ pub(crate) fn told(rec: &mut [u8], held: Record, said: Result<Record, Refusal>) 
     number(said)
 }
 
+// Stays beside `told`: it has a third case, power that was gone, and hands out the orders.
 // Likewise for a call that gives orders, which are counted.
 pub(crate) fn told_orders(
     rec: &mut [u8],

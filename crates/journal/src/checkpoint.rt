@@ -12,6 +12,7 @@ use crate::header::Header;
 use crate::log::{slot_address, slot_block};
 use card::queue::{PowerLost, Queue};
 
+// Stays beside `append`'s `write_slots`: each promises its own list of writes, which a loop over a closure would say by the closure's `post`.
 // The writes of the log's blocks to their home addresses, in slot order.
 fn write_homes(queue: Queue, settled: &[u8], waiting: &mut [u8], n: u32) -> Result<Queue, PowerLost>
     requires trap_bound { first_data trap < blocks_in settled.now }

@@ -52,6 +52,7 @@ impl Header {
         Header::new(blocks, 0, fnv::START, 0, fnv::START, save)
     }
 
+    // Stays by hand, as `fill` does: the header's form as bytes is what is promised.
     // The header that a block holds.
     pub fn read(block: &[u8]) -> Header
         requires { length block.now ≡ block_bytes }

@@ -21,6 +21,8 @@ pub fn is_data(blocks: u32, a: u32) -> bool
     FIRST_DATA <= a && a < blocks
 }
 
+// Stays an argument, here and where the card is read: a view that holds the settled bytes and that they reach the data was tried and proves. It takes a clause
+// from each `requires` and lengthens each `ensures`, and who lends the bytes to be written can't hold it.
 // The address in slot i.
 pub fn slot_address(settled: &[u8], i: u32) -> u32
     requires trap_bound { first_data trap < blocks_in settled.now }

@@ -10,6 +10,7 @@ ghost use Rattle.powercut.specs.Sets as Sets;
 // Up to how many waiting writes all sets are tried.
 const FEW: u32 = 6;
 
+// Stays plain numbers with their bounds: a struct of n, a set and i would be built for each mark.
 // How many sets there are for n waiting writes.
 pub(crate) fn count(n: u32) -> u32
     requires { n ≤ trap_places }

@@ -20,6 +20,7 @@ use store::record::Record;
 use store::saved::{Saved, Stopped};
 
 // The answer to a line that is not understood.
+// Stays a number, here and in `Done`: it is what the line prints.
 const NOT_UNDERSTOOD: u32 = 11;
 
 // Where the digits start in the line of a cut, and the most marks that they give.

@@ -15,6 +15,7 @@ use crate::{ANSWER, BLOCKS, FED, KEPT, PRINTED};
 use card::queue::Queue;
 use store::record::{CLOSED, Record};
 
+// Stays counts beside lent buffers: there is no heap, and a buffer of its own would be copied at each step. The fields are public, so what they may hold is asked of each step.
 // The record, how many bytes of a line are kept, and how many of the output's buffer are to be printed.
 #[derive(Clone, Copy)]
 pub struct Session {

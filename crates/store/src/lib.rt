@@ -24,6 +24,8 @@ pub mod sync;
 use cells::ENTRY;
 use journal::{PLACES, SLOTS};
 
+// Stays three arguments, settled, waiting, work: each call lends them as it needs, to be read or to be written, and so says by their types what it leaves alone.
+
 // The lengths of the waiting bytes and of work memory: 32 open entries, then 32 group entries.
 pub const WAITING: usize = ENTRY * PLACES;
 

@@ -37,6 +37,7 @@ pub(crate) fn place_of(from: usize, i: u32) -> usize
     ENTRY * (from + (i as usize)) + ADDRESS
 }
 
+// Stays beside the journal's `last_slot`: a line or two each, over other bytes.
 // The entry with the address a among its first n.
 pub(crate) fn find(work: &[u8], from: usize, n: u32, a: u32) -> Option<u32>
     requires { entry_bytes * (from + n) ≤ length work.now }
@@ -53,6 +54,7 @@ pub(crate) fn holds(work: &[u8], from: usize, n: u32, a: u32) -> bool
     find(work, from, n, a).is_some()
 }
 
+// Stays beside `Chains::walk`: one loop of a line each, and what is read, as a closure, would need a clause of its own in both.
 // Looks for wanted addresses among its first n, as the walk of the descriptor does in the log.
 pub(crate) fn look(work: &[u8], from: usize, n: u32, chains: &Chains, met: &mut [Option<u32>])
     requires n_in_bounds { entry_bytes * (from + n) ≤ length work.now }

@@ -6,6 +6,7 @@ ghost use Rattle.store.specs.CodeState.{fresh};
 use card::queue::Queue;
 
 // The modes.
+// Stays numbers: a record from C may hold any, and `check_record` answers 2 for one above these.
 pub const CLOSED: u32 = 0;
 
 pub const OPEN_MODE: u32 = 1;
@@ -15,6 +16,7 @@ pub const DOWN: u32 = 2;
 // The power count of a fresh card.
 pub const POWER: u32 = 1000000;
 
+// Stays without an invariant: a record from C may hold any counts. That they are in bounds is what a check has shown, and is asked where it is used.
 #[derive(Clone, Copy)]
 pub struct Record {
     pub mode: u32,
