@@ -136,7 +136,7 @@ FAULTS = (
           True),
     Fault("a list's walk leaves out the last slot", "journal/wanted", "for k in 0..n {", "let n = n.saturating_sub(1);\nfor k in 0..n {",
           True),
-    Fault("a list of 33 addresses is served", "journal/wanted", "MOST_WANTED: usize = 32;", "MOST_WANTED: usize = 33;", True),
+    Fault("a list of 33 addresses is served", "store/get_list", "MOST_WANTED: usize = 32;", "MOST_WANTED: usize = 33;", True),
     Fault("a list leaves out the last entry of open, group and queue", "store/lists", "for i in 0..n {",
           "for i in 0..n.saturating_sub(1) {", True),
     Fault("a list takes the group over open", "store/get_list", "if let Some(i) = opened {", "if let (Some(i), None) = (opened, grouped) {",

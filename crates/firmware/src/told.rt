@@ -1,7 +1,7 @@
 // What C is told: a number, 0 for done; the record as it is left; the orders carried out.
 ghost use Rattle.std.specs.Prelude.{◌≡◌, List, ℕ, length};
 ghost use Rattle.refusals.specs.Numbers.{answer};
-ghost use Rattle.store.specs.CodeState.{answered, saved_as};
+ghost use Rattle.store.specs.CodeState.{answered, ended_as};
 ghost use Rattle.firmware.specs.Face.{record_bytes, face_of, handed};
 
 use crate::record::encode;
@@ -37,7 +37,7 @@ pub(crate) fn told_orders(
     said: Result<Saved, Stopped>,
 ) -> u32
     requires { length rec.old ≡ record_bytes }
-    ensures { (s w k : List ℕ) → face_of result orders.new rec.new s w k ≡ handed (saved_as said held s w k) }
+    ensures { (s w k : List ℕ) → face_of result orders.new rec.new s w k ≡ handed (ended_as said held s w k) }
 {
     let (number, left) = match said {
         Ok(saved) => (0, saved),

@@ -51,7 +51,7 @@ module _ (geo : Geometry) where
 
   -- ---- Refinement (demand 2)
 
-  -- "Some each call of a list the store gives the plain disk's answer, orders handed back […], block from a get and, when open, n". W-201:
+  -- "At each call of a list the store gives the plain disk's answer, orders handed back […], block from a get and, when open, n". W-201:
   -- when open, the record's save number is the number of nonempty groups laid into S; it is "0 after a cut", until a recover is done
   pub record Agrees (c : Call) (w : World) : Type 0 where
     pub answer : (dispatch geo c w.store).answer ≡ (plain_step geo c (fed geo c w) w.plain).answer
@@ -366,7 +366,7 @@ module _ (geo : Geometry) where
     pub number : number_found geo (after geo cs (begun geo st)) ≡ (outcome end (after geo a (begun geo st)).plain.S).groups
     pub counted : number_found geo (after geo cs (begun geo st)) ≡ groups_laid geo cs (begun geo st) (known quiet)
 
-  -- Some every place of every list at which a recover answers 0 with no exception at a cut before it; cs is the list before that place,
+  -- At every place of every list at which a recover answers 0 with no exception at a cut before it; cs is the list before that place,
   -- and what follows plays no part
   abbrev pub CrashAtomicity : Type 0
   CrashAtomicity =

@@ -10,7 +10,7 @@ numbered None = 0
 
 -- the most addresses that are chained
 abbrev pub most_chained : ℕ
-most_chained = 32
+most_chained = 255
 
 -- the buckets that addresses fall into, by their low bits
 abbrev pub buckets : ℕ

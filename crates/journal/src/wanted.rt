@@ -14,8 +14,8 @@ use cells::number::read_u32;
 // The buckets that they fall into.
 const BUCKETS: usize = 128;
 
-// The most addresses of a list.
-pub const MOST_WANTED: usize = 32;
+// The most addresses of a list, whose places are numbers of one byte above 0.
+const MOST: usize = 255;
 
 // How many there are.
 pub fn count(list: &[u8]) -> usize
@@ -38,7 +38,7 @@ pub fn wanted(list: &[u8], i: usize) -> u32
 pub struct Chains<'a> {
     pub list: &'a [u8],
     last: [u8; BUCKETS],
-    before: [u8; MOST_WANTED],
+    before: [u8; MOST],
     ghost few: { wanted_count list.now ≤ most_chained },
     ghost chained: { Chained list.now last before (wanted_count list.now) },
 }
@@ -50,7 +50,7 @@ impl<'a> Chains<'a> {
         ensures { result.list.now ≡ list.now }
     {
         let mut last = [0; BUCKETS];
-        let mut before = [0; MOST_WANTED];
+        let mut before = [0; MOST];
         for i in 0..count(list) {
             let bucket = wanted(list, i) as usize % BUCKETS;
             before[i] = last[bucket];

@@ -2,7 +2,7 @@
 ghost use Rattle.std.specs.Prelude.{◌≡◌, ◌≤◌, List, ℕ, length, take, get_or, replicate};
 ghost use Rattle.cells.specs.Entry.{block_bytes};
 ghost use Rattle.refusals.specs.Numbers.{answer};
-ghost use Rattle.store.specs.CodeState.{state_of, answered, saved_as};
+ghost use Rattle.store.specs.CodeState.{state_of, answered, ended_as};
 ghost use Rattle.store.specs.Put.{put_call};
 ghost use Rattle.store.specs.Cut.{cut_call};
 ghost use Rattle.journal.specs.Geometry.{trap};
@@ -57,7 +57,7 @@ impl Done {
 
     // A call that hands back its orders.
     fn saved(before: Record, said: Result<Saved, Stopped>) -> Done
-        ensures { (s w k : List ℕ) → reply_of result.number result.third result.rec s w k ≡ Replies.saved (saved_as said before s w k) }
+        ensures { (s w k : List ℕ) → reply_of result.number result.third result.rec s w k ≡ Replies.saved (ended_as said before s w k) }
     {
         match said {
             Ok(saved) => Done {

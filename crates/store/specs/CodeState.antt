@@ -31,10 +31,10 @@ answered (Ok r) before settled waiting work = outcome_of 0 0 r settled waiting w
 answered (Err refusal) before settled waiting work = outcome_of (number_of refusal) 0 before settled waiting work
 
 -- a call that gives orders; 4 where its power was gone before the last of them
-abbrev pub saved_as : Result Saved Stopped → Record → List ℕ → List ℕ → List ℕ → Outcome
-saved_as (Ok s) before settled waiting work = outcome_of 0 s.orders s.rec settled waiting work
-saved_as (Err (Refused refusal)) before settled waiting work = outcome_of (number_of refusal) 0 before settled waiting work
-saved_as (Err (PowerLost s)) before settled waiting work = outcome_of 4 s.orders s.rec settled waiting work
+abbrev pub ended_as : Result Saved Stopped → Record → List ℕ → List ℕ → List ℕ → Outcome
+ended_as (Ok s) before settled waiting work = outcome_of 0 s.orders s.rec settled waiting work
+ended_as (Err (Refused refusal)) before settled waiting work = outcome_of (number_of refusal) 0 before settled waiting work
+ended_as (Err (PowerLost s)) before settled waiting work = outcome_of 4 s.orders s.rec settled waiting work
 
 -- a place that holds a whole block: one of the settled blocks, or that of an entry in the waiting bytes or in work memory
 abbrev pub HoldsBlock : Place → List ℕ → List ℕ → List ℕ → Type 0

@@ -5,7 +5,7 @@ ghost use Rattle.card.specs.CodeQueue.{Below};
 ghost use Rattle.journal.specs.Geometry.{trap};
 ghost use Rattle.journal.specs.Layout.{first_data};
 ghost use Rattle.journal.specs.Log.{slot_address};
-ghost use Rattle.store.specs.CodeState.{state_of, saved_as};
+ghost use Rattle.store.specs.CodeState.{state_of, ended_as};
 ghost use Rattle.store.specs.Causes.{waiting_bytes};
 ghost use Rattle.store.specs.Saves.{emptying, apply_call};
 
@@ -20,7 +20,7 @@ impl Record {
         waiting: &mut [u8],
         work: &[u8],
     ) -> Result<Saved, Stopped>
-        ensures { saved_as result self settled.new waiting.new work.now ≡ apply_call trap (state_of self settled.old waiting.old work.now) }
+        ensures { ended_as result self settled.new waiting.new work.now ≡ apply_call trap (state_of self settled.old waiting.old work.now) }
     {
         self.check_open(settled, waiting, work)?;
         if self.logged == 0 {

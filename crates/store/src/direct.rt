@@ -8,7 +8,7 @@ ghost use Rattle.journal.specs.Layout.{first_data};
 ghost use Rattle.journal.specs.Lookup.{last_slot};
 ghost use Rattle.refusals.specs.Numbers.{answer};
 ghost use Rattle.store.specs.State.{card_in};
-ghost use Rattle.store.specs.CodeState.{state_of, saved_as};
+ghost use Rattle.store.specs.CodeState.{state_of, ended_as};
 ghost use Rattle.store.specs.Lists as Lists;
 ghost use Rattle.store.specs.Lists.{open_from, group_from};
 ghost use Rattle.store.specs.Request as Request;
@@ -34,7 +34,7 @@ impl Record {
         address: u32,
         block: &[u8],
     ) -> Result<Saved, Stopped>
-        ensures { saved_as result self settled.new waiting.new work.now ≡ direct_call trap address block.now (state_of self settled.old waiting.old work.now) }
+        ensures { ended_as result self settled.new waiting.new work.now ≡ direct_call trap address block.now (state_of self settled.old waiting.old work.now) }
     {
         self.check_direct(settled, waiting, work, address, block)?;
         self.saved(self.written(settled, waiting, address, block))

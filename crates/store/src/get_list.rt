@@ -22,8 +22,11 @@ use card::settled::read;
 use cells::bytes::copy;
 use cells::{ADDRESS, BLOCK, entry};
 use journal::log::{is_data, slot_block};
-use journal::wanted::{Chains, MOST_WANTED, count, wanted};
+use journal::wanted::{Chains, count, wanted};
 use refusals::Refusal;
+
+// The most addresses of a list.
+const MOST_WANTED: usize = 32;
 
 // Row 1: a list that is no list of addresses, of too many, or a buffer that is not 512 bytes for each.
 fn wrong_list(list: &[u8], blocks: &[u8]) -> bool

@@ -5,7 +5,7 @@ ghost use Rattle.journal.specs.Geometry.{trap};
 ghost use Rattle.journal.specs.Layout.{first_data};
 ghost use Rattle.journal.specs.Choice.{choice_number};
 ghost use Rattle.refusals.specs.Numbers.{answer};
-ghost use Rattle.store.specs.CodeState.{state_of, saved_as};
+ghost use Rattle.store.specs.CodeState.{state_of, ended_as};
 ghost use Rattle.store.specs.Causes.{waiting_bytes, down_row, open_row, of_record, cause_by};
 ghost use Rattle.store.specs.Outcomes.{unless};
 ghost use Rattle.store.specs.Saves as Saves;
@@ -24,7 +24,7 @@ impl Record {
         waiting: &mut [u8],
         work: &[u8],
     ) -> Result<Saved, Stopped>
-        ensures { saved_as result self settled.new waiting.new work.now ≡ recover_call trap (state_of self settled.old waiting.old work.now) }
+        ensures { ended_as result self settled.new waiting.new work.now ≡ recover_call trap (state_of self settled.old waiting.old work.now) }
     {
         self.check_closed(settled, waiting, work)?;
         let choice = choose(settled, self.blocks);
@@ -58,7 +58,7 @@ impl Record {
         requires trap_bound { first_data trap < blocks_in settled.old }
         requires waiting_value { self.waiting ≡ 0 }
         requires trap_in_bounds { waiting_bytes trap ≤ length waiting.old }
-        ensures { (k : List ℕ) → saved_as result self settled.new waiting.new k ≡ unless (choice_number choice) (state_of self settled.old waiting.old k) (recovering choice (state_of self settled.old waiting.old k)) }
+        ensures { (k : List ℕ) → ended_as result self settled.new waiting.new k ≡ unless (choice_number choice) (state_of self settled.old waiting.old k) (recovering choice (state_of self settled.old waiting.old k)) }
     {
         match choice {
             Choice::Whole(n, sum, save) => self.saved(self.reopened(n, sum, save)),

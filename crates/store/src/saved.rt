@@ -2,7 +2,7 @@
 ghost use Rattle.std.specs.Prelude.{◌≡◌, cond, List, ℕ, ◌-◌, ◌≤◌, eqb, is_ok};
 ghost use Rattle.card.specs.CodeQueue.{left_queue};
 ghost use Rattle.store.specs.State.{down, with_mode, with_queue};
-ghost use Rattle.store.specs.CodeState.{outcome_of, saved_as};
+ghost use Rattle.store.specs.CodeState.{outcome_of, ended_as};
 
 use crate::record::{DOWN, Record};
 use card::queue::{PowerLost, Queue};
@@ -46,7 +46,7 @@ impl Record {
     // The end of a call that made `last` of the record: power was gone if it is down. The power used up is the orders carried out.
     pub(crate) fn saved(self, last: Record) -> Result<Saved, Stopped>
         requires { last.power ≤ self.power }
-        ensures { (s w k : List ℕ) → saved_as result self s w k ≡ outcome_of (cond (eqb last.mode down) 4 0) (self.power - last.power) last s w k }
+        ensures { (s w k : List ℕ) → ended_as result self s w k ≡ outcome_of (cond (eqb last.mode down) 4 0) (self.power - last.power) last s w k }
     {
         let saved = Saved {
             orders: self.power - last.power,

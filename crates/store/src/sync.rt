@@ -9,7 +9,7 @@ ghost use Rattle.journal.specs.Log.{slot_address};
 ghost use Rattle.journal.specs.Orders.{barrier};
 ghost use Rattle.refusals.specs.Numbers.{answer};
 ghost use Rattle.store.specs.State.{open_mode};
-ghost use Rattle.store.specs.CodeState.{state_of, saved_as};
+ghost use Rattle.store.specs.CodeState.{state_of, ended_as};
 ghost use Rattle.store.specs.Request as Request;
 ghost use Rattle.store.specs.Causes.{cause, waiting_bytes, work_bytes};
 ghost use Rattle.store.specs.Saves.{carried, appending, syncing, sync_call};
@@ -25,7 +25,7 @@ use refusals::Refusal;
 
 impl Record {
     pub fn sync(self, settled: &mut [u8], waiting: &mut [u8], work: &[u8]) -> Result<Saved, Stopped>
-        ensures { saved_as result self settled.new waiting.new work.now ≡ sync_call trap (state_of self settled.old waiting.old work.now) }
+        ensures { ended_as result self settled.new waiting.new work.now ≡ sync_call trap (state_of self settled.old waiting.old work.now) }
     {
         self.check_sync(settled, waiting, work)?;
         self.saved(self.synced(settled, waiting, work))

@@ -7,7 +7,7 @@ use Rattle.journal.proofs.Chains.{chained_none, chained_more}
 use Rattle.journal.proofs.wanted.Chains.of.Goals as goal
 
 pub loop-i-init : goal.loop-i-init
-loop-i-init c = (length-replicate {A = ℕ} buckets 0, length-replicate {A = ℕ} 32 0, chained_none c.args.list.now (replicate 32 0))
+loop-i-init c = (length-replicate {A = ℕ} buckets 0, length-replicate {A = ℕ} 255 0, chained_none c.args.list.now (replicate 255 0))
 
 pub loop-i-preserved : goal.loop-i-preserved
 loop-i-preserved c =
