@@ -72,7 +72,7 @@ pub fn copy_kept(dst: &mut [u8], src: &[u8], marks: &[u8])
     requires { (length dst.old ≡ length src.now) × (length dst.old ≡ length marks.now) }
     ensures { dst.new ≡ torn marks.now src.now dst.old }
 {
-    // Stays an index: a `zip` of `iter_mut` with slices of other lifetimes is not covered by the borrow checker.
+    // Stays an index: tried, and a `zip` of `iter_mut` with slices of other lifetimes is not covered by the borrow checker.
     for (i, to) in dst.iter_mut().enumerate() {
         *to = left(marks[i], src[i], *to);
     }

@@ -23,7 +23,7 @@ pub struct PowerLost {
 }
 
 // The address of a waiting write.
-// Stays: who reads the queue (`store`, `powercut`) need not know that its writes are entries.
+// Stays beside `entry::address`: the crates above reach the card through its own calls, a rule of the project.
 pub fn address(waiting: &[u8], i: usize) -> u32
     requires { entry_bytes * i + entry_bytes ≤ length waiting.now }
     ensures { result ≡ (entry_at waiting.now i).address }

@@ -1,5 +1,5 @@
 // Whole slices: the copier, the fill and the comparison.
-// Stays: each is one method of the library, but a public function with a promise in our own words, which the crates above cite.
+// Stays: each is one method of the library, and a public function whose promise stands; `copy` is the copier that the card lends to.
 ghost use Rattle.std.specs.Prelude.{◌≡◌, length, replicate};
 ghost use Rattle.cells.specs.Same as Same;
 

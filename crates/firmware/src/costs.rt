@@ -6,8 +6,7 @@ ghost use Rattle.journal.specs.Geometry.{trap};
 ghost use Rattle.firmware.specs.Face.{Asked, told, asked};
 
 use crate::record::decode;
-use crate::told::number;
-use refusals::Refusal;
+use refusals::{Refusal, number};
 use store::cost::Cost;
 
 // Hands out the figures, 1 for yes; the number.

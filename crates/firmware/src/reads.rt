@@ -6,7 +6,7 @@ ghost use Rattle.journal.specs.Geometry.{trap};
 ghost use Rattle.firmware.specs.Face.{buffer_number, buffer_offset, got_of, got, listed, tallied, compared_of, compared};
 
 use crate::record::decode;
-use crate::told::number;
+use refusals::number;
 use store::place::Place;
 
 // The buffers that a get names.

@@ -1,23 +1,12 @@
 // What C is told: a number, 0 for done; the record as it is left; the orders carried out.
 ghost use Rattle.std.specs.Prelude.{◌≡◌, List, ℕ, length};
-ghost use Rattle.refusals.specs.Numbers.{answer};
 ghost use Rattle.store.specs.CodeState.{answered, ended_as};
 ghost use Rattle.firmware.specs.Face.{record_bytes, face_of, handed};
 
 use crate::record::encode;
-use refusals::Refusal;
+use refusals::{Refusal, number};
 use store::record::Record;
 use store::saved::{Saved, Stopped};
-
-// The number that a result stands for.
-pub(crate) fn number<T: Copy>(said: Result<T, Refusal>) -> u32
-    ensures { result ≡ answer said }
-{
-    match said {
-        Ok(_) => 0,
-        Err(refusal) => refusal.into(),
-    }
-}
 
 // Stores the record that a call without orders left; a refusal leaves what was held.
 pub(crate) fn told(rec: &mut [u8], held: Record, said: Result<Record, Refusal>) -> u32
@@ -28,8 +17,8 @@ pub(crate) fn told(rec: &mut [u8], held: Record, said: Result<Record, Refusal>) 
     number(said)
 }
 
-// Stays beside `told`: it has a third case, power that was gone, and hands out the orders.
 // Likewise for a call that gives orders, which are counted.
+// Stays beside `told`: it has a third case, power that was gone, and hands out the orders.
 pub(crate) fn told_orders(
     rec: &mut [u8],
     orders: &mut u32,

@@ -16,7 +16,7 @@ use journal::log::{is_data, slot_address, slot_block};
 use journal::lookup::last_slot;
 use refusals::Refusal;
 
-// A loop of this known length is unrolled, and its bytes are added up sixteen at a time.
+// The bytes of an array of this length are added up sixteen at a time.
 const CHUNK: usize = 64;
 
 // The sum of a chunk's bytes.
@@ -48,7 +48,7 @@ fn sum_block(settled: &[u8], a: u32) -> u64
 }
 
 // The sum of all data bytes in the home blocks.
-// Stays a function of the bytes and N: that a byte is below 256, which the upper bound needs, a proof knows of a slice that is an argument, not of a struct's.
+// Stays a function of the bytes and N: tried as a method, and that a byte is below 256, which the upper bound needs, a proof knows of a slice that is an argument, not of a struct's.
 fn sum_homes(settled: &[u8], blocks: u32) -> u64
     requires { blocks ≤ blocks_in settled.now }
     ensures value { result ≡ sum_data trap (block_at settled.now) (data_blocks trap blocks) }

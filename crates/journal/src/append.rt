@@ -38,6 +38,7 @@ impl Log {
     }
 }
 
+// Stays beside `wanted::count`: each divides by a length of its own.
 // How many entries a group is. Its bytes are its entries, one behind the other.
 fn count(group: &[u8]) -> usize
     ensures { result ≡ group_count group.now }
@@ -140,7 +141,7 @@ fn give_orders(
     h.order(listed, settled, waiting)
 }
 
-// Appends a group to the log. Returns the sum of the longer log, and whether all its orders happened.
+// Appends a group to the log. Returns the sum of the longer log, and what its orders came to.
 pub fn append(
     queue: Queue,
     settled: &mut [u8],

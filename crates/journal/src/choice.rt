@@ -12,7 +12,7 @@ use crate::{HEADER_AT, SLOTS};
 use card::settled::read;
 
 // The list that a recovery takes: its count, its sum and its save number.
-// Stays an enum of four: two lists and two refusals, each with its number (`choice_number`), are neither an Option nor a Result.
+// Stays an enum of four: `choose` and `choice_number`, and the statement that a fallback's header has a number, speak of these cases.
 #[derive(Clone, Copy, PartialEq, Eq, Debug)]
 pub enum Choice {
     Whole(u32, u64, u64),

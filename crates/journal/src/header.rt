@@ -52,7 +52,7 @@ impl Header {
         Header::new(blocks, 0, fnv::START, 0, fnv::START, save)
     }
 
-    // Stays by hand, as `fill` does: the header's form as bytes is what is promised.
+    // Stays by hand, as `fill` does: the header's form as bytes is what is promised (`encode`, `decode`).
     // The header that a block holds.
     pub fn read(block: &[u8]) -> Header
         requires { length block.now ≡ block_bytes }
@@ -84,6 +84,7 @@ impl Header {
         write_u64(block, 32, self.save);
     }
 
+    // Stays three arguments, queue, settled, waiting, here and where orders are given: the queue goes by value, as the record holds it, and C lends the bytes.
     // The orders that make this the card's header: one write of block 0, then a flush.
     pub fn order(self, q: Queue, settled: &mut [u8], waiting: &mut [u8]) -> Result<Queue, PowerLost>
         requires settled_nonzero { 0 < blocks_in settled.old }

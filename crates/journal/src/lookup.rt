@@ -7,6 +7,7 @@ ghost use Rattle.journal.specs.Lookup.{last_slot};
 
 use crate::log::slot_address;
 
+// Stays a `for`: `rev().find(..)` was tried, and the check found no proof of it here.
 // The last of the first n slots whose address is a.
 pub fn last_slot(settled: &[u8], a: u32, n: u32) -> Option<u32>
     requires trap_bound { first_data trap < blocks_in settled.now }

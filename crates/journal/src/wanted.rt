@@ -32,6 +32,7 @@ pub fn wanted(list: &[u8], i: usize) -> u32
     read_u32(list, ADDRESS * i)
 }
 
+// Stays numbers of one byte, 0 for none, in the arrays: fixed memory, and `Chained` states them so.
 // A list of wanted addresses, chained: the last place in each bucket, and before each place the one before it in its bucket, as numbers
 // above 0.
 #[derive(Drop)]

@@ -26,7 +26,7 @@ pub fn ask(
 ) -> u32
     ensures { ◌≡◌ {A = Asked} (record { number = result; orders = orders.new; applies = applies.new; peak = peak.new; reaches = reaches.new }) (asked_on (save_of inquiry) (face_of 0 0 rec.now settled.now waiting.now work.now)) }
 {
-    // Stays a match: the inquiries are functions for C, and a table of them is no plainer.
+    // Stays a match: a table of three functions would be looked up by the same three cases.
     match inquiry {
         Inquiry::SyncCost => {
             trapcard_sync_cost(rec, settled, waiting, work, orders, applies, peak, reaches)

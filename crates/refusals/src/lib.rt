@@ -2,7 +2,7 @@
 #![tactic(auto)]
 
 ghost use Rattle.std.specs.Prelude.{◌≡◌};
-ghost use Rattle.refusals.specs.Numbers.{number_of};
+ghost use Rattle.refusals.specs.Numbers.{number_of, answer};
 
 // The causes, in the order in which they are looked for. 11 is a script's: a line that is not understood.
 #[derive(Clone, Copy, Debug, PartialEq, Eq)]
@@ -41,5 +41,15 @@ impl From<Refusal> for u32 {
             Refusal::InUse => 13,
             Refusal::Listed => 14,
         }
+    }
+}
+
+// The number that a result stands for: 0 if it is no refusal.
+pub fn number<T: Copy>(said: Result<T, Refusal>) -> u32
+    ensures { result ≡ answer said }
+{
+    match said {
+        Ok(_) => 0,
+        Err(refusal) => refusal.into(),
     }
 }

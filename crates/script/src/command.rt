@@ -53,7 +53,7 @@ fn with_fields(word: &[u8], rest: &[u8]) -> Command
 }
 
 // A word alone.
-// Stays a row of tests: a match on byte strings is proved byte by byte, and has 38 goals where no word fits.
+// Stays a row of tests: words are compared with the fixed byte strings that are written back (`words`), and a match is no shorter.
 fn alone(word: &[u8]) -> Command
     ensures { result ≡ Commands.alone word.now }
 {

@@ -1,7 +1,6 @@
 // What a command does to the store.
 ghost use Rattle.std.specs.Prelude.{◌≡◌, ◌≤◌, List, ℕ, length, take, get_or, replicate};
 ghost use Rattle.cells.specs.Entry.{block_bytes};
-ghost use Rattle.refusals.specs.Numbers.{answer};
 ghost use Rattle.store.specs.CodeState.{state_of, answered, ended_as};
 ghost use Rattle.store.specs.Put.{put_call};
 ghost use Rattle.store.specs.Cut.{cut_call};
@@ -15,7 +14,7 @@ use crate::KEPT;
 use crate::command::Command;
 use crate::number::value_of;
 use cells::BLOCK;
-use refusals::Refusal;
+use refusals::{Refusal, number};
 use store::record::Record;
 use store::saved::{Saved, Stopped};
 
@@ -125,16 +124,6 @@ fn get<'a>(rec: Record, settled: &'a [u8], waiting: &'a [u8], work: &'a [u8], ad
     let number = number(rec.check_get(settled, waiting, work, address));
     let third = first(rec.get(settled, waiting, work, address));
     Done { number, third, rec }
-}
-
-// The number that refuses a question, 0 for none.
-fn number(said: Result<(), Refusal>) -> u32
-    ensures { result ≡ answer said }
-{
-    match said {
-        Ok(()) => 0,
-        Err(refusal) => refusal.into(),
-    }
 }
 
 // The first byte, 0 where there is none.

@@ -8,6 +8,7 @@ use crate::command::Command;
 use crate::words;
 use itoa::Buffer;
 
+// Stays a place in a lent buffer: there is no heap.
 // Bytes behind the first at of out; where they end.
 pub(crate) fn append(out: &mut [u8], at: usize, bytes: &[u8]) -> usize
     requires { at + length bytes.now ≤ length out.old }

@@ -19,7 +19,7 @@ use journal::header::Header;
 use refusals::Refusal;
 
 impl Record {
-    // format: zeros everywhere, an empty log's header, and a fresh record; 13 for a card in use. What the old record holds plays no part.
+    // format: zeros everywhere, an empty log's header, and a fresh record; refused for a card in use. What the old record holds plays no part.
     pub fn format(
         self,
         settled: &mut [u8],

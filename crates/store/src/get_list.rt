@@ -100,6 +100,7 @@ fn copy_newest(
 }
 
 impl Record {
+    // Stays four lists of places: `Chains::mark` writes one at a time.
     // Copies each block from where it was met.
     fn copy_out(
         self,

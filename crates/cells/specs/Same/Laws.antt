@@ -107,5 +107,3 @@ same_words s t i d x y d' h l p q ex ey e rest =
     nested : (b c : Bool) → cond (b && c) (same_from s t (i + 8)) false ≡ cond b (cond c (same_from s t (i + 8)) false) false
     nested true c = refl
     nested false c = refl
-
--- ---- yes
