@@ -133,12 +133,16 @@ module _ (geo : Geometry) where
     pub home_same : same (block_at a x) (block_at b x) ≡ true → true ≡ same (laid geo a n x) (laid geo b n x)
     home_same h = sym (laid-found (last_slot a x n) refl ∙ rw (same_equal (block_at a x) (block_at b x) h) (same_self (slot_or a (last_slot a x n) (block_at b x))))
 
-    -- unlike there, so that the log decides
+    -- in the log
+    pub logged_same : (i : ℕ) → last_slot a x n ≡ Some i → true ≡ same (laid geo a n x) (laid geo b n x)
+    logged_same i p = sym (laid-found (Some i) p ∙ same_self (block_at a (slot_at geo i)))
+
+    -- unlike at home, so that the log decides
     pub home_unlike : same (block_at a x) (block_at b x) ≡ false → is_some (last_slot a x n) ≡ same (laid geo a n x) (laid geo b n x)
     home_unlike h = go (last_slot a x n) refl
       where
         go : (r : Option ℕ) → last_slot a x n ≡ r → is_some r ≡ same (laid geo a n x) (laid geo b n x)
-        go (Some i) p = sym (laid-found (Some i) p ∙ same_self (block_at a (slot_at geo i)))
+        go (Some i) p = logged_same i p
         go None p = sym (laid-found None p ∙ h)
 
   -- ---- the answer of alike

@@ -11,6 +11,7 @@ use native.Mathlib.Decide.{ℕ_discrete}
 use native.Mathlib.Omega.{arith}
 use borrow.Author.Tests.{ne_eqb}
 use lib.ListN.{length, take, drop, get_or, length-drop}
+use lib.Seq.{take-add}
 use Rattle.std.specs.List.{sum, sum_by, range_with_len}
 use Rattle.std.specs.Simd.{first_chunks}
 use Rattle.std.proofs.lemmas.List.{take-append-drop}
@@ -143,3 +144,9 @@ module _ (geo : Geometry) where
   pub tally_done : (s : List ℕ) (r : Reading) (v : ℕ) → Taken geo s r → v ≡ sum_data geo (laid geo r.settled.now r.count) (data_blocks geo r.blocks) → tally_answer (Ok v) ≡ tally_of geo s
   unfolding tally_of
   tally_done s r v t e = rw (t.none, e, t.settled, t.blocks, t.count)
+
+-- ---- a law that nothing cites today
+
+-- one more chunk of k bytes, of sum v: n is its length as the code computes it
+chunk_next : (k : ℕ) (s : List ℕ) (i n u v : ℕ) → n ≡ k → u ≡ sum_bytes (take (k * i) s) → v ≡ sum_bytes (take n (drop (k * i) s)) → u + v ≡ sum_bytes (take (k * (i + 1)) s)
+chunk_next k s i n u v e p q = rw (p, q, e, mul-add k i 1, mul-one k, take-add (k * i) k s) (sym (bytes-append (take (k * i) s) (take k (drop (k * i) s))))
