@@ -38,8 +38,8 @@ echo "firmware: the sum is there, and nothing in it multiplies or calls"
 # What a full log adds to a tally is the same on a card with ten times as many data blocks. A search of the log for each data block would
 # add to it, unless it took as long in an empty log.
 gcc -O2 "${strict[@]}" bench/passes.c bench/pass.c "$archive" -o "$out/passes"
-counted() { # CALL PROGRAM N COUNT: the instructions of a call, whose answer has to be right
-  valgrind -q --tool=callgrind --toggle-collect="trapcard_$1" --callgrind-out-file="$out/dump" "$out/$2" "$3" "$4" &&
+counted() { # CALL PROGRAM N COUNT: the instructions of a call, whose answer has to be right; the C library's names are bound before
+  LD_BIND_NOW=1 valgrind -q --tool=callgrind --toggle-collect="trapcard_$1" --callgrind-out-file="$out/dump" "$out/$2" "$3" "$4" &&
     sed -n 's/^totals: *//p' "$out/dump"
 }
 added() { # CALL PROGRAM N: the instructions that a full log adds
