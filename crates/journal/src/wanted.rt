@@ -12,10 +12,7 @@ use cells::ADDRESS;
 use cells::number::read_u32;
 
 // The buckets that they fall into.
-const BUCKETS: usize = 128;
-
-// The most addresses of a list, whose places are numbers of one byte above 0.
-const MOST: usize = 255;
+pub const BUCKETS: usize = 128;
 
 // How many there are.
 pub fn count(list: &[u8]) -> usize
@@ -33,25 +30,26 @@ pub fn wanted(list: &[u8], i: usize) -> u32
 }
 
 // Stays numbers of one byte, 0 for none, in the arrays: fixed memory, and `Chained` states them so.
-// A list of wanted addresses, chained: the last place in each bucket, and before each place the one before it in its bucket, as numbers
-// above 0.
+// A list of wanted addresses, of at most PLACES, chained: the last place in each bucket, and before each place the one before it in its
+// bucket, as numbers above 0.
 #[derive(Drop)]
-pub struct Chains<'a> {
+pub struct Chains<'a, const PLACES: usize> {
     pub list: &'a [u8],
     last: [u8; BUCKETS],
-    before: [u8; MOST],
-    ghost few: { wanted_count list.now ≤ most_chained },
+    before: [u8; PLACES],
+    ghost few: { wanted_count list.now ≤ PLACES },
     ghost chained: { Chained list.now last before (wanted_count list.now) },
 }
 
-impl<'a> Chains<'a> {
-    // Chains a list.
-    pub fn of(list: &'a [u8]) -> Chains<'a>
-        requires { wanted_count list.now ≤ most_chained }
+impl<'a, const PLACES: usize> Chains<'a, PLACES> {
+    // Chains a list, of at most 255: a place is a number of one byte.
+    pub fn of(list: &'a [u8]) -> Chains<'a, PLACES>
+        requires few { wanted_count list.now ≤ PLACES }
+        requires one_byte { wanted_count list.now ≤ most_chained }
         ensures { result.list.now ≡ list.now }
     {
         let mut last = [0; BUCKETS];
-        let mut before = [0; MOST];
+        let mut before = [0; PLACES];
         for i in 0..count(list) {
             let bucket = wanted(list, i) as usize % BUCKETS;
             before[i] = last[bucket];

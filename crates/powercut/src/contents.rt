@@ -5,13 +5,14 @@ ghost use Rattle.store.specs.Get.{get_place, bytes_at};
 ghost use Rattle.powercut.specs.Contents.{of_save, old_age, age_of, photograph, is_either, is_spoilt, number, holds, has_other, letter_of, character};
 ghost use Rattle.powercut.specs.Device.{state};
 
-use crate::device::{BLOCKS, Device};
+use crate::device::{BLOCKS, Device, SETTLED};
 use crate::filling::{Age, byte};
 use crate::finding::Finding;
 use cells::BLOCK;
-use cells::bytes::same;
+use cells::bytes::{copy, same};
 use journal::FIRST_DATA;
 use std::ops::Range;
+use store::record::Record;
 
 // The photograph's block, the last one.
 const PHOTOGRAPH: u32 = BLOCKS - 1;
@@ -48,27 +49,36 @@ fn to_save(device: &mut Device) {
     device.commit();
 }
 
-// A card with so many saves of three blocks each in its log, one behind the other, and in its group the one that is cut.
+// A card with so many saves of three blocks each in its log, one behind the other, and in its group the one that is cut: what each experiment
+// begins with, but for work memory, which none of them writes.
 #[derive(Drop)]
 pub(crate) struct Scenario {
-    pub start: Device,
+    pub rec: Record,
+    pub settled: [u8; SETTLED],
     pub saves: u32,
     ghost few: { saves ≤ 10 },
 }
 
-pub(crate) fn ready(saves: u32) -> Scenario
+// Makes it, on a card of zeros.
+pub(crate) fn ready(device: &mut Device, saves: u32) -> Scenario
     requires { saves ≤ 10 }
     ensures { result.saves ≡ saves }
 {
-    let mut start = Device::formatted();
-    save(&mut start, FIRST_DATA..BLOCKS, Age::Home);
-    start.apply();
+    device.format();
+    save(device, FIRST_DATA..BLOCKS, Age::Home);
+    device.apply();
     for i in 0..saves {
         let first = FIRST_DATA + SAVED * i;
-        save(&mut start, first..first + SAVED, Age::Log);
+        save(device, first..first + SAVED, Age::Log);
     }
-    to_save(&mut start);
-    Scenario { start, saves }
+    to_save(device);
+    let mut scenario = Scenario {
+        rec: device.rec,
+        settled: [0; SETTLED],
+        saves,
+    };
+    copy(&mut scenario.settled, &device.settled);
+    scenario
 }
 
 // The photograph, written directly, so that it waits.

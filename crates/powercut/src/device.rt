@@ -12,8 +12,9 @@ use store::{WAITING, WORK};
 
 pub(crate) const BLOCKS: u32 = 65;
 
-const SETTLED: usize = BLOCK * BLOCKS as usize;
+pub(crate) const SETTLED: usize = BLOCK * BLOCKS as usize;
 
+// Stays one that is lent on: it is 100 KB, and a copy in each function's frame took six times the stack.
 #[derive(Clone, Copy)]
 pub(crate) struct Device {
     pub rec: Record,
@@ -23,19 +24,21 @@ pub(crate) struct Device {
 }
 
 impl Device {
-    // A card of zeros, formatted.
-    pub(crate) fn formatted() -> Device {
-        let mut made = Device {
+    // A card of zeros, to be formatted.
+    pub(crate) fn zeros() -> Device {
+        Device {
             rec: Record::fresh(BLOCKS),
             settled: [0; SETTLED],
             waiting: [0; WAITING],
             work: [0; WORK],
-        };
-        let formatted = made
+        }
+    }
+
+    pub(crate) fn format(&mut self) {
+        let formatted = self
             .rec
-            .format(&mut made.settled, &mut made.waiting, &mut made.work);
-        made.rec = formatted.unwrap_or(made.rec);
-        made
+            .format(&mut self.settled, &mut self.waiting, &mut self.work);
+        self.rec = formatted.unwrap_or(self.rec);
     }
 
     pub(crate) fn put(&mut self, address: u32, block: &[u8]) {

@@ -10,6 +10,7 @@ use crate::contents::{Scenario, photographed};
 use crate::device::Device;
 use crate::{tears, tries};
 use cells::BLOCK;
+use cells::bytes::copy;
 use journal::PLACES;
 
 // The orders that happen before it, and the number of the try of its cut.
@@ -22,13 +23,13 @@ pub(crate) struct Loss {
 // The power that suffices for any recovery.
 pub(crate) const ENOUGH: u32 = 2;
 
-// The photograph, then the save with power for so many orders.
-pub(crate) fn saved(scenario: &Scenario, orders: u32) -> Device {
-    let mut device = scenario.start;
-    photographed(&mut device);
+// A scenario's start: the photograph, then the save with power for so many orders.
+pub(crate) fn save(device: &mut Device, scenario: &Scenario, orders: u32) {
+    device.rec = scenario.rec;
+    copy(&mut device.settled, &scenario.settled);
+    photographed(device);
     device.power(orders);
     device.sync();
-    device
 }
 
 // The cut of a try. A card with more waiting writes than there are places stays as it is.
@@ -54,15 +55,13 @@ fn boot(device: &mut Device, attempt: u32, orders: u32) {
 }
 
 // The save lost, then a recovery with power for so many orders.
-pub(crate) fn recovered(scenario: &Scenario, loss: Loss, orders: u32) -> Device {
-    let mut device = saved(scenario, loss.orders);
-    boot(&mut device, loss.attempt, orders);
-    device
+pub(crate) fn recover(device: &mut Device, scenario: &Scenario, loss: Loss, orders: u32) {
+    save(device, scenario, loss.orders);
+    boot(device, loss.attempt, orders);
 }
 
 // The save lost, the recovery lost, then a recovery with all its power.
-pub(crate) fn recovered_again(scenario: &Scenario, loss: Loss, again: Loss) -> Device {
-    let mut device = recovered(scenario, loss, again.orders);
-    boot(&mut device, again.attempt, ENOUGH);
-    device
+pub(crate) fn recover_again(device: &mut Device, scenario: &Scenario, loss: Loss, again: Loss) {
+    recover(device, scenario, loss, again.orders);
+    boot(device, again.attempt, ENOUGH);
 }

@@ -7,7 +7,7 @@ ghost use Rattle.powercut.specs.Tries.{try_count};
 use crate::contents::{Scenario, letter, ready};
 use crate::device::Device;
 use crate::finding::Finding;
-use crate::loss::{ENOUGH, Loss, recovered, recovered_again, saved};
+use crate::loss::{ENOUGH, Loss, recover, recover_again, save};
 use crate::{tears, tries};
 use journal::PLACES;
 use std::io;
@@ -29,39 +29,59 @@ fn both(one: Finding, other: Finding) -> Finding {
 }
 
 // The recovery with power for so many orders, lost with every try of its cut.
-fn with_tries(scenario: &Scenario, loss: Loss, orders: u32, before: Finding) -> Finding {
+fn with_tries(
+    device: &mut Device,
+    scenario: &Scenario,
+    loss: Loss,
+    orders: u32,
+    before: Finding,
+) -> Finding {
+    recover(device, scenario, loss, orders);
     let mut found = before;
-    for attempt in 0..tries_of(&recovered(scenario, loss, orders)) {
-        let last = recovered_again(scenario, loss, Loss { orders, attempt });
-        found = both(found, letter(&last, scenario.saves));
+    for attempt in 0..tries_of(device) {
+        recover_again(device, scenario, loss, Loss { orders, attempt });
+        found = both(found, letter(device, scenario.saves));
     }
     found
 }
 
 // What is found behind a loss: by a recovery with all its power, and by the one behind every cut inside it.
-fn found(scenario: &Scenario, loss: Loss) -> Finding {
-    let mut found = letter(&recovered(scenario, loss, ENOUGH), scenario.saves);
+fn found(device: &mut Device, scenario: &Scenario, loss: Loss) -> Finding {
+    recover(device, scenario, loss, ENOUGH);
+    let mut found = letter(device, scenario.saves);
     for orders in 0..=ENOUGH {
-        found = with_tries(scenario, loss, orders, found);
+        found = with_tries(device, scenario, loss, orders, found);
     }
     found
 }
 
 // The characters of a line, and whether there is no `?`.
-fn characters(rt: &impl Print, scenario: &Scenario, orders: u32) -> io::Result<bool> {
+fn characters(
+    rt: &impl Print,
+    device: &mut Device,
+    scenario: &Scenario,
+    orders: u32,
+) -> io::Result<bool> {
+    save(device, scenario, orders);
     let mut whole = true;
-    for attempt in 0..tries_of(&saved(scenario, orders)) {
-        let found = found(scenario, Loss { orders, attempt });
+    for attempt in 0..tries_of(device) {
+        let found = found(device, scenario, Loss { orders, attempt });
         rt.write_all(&[found.character()])?;
         whole = whole && found != Finding::Other;
     }
     Ok(whole)
 }
 
-fn line(rt: &impl Print, name: &[u8], scenario: &Scenario, orders: u32) -> io::Result<bool> {
+fn line(
+    rt: &impl Print,
+    name: &[u8],
+    device: &mut Device,
+    scenario: &Scenario,
+    orders: u32,
+) -> io::Result<bool> {
     rt.write_all(name)?;
     print!(rt; " {orders} ")?;
-    let whole = characters(rt, scenario, orders)?;
+    let whole = characters(rt, device, scenario, orders)?;
     rt.write_all(b"\n")?;
     Ok(whole)
 }
@@ -70,10 +90,11 @@ fn line(rt: &impl Print, name: &[u8], scenario: &Scenario, orders: u32) -> io::R
 pub(crate) fn map(rt: &impl Print, name: &[u8], saves: u32, most: u32) -> io::Result<bool>
     requires { (saves ≤ 10) × (most ≤ 39) }
 {
-    let scenario = ready(saves);
+    let mut device = Device::zeros();
+    let scenario = ready(&mut device, saves);
     let mut whole = true;
     for orders in 0..=most {
-        let more = line(rt, name, &scenario, orders)?;
+        let more = line(rt, name, &mut device, &scenario, orders)?;
         whole = whole && more;
     }
     Ok(whole)

@@ -1,21 +1,45 @@
 -- Commit: what joining the first open entries leaves, and that it has room.
 use Rattle.std.specs.Prelude.{Option, Some, None}
-use Prim.Native.Nat.{ℕ, zero, suc, ◌+◌, ◌≤◌, ◌<◌}
+use Prim.Native.Nat.{ℕ, zero, suc, ◌+◌, ◌*◌, ◌≤◌, ◌<◌}
 use mathlib.Core.Path.{◌≡◌, refl, ap, sym, ◌∙◌}
 use mathlib.Core.Bool.{cond, true≢false}
-use mathlib.Core.List.{List}
+use mathlib.Core.List.{List, [], ◌∷◌, ◌++◌}
 use native.Mathlib.Decide.{ℕ_discrete}
 use native.Mathlib.Numerals.{add-one}
 use native.Mathlib.Omega.{arith}
-use lib.ListN.{length}
-use Rattle.cells.specs.Little.{Bytes}
-use Rattle.cells.specs.Entry.{Entry, set_entry}
+use lib.Dec.{lit<}
+use lib.ListN.{length, take, drop, take-append-drop}
+use lib.Seq.{length-take-le}
+use Rattle.cells.specs.Cell.{cell}
+use Rattle.cells.specs.Cell.Laws.{length-cell, bytes_take}
+use Rattle.cells.specs.Little.{le, num, Bytes}
+use Rattle.cells.specs.Little.Laws.{le-num}
+use Rattle.cells.specs.Entry.{Entry, entry_bytes, to_bytes, entry_at, set_entry}
 use Rattle.cells.specs.Entry.Laws.{length-set_entry, entry_same, entry_other, length_block, address_lt}
 use Rattle.journal.specs.Geometry.{Geometry}
 use Rattle.store.specs.Lists.{open_from, group_from, listed, find}
 use Rattle.store.specs.Causes.{work_bytes, is_found, newcomers}
 use Rattle.store.specs.Commit.{Group, join_at, join, joined}
 use Rattle.store.proofs.Lookups.{find_at, find-some}
+
+-- ---- an entry copied
+
+-- a part of a run of bytes is one
+pub middle_bytes : (x v z : List ℕ) → Bytes (x ++ (v ++ z)) → Bytes v
+middle_bytes [] [] z b j = lit< tt
+middle_bytes [] (y ∷ v) z b zero = b zero
+middle_bytes [] (y ∷ v) z b (suc j) = middle_bytes [] v z (λ i. b (suc i)) j
+middle_bytes (y ∷ x) v z b j = middle_bytes x v z (λ i. b (suc i)) j
+
+-- the bytes of an entry that was read are its cell
+pub entry_cell : (s : List ℕ) (i : ℕ) → Bytes (cell entry_bytes s i) → entry_bytes * i + entry_bytes ≤ length s → to_bytes (entry_at s i) ≡ cell entry_bytes s i
+unfolding entry_at to_bytes
+entry_cell s i b h =
+    let c : List ℕ = cell entry_bytes s i in
+    let size : length c ≡ entry_bytes = length-cell entry_bytes s i h in
+    let four : length (take 4 c) ≡ 4 = length-take-le 4 c (omega arith) in
+    let low : le 4 (num (take 4 c)) ≡ take 4 c = ap (λ (k : ℕ). le k (num (take 4 c))) (sym four) ∙ le-num (take 4 c) (bytes_take 4 c b) in
+    ap (λ (l : List ℕ). l ++ drop 4 c) low ∙ take-append-drop 4 c
 
 -- ---- newcomers
 

@@ -26,7 +26,7 @@ use journal::wanted::{Chains, count, wanted};
 use refusals::Refusal;
 
 // The most addresses of a list.
-const MOST_WANTED: usize = 32;
+pub(crate) const MOST_WANTED: usize = 32;
 
 // Row 1: a list that is no list of addresses, of too many, or a buffer that is not 512 bytes for each.
 fn wrong_list(list: &[u8], blocks: &[u8]) -> bool
@@ -143,7 +143,7 @@ impl Record {
     fn look_work(
         self,
         work: &[u8],
-        chains: &Chains,
+        chains: &Chains<MOST_WANTED>,
         opened: &mut [Option<u32>],
         grouped: &mut [Option<u32>],
     )
@@ -167,7 +167,7 @@ impl Record {
         ensures out_after { out.new ≡ newest_blocks trap list.now (state_of self settled.now waiting.now work.now) }
         ensures value { result ≡ length (walked settled.now self.logged) }
     {
-        let chains = Chains::of(list);
+        let chains = Chains::<MOST_WANTED>::of(list);
         let mut logged = [None; MOST_WANTED];
         let slots = chains.walk(settled, self.logged, &mut logged);
         let mut waited = [None; MOST_WANTED];

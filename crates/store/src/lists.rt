@@ -9,8 +9,9 @@ ghost use Rattle.store.specs.Lists.{listed, addresses_of};
 ghost use Rattle.store.specs.Causes.{is_found};
 ghost use Rattle.store.specs.Get.{listed_place};
 
+use crate::get_list::MOST_WANTED;
 use cells::bytes::copy;
-use cells::{ADDRESS, BLOCK, ENTRY, entry};
+use cells::{ADDRESS, ENTRY, entry};
 use journal::SLOTS;
 use journal::wanted::Chains;
 
@@ -56,7 +57,13 @@ pub(crate) fn holds(work: &[u8], from: usize, n: u32, a: u32) -> bool
 
 // Stays beside `Chains::walk`: one loop of a line each, and what is read, as a closure, would need a clause of its own in both.
 // Looks for wanted addresses among its first n, as the walk of the descriptor does in the log.
-pub(crate) fn look(work: &[u8], from: usize, n: u32, chains: &Chains, met: &mut [Option<u32>])
+pub(crate) fn look(
+    work: &[u8],
+    from: usize,
+    n: u32,
+    chains: &Chains<MOST_WANTED>,
+    met: &mut [Option<u32>],
+)
     requires n_in_bounds { entry_bytes * (from + n) ≤ length work.now }
     requires met_in_bounds { wanted_count chains.now.list.now ≤ length met.old }
     requires met { Met chains.now.list.now [] met.old }
@@ -67,14 +74,16 @@ pub(crate) fn look(work: &[u8], from: usize, n: u32, chains: &Chains, met: &mut 
     }
 }
 
-// Copies one entry of work memory over another.
+// Copies one entry of work memory over another, by way of a copy of its own: the two copies have nothing between them, so that the compiler
+// makes them one.
 pub(crate) fn copy_entry(work: &mut [u8], from: usize, to: usize)
     requires entry_bytes_in_bounds { entry_bytes * from + entry_bytes ≤ length work.old }
     requires entry_bytes_in_bounds_2 { entry_bytes * to + entry_bytes ≤ length work.old }
     ensures { work.new ≡ set_entry work.old to (entry_at work.old from) }
 {
-    let mut block = [0u8; BLOCK];
-    copy(&mut block, entry::block(work, from));
-    let a = entry::address(work, from);
-    entry::set(work, to, a, &block);
+    let mut bytes = [0u8; ENTRY];
+    let at = ENTRY * from;
+    copy(&mut bytes, &work[at..at + ENTRY]);
+    let over = ENTRY * to;
+    copy(&mut work[over..over + ENTRY], &bytes);
 }

@@ -9,10 +9,10 @@ use Rattle.journal.proofs.wanted.Chains.mark.Goals.{then-a-wanted, else-a-wanted
 use Rattle.journal.proofs.wanted.Chains.mark.Goals as goal
 
 pub loop-i-init : goal.loop-i-init
-loop-i-init c = let a = c.args in let s = a.self.now in compared-last s.list.now s.last s.before a.a a.k a.met.now s.chained _ refl
+loop-i-init g c = let a = c.args in let s = a.self.now in compared-last s.list.now s.last s.before a.a a.k a.met.now s.chained _ refl
 
 pub loop-i-preserved : goal.loop-i-preserved
-loop-i-preserved c =
+loop-i-preserved g c =
     let a = c.args in
     let s = a.self.now in
     let l = c.loop-i in
@@ -25,7 +25,7 @@ loop-i-preserved c =
     ]
 
 pub loop-i-smaller : goal.loop-i-smaller
-loop-i-smaller c =
+loop-i-smaller g c =
     let a = c.args in
     let s = a.self.now in
     let l = c.loop-i in
@@ -33,7 +33,7 @@ loop-i-smaller c =
     omega arith
 
 pub returns : goal.returns
-returns c =
+returns g c =
     let a = c.args in
     let s = a.self.now in
     let q = c.loop-i.invariant in

@@ -3,7 +3,7 @@ use Rattle.journal.proofs.Chains.{Compared}
 use Rattle.journal.proofs.wanted.Chains.mark.Given as goal
 
 abbrev pub invariant-loop-i : goal.invariant-loop-i
-invariant-loop-i l = Compared l.self.list.now l.a l.k l.initial.met l.met l.i
+invariant-loop-i g l = Compared l.self.list.now l.a l.k l.initial.met l.met l.i
 
 abbrev pub decreases-loop-i : goal.decreases-loop-i
-decreases-loop-i l = l.i
+decreases-loop-i g l = l.i

@@ -6,7 +6,7 @@ use Rattle.journal.specs.Wanted.{walked}
 use Rattle.journal.proofs.wanted.Chains.walk.Goals as goal
 
 pub loop-k-preserved : goal.loop-k-preserved
-loop-k-preserved c =
+loop-k-preserved g c =
     let s = c.args.settled.now in
     let l = c.loop-k in
     let size : length (walked s l.k) ≡ l.k = length-up_to (slot_address s) l.k in
@@ -14,4 +14,4 @@ loop-k-preserved c =
     rw (add-one, ← next) (c.mark.ensures (walked s l.k) size l.invariant)
 
 pub returns-clause-value : goal.returns-clause-value
-returns-clause-value c = sym (length-up_to (slot_address c.args.settled.now) c.args.n)
+returns-clause-value g c = sym (length-up_to (slot_address c.args.settled.now) c.args.n)
