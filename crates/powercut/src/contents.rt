@@ -9,7 +9,7 @@ use crate::device::{BLOCKS, Device, SETTLED};
 use crate::filling::{Age, byte};
 use crate::finding::Finding;
 use cells::BLOCK;
-use cells::bytes::{copy, same};
+use cells::bytes::same;
 use journal::FIRST_DATA;
 use std::ops::Range;
 use store::record::Record;
@@ -49,20 +49,9 @@ fn to_save(device: &mut Device) {
     device.commit();
 }
 
-// A card with so many saves of three blocks each in its log, one behind the other, and in its group the one that is cut: what each experiment
-// begins with, but for work memory, which none of them writes.
-#[derive(Drop)]
-pub(crate) struct Scenario {
-    pub rec: Record,
-    pub settled: [u8; SETTLED],
-    pub saves: u32,
-    ghost few: { saves ≤ 10 },
-}
-
-// Makes it, on a card of zeros.
-pub(crate) fn ready(device: &mut Device, saves: u32) -> Scenario
+// Makes a card with so many saves of three blocks each in its log, one behind the other, and in its group the one that is cut.
+pub(crate) fn prepare(device: &mut Device, saves: u32)
     requires { saves ≤ 10 }
-    ensures { result.saves ≡ saves }
 {
     device.format();
     save(device, FIRST_DATA..BLOCKS, Age::Home);
@@ -72,13 +61,26 @@ pub(crate) fn ready(device: &mut Device, saves: u32) -> Scenario
         save(device, first..first + SAVED, Age::Log);
     }
     to_save(device);
-    let mut scenario = Scenario {
-        rec: device.rec,
-        settled: [0; SETTLED],
+}
+
+// Such a card, as each experiment begins with it, but for work memory, which none of them writes.
+#[derive(Drop)]
+pub(crate) struct Scenario<'a> {
+    pub rec: Record,
+    pub settled: &'a [u8; SETTLED],
+    pub saves: u32,
+    ghost few: { saves ≤ 10 },
+}
+
+pub(crate) fn ready<'a>(rec: Record, settled: &'a [u8; SETTLED], saves: u32) -> Scenario<'a>
+    requires { saves ≤ 10 }
+    ensures { result.saves ≡ saves }
+{
+    Scenario {
+        rec,
+        settled,
         saves,
-    };
-    copy(&mut scenario.settled, &device.settled);
-    scenario
+    }
 }
 
 // The photograph, written directly, so that it waits.

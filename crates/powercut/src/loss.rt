@@ -26,7 +26,8 @@ pub(crate) const ENOUGH: u32 = 2;
 // A scenario's start: the photograph, then the save with power for so many orders.
 pub(crate) fn save(device: &mut Device, scenario: &Scenario, orders: u32) {
     device.rec = scenario.rec;
-    copy(&mut device.settled, &scenario.settled);
+    let settled = scenario.settled;
+    copy(&mut device.settled, settled);
     photographed(device);
     device.power(orders);
     device.sync();

@@ -4,7 +4,7 @@ ghost use Rattle.journal.specs.Geometry.{trap};
 ghost use Rattle.powercut.specs.Tears.{tearable};
 ghost use Rattle.powercut.specs.Tries.{try_count};
 
-use crate::contents::{Scenario, letter, ready};
+use crate::contents::{Scenario, letter, prepare, ready};
 use crate::device::Device;
 use crate::finding::Finding;
 use crate::loss::{ENOUGH, Loss, recover, recover_again, save};
@@ -91,7 +91,9 @@ pub(crate) fn map(rt: &impl Print, name: &[u8], saves: u32, most: u32) -> io::Re
     requires { (saves ≤ 10) × (most ≤ 39) }
 {
     let mut device = Device::zeros();
-    let scenario = ready(&mut device, saves);
+    prepare(&mut device, saves);
+    let start = device.settled;
+    let scenario = ready(device.rec, &start, saves);
     let mut whole = true;
     for orders in 0..=most {
         let more = line(rt, name, &mut device, &scenario, orders)?;
