@@ -63,7 +63,7 @@ pub(crate) fn prepare(device: &mut Device, saves: u32)
     to_save(device);
 }
 
-// Such a card, as each experiment begins with it, but for work memory, which none of them writes.
+// Such a card, as each experiment begins with it: the record and the settled bytes. Work memory none of them writes, and nothing waits.
 #[derive(Drop)]
 pub(crate) struct Scenario<'a> {
     pub rec: Record,
