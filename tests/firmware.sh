@@ -28,7 +28,7 @@ echo "firmware: the examples saved whole, blocks and a photograph with its index
 
 largest=$(bash tests/frames.sh "$archive")
 echo "firmware: the largest stack frame has $largest bytes"
-((largest <= 2048))
+((largest <= 1536))
 
 sum=$(objdump -d --disassemble=fnv::sum_from "$archive")
 grep -q 'ret' <<<"$sum"
